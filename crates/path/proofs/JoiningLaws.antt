@@ -1,0 +1,143 @@
+-- Appending a name: where it starts, the bytes written, and the questions in their order. Assumes nothing.
+use mathlib.Core.Path.{_≡_, refl, sym, ap, _∙_}
+use mathlib.Core.Bool.{Bool, true, false, not, _||_, _&&_, cond, false≢true}
+use mathlib.Core.List.{List, [], _∷_, _++_, append-assoc, append-nil}
+use Prim.Native.Nat.{ℕ, suc, _+_, _-_, _≤_, _<_}
+use native.Mathlib.Nat.{add-zero, add-assoc, zero-add}
+use native.Mathlib.Omega.{arith}
+use borrow.Author.Tests.{leb-true, ltb-true, lt-ltb, le-ltb, eq-eqb, ne-eqb}
+use borrow.Rule.Slice.PartMut.{putMid}
+use lib.Dec.{eqb, leb, ltb}
+use lib.ListN.{length, take, drop, set, length-append, length-drop, drop-of-length-le}
+use lib.Seq.{take-all, take-length, drop-cons, drop-drop, set-append-seam, take-append-add, drop-append-add, drop-set-lt}
+use Rattle.model.specs.declared.Refusal.the-variants.{Size, Path, Capacity}
+use Rattle.model.specs.declared.Appended.the-variants.{Length, Refused}
+use Rattle.model.specs.Path.{solidus, closeBrace, endsIn, mayEnd, run, start, wellFormed, nameStart, lastName, endsInName, separator, appendName, appendChildName}
+
+-- ---- The byte between a path and a name
+
+module _ (p : List ℕ) where
+  pub joined-slash : endsIn solidus p (length p) ≡ true → length p ≡ length p + length (separator p)
+  unfolding separator
+  joined-slash e = rw e (omega arith)
+
+  pub joined-brace : endsIn solidus p (length p) ≡ false → endsIn closeBrace p (length p) ≡ true
+      → length p ≡ length p + length (separator p)
+  unfolding separator
+  joined-brace d e = rw (d, e) (omega arith)
+
+  pub joined-between : endsIn solidus p (length p) ≡ false → endsIn closeBrace p (length p) ≡ false
+      → length p + 1 ≡ length p + length (separator p)
+  unfolding separator
+  joined-between d e = rw (d, e)
+
+pub length-append-name : (p w : List ℕ) → length (appendName p w) ≡ length p + length (separator p) + length w
+unfolding appendName
+length-append-name p w = omega (arith, length-append p (separator p ++ w), length-append (separator p) w)
+
+-- ---- The bytes
+
+-- what a part written from `at` on makes of the whole
+pub put-part : (at : ℕ) (o src : List ℕ) → at + length src ≤ length o
+    → putMid at (length o - at) o (take (length src) src ++ drop (length src) (take (length o - at) (drop at o)))
+    ≡ take at o ++ (src ++ drop (at + length src) o)
+put-part at o src h =
+    let whole : length (drop at o) ≤ length o - at = omega (arith, length-drop at o) in
+    rw (
+      take-length src,
+      take-all (length o - at) (drop at o) whole,
+      drop-of-length-le (drop at o) whole,
+      append-nil (src ++ drop (length src) (drop at o)),
+      drop-drop (length src) at o,
+    )
+
+put-slash : (p o : List ℕ) → length p < length o → set (p ++ drop (length p) o) (length p) solidus ≡ p ++ (solidus ∷ drop (suc (length p)) o)
+put-slash p o h =
+    ap (λ (l : List ℕ). set (p ++ l) (length p) solidus) (drop-cons o (length p) 0 h) ∙ set-append-seam p _ (drop (suc (length p)) o) solidus
+
+front-separator : (p r : List ℕ) → take (length (separator p)) (solidus ∷ r) ≡ separator p
+unfolding separator
+front-separator p r = go (endsIn solidus p (length p) || endsIn closeBrace p (length p))
+  where
+    go : (t : Bool) → take (length (cond t [] (solidus ∷ []))) (solidus ∷ r) ≡ cond t [] (solidus ∷ [])
+    go true = refl
+    go false = refl
+
+-- the path, a slash behind it, and the name over the slash or behind it
+pub put-name : (p w o : List ℕ) (at : ℕ) → at ≡ length p + length (separator p) → 0 < length w → at + length w ≤ length o
+    → take at (set (p ++ drop (length p) o) (length p) solidus)
+    ++ (w ++ drop (at + length w) (set (p ++ drop (length p) o) (length p) solidus))
+    ≡ appendName p w ++ drop (at + length w) o
+unfolding appendName
+put-name p w o at e h l =
+    let n = length p in
+    let before = p ++ drop n o in
+    let rest = drop (suc n) o in
+    let short : n < length o = omega arith in
+    let past : n < at + length w = omega arith in
+    let j = at + length w - n in
+    let m : at + length w ≡ n + j = omega arith in
+    let front : take at (set before n solidus) ≡ p ++ separator p =
+    ap (take at) (put-slash p o short) ∙ ap (λ (i : ℕ). take i (p ++ (solidus ∷ rest))) e
+    ∙ take-append-add p (solidus ∷ rest) (length (separator p)) ∙ ap (λ (r : List ℕ). p ++ r) (front-separator p rest) in
+    let back : drop (at + length w) (set before n solidus) ≡ drop (at + length w) o =
+    drop-set-lt (at + length w) before n solidus past ∙ ap (λ (i : ℕ). drop i before) m
+    ∙ drop-append-add p (drop n o) j ∙ drop-drop j n o ∙ ap (λ (i : ℕ). drop i o) (sym m) in
+    rw (front, back) (simp append-assoc)
+
+-- ---- The questions
+
+abbrev pub joinable : List ℕ → List ℕ → Bool
+joinable p child = wellFormed p && (wellFormed child && endsInName child)
+
+both : (a b : Bool) → (a && b) ≡ true → (a ≡ true) × (b ≡ true)
+both true b e = (refl, e)
+both false b e = absurd (false≢true e)
+
+within-limit : (p : List ℕ) → wellFormed p ≡ true → length p ≤ 255
+unfolding wellFormed
+within-limit p e = leb-true (length p) 255 (both (mayEnd (run start p)) (leb (length p) 255) e .1)
+
+separator-short : (p : List ℕ) → length (separator p) ≤ 1
+unfolding separator
+separator-short p = go (endsIn solidus p (length p) || endsIn closeBrace p (length p))
+  where
+    go : (t : Bool) → length (cond t [] (solidus ∷ [])) ≤ 1
+    go true = omega arith
+    go false = omega arith
+
+last-name-short : (p : List ℕ) → length (lastName p) ≤ length p
+unfolding lastName
+last-name-short p = omega (arith, length-drop (nameStart p (length p)) p)
+
+-- what can be joined has a name, and the sum of the lengths fits
+pub joinable-named : (p child : List ℕ) → joinable p child ≡ true → 0 < length (lastName child)
+unfolding endsInName
+joinable-named p child e =
+    ltb-true 0 (length (lastName child))
+    (both (wellFormed child) (endsInName child) (both (wellFormed p) (wellFormed child && endsInName child) e .1) .1)
+
+pub joinable-short : (p child : List ℕ) → joinable p child ≡ true → length p + length (separator p) + length (lastName child) ≤ 511
+joinable-short p child e =
+    let l = both (wellFormed p) (wellFormed child && endsInName child) e in
+    let r = both (wellFormed child) (endsInName child) (l .1) in
+    omega (arith, within-limit p (l .0), within-limit child (r .0), separator-short p, last-name-short child)
+
+module _ (p child o : List ℕ) where
+  pub refused-size : (length o ≡ 255 → ⊥) → Refused Size ≡ appendChildName p child o
+  unfolding appendChildName
+  refused-size d = rw (ne-eqb (length o) 255 d)
+
+  pub refused-path : length o ≡ 255 → joinable p child ≡ false → Refused Path ≡ appendChildName p child o
+  unfolding appendChildName
+  refused-path e f = rw (eq-eqb (length o) 255 e, f)
+
+  pub refused-capacity : length o ≡ 255 → joinable p child ≡ true → 255 < length (appendName p (lastName child))
+      → Refused Capacity ≡ appendChildName p child o
+  unfolding appendChildName
+  refused-capacity e f h = rw (eq-eqb (length o) 255 e, f, lt-ltb 255 (length (appendName p (lastName child))) h)
+
+  pub accepted : length o ≡ 255 → joinable p child ≡ true → length (appendName p (lastName child)) ≤ 255
+      → Length (length (appendName p (lastName child))) ≡ appendChildName p child o
+  unfolding appendChildName
+  accepted e f h = rw (eq-eqb (length o) 255 e, f, le-ltb 255 (length (appendName p (lastName child))) h)

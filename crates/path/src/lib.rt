@@ -1,0 +1,97 @@
+// Paths on lent bytes: whether they are well formed, their prim count, parent, last name and introduction path, equality, and appending a
+// child's name. No public function has a `requires`: on bytes that are no path each answers what its definition gives for them. Only
+// `append_child_name` copies; every other path handed back is a part of the caller's. The definitions are in model/specs/Path.antt.
+mod backward;
+mod forward;
+mod joining;
+
+use model::Appended;
+use model::PrimCount;
+use model::Refusal;
+ghost use mathlib.Core.Path.{_≡_};
+ghost use Prim.Native.Nat.{ℕ, _<_, _≤_};
+ghost use Rattle.model.specs.Path.{wellFormed, countPrims, parent, lastName, appendChildName, written, pathAtIntroDepth, samePath};
+
+// How many names the path has, or that the bytes are no path.
+pub fn prim_count(path: &[u8]) -> PrimCount
+    ensures { λ r. ⌜ r ≡ countPrims (now (path .entry)) ⌝ }
+{
+    if 255 < path.len() {
+        return PrimCount::Malformed;
+    }
+    forward::read_path(path)
+}
+
+// Whether the bytes are a path (question 5).
+pub fn is_well_formed(path: &[u8]) -> bool
+    ensures { λ r. ⌜ r ≡ wellFormed (now (path .entry)) ⌝ }
+{
+    let count = prim_count(path);
+    match count {
+        PrimCount::Names(_) => true,
+        PrimCount::Malformed => false,
+    }
+}
+
+// The parent, as a front part of the path: no bytes where there is none.
+pub fn parent(path: &[u8]) -> &[u8]
+    ensures { λ r. ⌜ now r ≡ parent (now (path .entry)) ⌝ }
+{
+    let end = backward::parent_length(path);
+    &path[..end]
+}
+
+// The name that ends the path: no bytes where it ends in a selection or is `/`.
+pub fn last_name(path: &[u8]) -> &[u8]
+    ensures { λ r. ⌜ now r ≡ lastName (now (path .entry)) ⌝ }
+{
+    let start = backward::name_start(path, path.len());
+    &path[start..]
+}
+
+// The front part of the path as it was `depth` names ago, selections included; `/` where it had fewer.
+pub fn path_at_intro_depth(path: &[u8], depth: u16) -> &[u8]
+    ensures { λ r. ⌜ now r ≡ pathAtIntroDepth depth (now (path .entry)) ⌝ }
+{
+    let end = backward::intro_length(path, depth);
+    &path[..end]
+}
+
+// Whether two paths are the same bytes.
+pub fn same_path(a: &[u8], b: &[u8]) -> bool
+    ensures { λ r. ⌜ r ≡ samePath (now (a .entry)) (now (b .entry)) ⌝ }
+{
+    if a.len() != b.len() {
+        return false;
+    }
+    let mut i: usize = 0;
+    while i < a.len() {
+        if a[i] != b[i] {
+            return false;
+        }
+        i += 1;
+    }
+    true
+}
+
+// Writes the path with the child's last name appended to the front of `out` and answers its length. Refused 1 unless `out` has 255 bytes, 5
+// where either is no path or the child's ends in no name, 7 where the new path passes 255 bytes; a refusal leaves `out` as it was.
+pub fn append_child_name(path: &[u8], child: &[u8], out: &mut [u8]) -> Appended
+    ensures { λ r. ⌜ r ≡ appendChildName (now (path .entry)) (now (child .entry)) (now (out .entry)) ⌝ }
+    ensures { λ r. ⌜ now (out .exit) ≡ written r (now (path .entry)) (now (child .entry)) (now (out .entry)) ⌝ }
+{
+    if out.len() != 255 {
+        return Appended::Refused(Refusal::Size);
+    }
+    if !joining::can_join(path, child) {
+        return Appended::Refused(Refusal::Path);
+    }
+    let name = last_name(child);
+    let at = joining::joint(path);
+    let end = at + name.len();
+    if 255 < end {
+        return Appended::Refused(Refusal::Capacity);
+    }
+    joining::put_joined(path, name, at, out);
+    Appended::Length(end)
+}
