@@ -1,0 +1,92 @@
+-- `calls::answer_blocks` is safe and ends. The invariant of its loop: the three buffers keep their lengths.
+-- The measure is the number of turns that are left. Assumes nothing.
+use mathlib.Core.Path.{_≡_}
+use borrow.Author.Needs.{needs}
+use lib.ListN.{length}
+use Rattle.calls.proofs.answer_blocks.Statement.{statement}
+use Rattle.calls.proofs.answer_blocks.Tie as tie
+
+abbrev Inv-loop : tie.InvT-loop
+Inv-loop block₀ line₀ out₀ held₀ turns₀ block line out held turns = (length block ≡ length block₀) × (length line ≡ length line₀) × (length out ≡ length out₀)
+
+abbrev μ-loop : tie.MeasureT-loop
+μ-loop block₀ line₀ out₀ held₀ turns₀ block line out held turns = turns
+
+loop-holds : tie.Need-loop-holds Inv-loop μ-loop
+loop-holds c = search needs
+
+read-requires : tie.Need-read-requires Inv-loop μ-loop
+read-requires c κs = search needs
+
+count-requires : tie.Need-count-requires Inv-loop μ-loop
+count-requires c κs = search needs
+
+same-length : tie.Need-same-length Inv-loop μ-loop
+same-length c = search needs
+
+same-length-2 : tie.Need-same-length-2 Inv-loop μ-loop
+same-length-2 c = search needs
+
+same-length-3 : tie.Need-same-length-3 Inv-loop μ-loop
+same-length-3 c = search needs
+
+returns : tie.Need-returns Inv-loop μ-loop
+returns c = search needs
+
+sub-answer-block : tie.Need-sub-answer-block Inv-loop μ-loop
+sub-answer-block c = search needs
+
+part-answer-block-start : tie.Need-part-answer-block-start Inv-loop μ-loop
+part-answer-block-start c = search needs
+
+part-answer-block-end : tie.Need-part-answer-block-end Inv-loop μ-loop
+part-answer-block-end c = search needs
+
+answer-block-requires : tie.Need-answer-block-requires Inv-loop μ-loop
+answer-block-requires c κs = search needs
+
+sub-turns : tie.Need-sub-turns Inv-loop μ-loop
+sub-turns c = search needs
+
+loop-less : tie.Need-loop-less Inv-loop μ-loop
+loop-less c = search needs
+
+loop-again : tie.Need-loop-again Inv-loop μ-loop
+loop-again c = search needs
+
+same-length-4 : tie.Need-same-length-4 Inv-loop μ-loop
+same-length-4 c = search needs
+
+same-length-5 : tie.Need-same-length-5 Inv-loop μ-loop
+same-length-5 c = search needs
+
+same-length-6 : tie.Need-same-length-6 Inv-loop μ-loop
+same-length-6 c = search needs
+
+returns-2 : tie.Need-returns-2 Inv-loop μ-loop
+returns-2 c = search needs
+
+pub answer-blocks-spec : {M : Type 1} → statement M
+answer-blocks-spec =
+    tie.close
+    (tie.spec
+    Inv-loop
+    μ-loop
+    loop-holds
+    read-requires
+    count-requires
+    same-length
+    same-length-2
+    same-length-3
+    returns
+    sub-answer-block
+    part-answer-block-start
+    part-answer-block-end
+    answer-block-requires
+    sub-turns
+    loop-less
+    loop-again
+    same-length-4
+    same-length-5
+    same-length-6
+    returns-2)

@@ -1,0 +1,99 @@
+// The answers: one function for each kind of line, handed a line that has its name and its number of words. Each puts its answer, without a
+// newline, after the first `used` bytes of `out`, and answers how many are then used.
+use crate::text::put;
+use crate::text::put_number;
+use crate::words::ShortNumber;
+use crate::words::is_call;
+use crate::words::read_short_number;
+use crate::words::word;
+use model::Appended;
+use model::PrimCount;
+use model::Refusal;
+
+// The answer to any line: none to an empty one. A further kind of line is a row here. What the check of this function takes grows with the
+// square of its rows: past six, the last row is the next function of rows.
+pub(crate) fn answer(line: &[u8], out: &mut [u8], used: usize) -> usize {
+    if line.len() == 0 {
+        return used;
+    }
+    if is_call(line, b"path", 2) {
+        return path_line(line, out, used);
+    }
+    if is_call(line, b"back", 3) {
+        return back_line(line, out, used);
+    }
+    if is_call(line, b"join", 3) {
+        return join_line(line, out, used);
+    }
+    bad_line(out, used)
+}
+
+// The answer to a line that names no call.
+pub(crate) fn bad_line(out: &mut [u8], used: usize) -> usize {
+    put(out, used, b"bad line")
+}
+
+// The answer to a call that was refused.
+fn put_refusal(out: &mut [u8], used: usize, refusal: Refusal) -> usize {
+    let next = put(out, used, b"refused ");
+    put_number(out, next, refusal.number() as u64)
+}
+
+// A space, and then the bytes, or `-` where there are none.
+fn put_next(out: &mut [u8], used: usize, bytes: &[u8]) -> usize {
+    let next = put(out, used, b" ");
+    if bytes.len() == 0 {
+        return put(out, next, b"-");
+    }
+    put(out, next, bytes)
+}
+
+// `path PATH`: the prim count, the parent and the last name.
+fn path_line(line: &[u8], out: &mut [u8], used: usize) -> usize {
+    let path = word(line, 1);
+    let count = path::prim_count(path);
+    match count {
+        PrimCount::Names(names) => put_path(out, used, path, names),
+        PrimCount::Malformed => put_refusal(out, used, Refusal::Path),
+    }
+}
+
+fn put_path(out: &mut [u8], used: usize, path: &[u8], names: u16) -> usize {
+    let after_count = put_number(out, used, names as u64);
+    let after_parent = put_next(out, after_count, path::parent(path));
+    put_next(out, after_parent, path::last_name(path))
+}
+
+// `back D PATH`: the front part of the path as it was D names ago.
+fn back_line(line: &[u8], out: &mut [u8], used: usize) -> usize {
+    let depth = read_short_number(word(line, 1));
+    match depth {
+        ShortNumber::Value(names) => put_back(out, used, word(line, 2), names),
+        ShortNumber::Bad => bad_line(out, used),
+    }
+}
+
+fn put_back(out: &mut [u8], used: usize, path: &[u8], depth: u16) -> usize {
+    if !path::is_well_formed(path) {
+        return put_refusal(out, used, Refusal::Path);
+    }
+    put(out, used, path::path_at_intro_depth(path, depth))
+}
+
+// `join PATH CHILD`: the path with the child's last name appended.
+fn join_line(line: &[u8], out: &mut [u8], used: usize) -> usize {
+    let mut joined = [0u8; 255];
+    let appended = path::append_child_name(word(line, 1), word(line, 2), &mut joined);
+    match appended {
+        Appended::Length(length) => put_front(out, used, &joined, length),
+        Appended::Refused(refusal) => put_refusal(out, used, refusal),
+    }
+}
+
+// The first `length` bytes; none where there are fewer.
+fn put_front(out: &mut [u8], used: usize, bytes: &[u8], length: usize) -> usize {
+    if bytes.len() < length {
+        return used;
+    }
+    put(out, used, &bytes[0..length])
+}

@@ -1,0 +1,274 @@
+//! The language of the command `calls`: each line is answered by one line.
+
+use std::cmp::Ordering;
+use std::mem;
+
+use crate::judge::{self, Judge};
+use crate::line::{self, Call};
+use crate::narrowing;
+use crate::pcp::layer_stack::LayerStackId;
+use crate::pcp::prim_graph::NodeId;
+use crate::record::Record;
+use crate::refusal::Refusal;
+use crate::sdf::Path;
+use crate::snapshot;
+
+/// What one line is answered with.
+#[derive(Debug, PartialEq, Eq)]
+pub enum Answer {
+    Accepted(String),
+    Refused(Refusal),
+    BadLine,
+}
+
+impl Answer {
+    /// The line that is printed.
+    pub fn text(&self) -> String {
+        match self {
+            Self::Accepted(text) => text.clone(),
+            Self::Refused(refusal) => format!("refused {}", refusal.number),
+            Self::BadLine => "bad line".into(),
+        }
+    }
+}
+
+/// The two graphs that the lines work on (document 01: rooms).
+#[derive(Default)]
+pub struct Calls {
+    current: Judge,
+    other: Judge,
+}
+
+impl Calls {
+    pub fn current(&self) -> &Judge {
+        &self.current
+    }
+
+    /// Makes the call that `line` writes. A refused call, or a line that is none, changes nothing.
+    pub fn answer(&mut self, line: &[u8]) -> Answer {
+        if line.is_empty() {
+            return Answer::Accepted(String::new());
+        }
+        match line::parse(line).map(|call| self.call(call)) {
+            Some(Ok(text)) => Answer::Accepted(text),
+            Some(Err(refusal)) => Answer::Refused(refusal),
+            None => Answer::BadLine,
+        }
+    }
+
+    fn call(&mut self, call: Call) -> Result<String, Refusal> {
+        match call {
+            Call::Path(path) => path_parts(path),
+            Call::Back(steps, path) => Ok(text(&judge::path_at_intro_depth(narrowing::path(path)?, steps))),
+            Call::Join(path, child) => join_path(path, child),
+            Call::New => self.new_graphs(),
+            Call::Init(stack, layer, path) => self.init(stack, layer, path),
+            Call::Add(record) => self.add(&record),
+            Call::Read(bytes) => self.read(&bytes),
+            Call::Write => Ok(hex(&snapshot::encode(&self.current.records()))),
+            Call::Dump => Ok(joined(self.current.records().iter().map(record_text), ";")),
+            Call::Chains => Ok(self.chains()),
+            Call::Marks => Ok(self.marks()),
+            Call::Compare(a, b) => self.compare(a, b),
+            Call::Sibling(a, b) => self.sibling(a, b),
+            Call::Compares => self.compares(),
+            Call::Order => self.order(),
+            Call::List => self.list(),
+            Call::Cull => self.cull(),
+            Call::Erasable => self.erasable(),
+            Call::Erase(set) => self.erase(&set),
+            Call::Deepen(child) => self.deepen(child),
+            Call::Seed(child) => self.seed(child),
+            Call::Swap => self.swap(),
+            Call::Using(stack, path) => self.using(stack, path),
+            Call::Below(node) => self.below(node),
+            Call::Intro(node) => self.intro(node),
+        }
+    }
+
+    fn new_graphs(&mut self) -> Result<String, Refusal> {
+        *self = Self::default();
+        done()
+    }
+
+    fn init(&mut self, stack: u32, layer: u32, path: &[u8]) -> Result<String, Refusal> {
+        narrowing::no_node_0(self.current.graph())?;
+        let path = narrowing::path(path)?;
+        Ok(number(self.current.init_root(stack, layer, path)))
+    }
+
+    fn add(&mut self, record: &Record) -> Result<String, Refusal> {
+        let (parent, desc) = narrowing::add(self.current.graph(), record)?;
+        Ok(number(self.current.add_child(parent, desc)))
+    }
+
+    /// The records are added to a fresh graph in their order, so child lists come back in node order.
+    fn read(&mut self, bytes: &[u8]) -> Result<String, Refusal> {
+        let mut filled = Judge::default();
+        for record in snapshot::decode(bytes)? {
+            if filled.graph().is_empty() {
+                filled.init_from(narrowing::record_0(&record)?);
+            } else {
+                let (parent, desc) = narrowing::later_record(filled.graph(), &record)?;
+                filled.add_child(parent, desc);
+            }
+        }
+        self.current = filled;
+        Ok(self.current.graph().len().to_string())
+    }
+
+    fn chains(&self) -> String {
+        let nodes = self.current.graph().nodes();
+        joined(nodes.map(|node| joined(node.children().map(number), ",")), ";")
+    }
+
+    fn marks(&self) -> String {
+        let marks = self.current.marks();
+        let marks = [marks.ordered, marks.finalized, marks.shallow];
+        joined(marks.into_iter().map(bit), " ")
+    }
+
+    fn compare(&self, a: u32, b: u32) -> Result<String, Refusal> {
+        let graph = self.current.graph();
+        let (a, b) = (narrowing::node(graph, a)?, narrowing::node(graph, b)?);
+        Ok(format!("{:?}", graph.compare_node_strength(a, b)))
+    }
+
+    fn sibling(&self, a: u32, b: u32) -> Result<String, Refusal> {
+        let graph = self.current.graph();
+        let (a, b) = narrowing::siblings(graph, a, b)?;
+        Ok(format!("{:?}", graph.compare_sibling_node_strength(a, b)))
+    }
+
+    fn compares(&self) -> Result<String, Refusal> {
+        let graph = self.current.graph();
+        narrowing::node_0(graph)?;
+        let letter = |a, b| ordering_letter(graph.compare_node_strength(a, b));
+        let row = |a: NodeId| graph.nodes().map(|b| letter(a, b.id())).collect();
+        Ok(joined(graph.nodes().map(|a| row(a.id())), " "))
+    }
+
+    fn order(&mut self) -> Result<String, Refusal> {
+        narrowing::order(self.current.graph(), self.current.is_finalized())?;
+        self.current.finalize_strength_order();
+        done()
+    }
+
+    fn list(&self) -> Result<String, Refusal> {
+        let graph = self.current.graph();
+        narrowing::list(graph, self.current.is_ordered())?;
+        Ok(joined(graph.strength_order().iter().copied().map(number), " "))
+    }
+
+    fn cull(&mut self) -> Result<String, Refusal> {
+        narrowing::node_0(self.current.graph())?;
+        self.current.cull();
+        done()
+    }
+
+    fn erasable(&self) -> Result<String, Refusal> {
+        let graph = self.current.graph();
+        narrowing::node_0(graph)?;
+        Ok(graph.erasable().into_iter().map(bit).collect())
+    }
+
+    fn erase(&mut self, set: &[bool]) -> Result<String, Refusal> {
+        let goes = narrowing::erase(self.current.graph(), set)?;
+        Ok(self.current.erase(&goes).to_string())
+    }
+
+    fn deepen(&mut self, child: &[u8]) -> Result<String, Refusal> {
+        let child = narrowing::deepen(self.current.graph(), child)?;
+        self.current.deepen(&child);
+        done()
+    }
+
+    fn seed(&mut self, child: &[u8]) -> Result<String, Refusal> {
+        let child = narrowing::deepen(self.current.graph(), child)?;
+        self.other = self.current.seed_child(&child);
+        self.swap()
+    }
+
+    fn swap(&mut self) -> Result<String, Refusal> {
+        mem::swap(&mut self.current, &mut self.other);
+        done()
+    }
+
+    fn using(&self, stack: u32, path: &[u8]) -> Result<String, Refusal> {
+        let graph = self.current.graph();
+        narrowing::node_0(graph)?;
+        let path = narrowing::path(path)?;
+        Ok(graph.node_using_site(LayerStackId(stack), &path).map_or("-".into(), number))
+    }
+
+    fn below(&self, node: u32) -> Result<String, Refusal> {
+        let graph = self.current.graph();
+        let node = narrowing::node(graph, node)?;
+        Ok(graph.depth_below_introduction(node).to_string())
+    }
+
+    fn intro(&self, node: u32) -> Result<String, Refusal> {
+        let graph = self.current.graph();
+        let node = narrowing::node(graph, node)?;
+        Ok(text(&graph.path_at_introduction(node)))
+    }
+}
+
+/// The answer of a call that has no value.
+fn done() -> Result<String, Refusal> {
+    Ok("ok".into())
+}
+
+/// The prim count, the parent and the last name.
+fn path_parts(path: &[u8]) -> Result<String, Refusal> {
+    let path = narrowing::path(path)?;
+    let parent = path.parent().map_or("-".into(), |parent| text(&parent));
+    let name = path.name().unwrap_or("-");
+    Ok(format!("{} {parent} {name}", path.prim_element_count()))
+}
+
+fn join_path(path: &[u8], child: &[u8]) -> Result<String, Refusal> {
+    let path = narrowing::path(path)?;
+    let child = narrowing::child_path(child)?;
+    Ok(text(&narrowing::append(&path, &child)?))
+}
+
+fn text(path: &Path) -> String {
+    path.as_str().into()
+}
+
+fn number(node: NodeId) -> String {
+    node.0.to_string()
+}
+
+fn bit(set: bool) -> String {
+    u8::from(set).to_string()
+}
+
+fn ordering_letter(ordering: Ordering) -> char {
+    match ordering {
+        Ordering::Less => 'L',
+        Ordering::Equal => 'E',
+        Ordering::Greater => 'G',
+    }
+}
+
+/// A node's fields, in the order of a snapshot.
+fn record_text(record: &Record) -> String {
+    let or_dash = |number: Option<u32>| number.map_or("-".into(), |number| number.to_string());
+    let Record { arc, flags, stack, layer, sibling, restriction, spec_from, has_specs, .. } = record;
+    let (parent, origin, depth) =
+        (or_dash(record.parent), or_dash(record.origin), or_dash(record.depth.map(u32::from)));
+    let path = String::from_utf8_lossy(record.path);
+    format!(
+        "{arc},{flags},{stack},{layer},{parent},{origin},{depth},{sibling},{restriction},{spec_from},{has_specs},{path}"
+    )
+}
+
+fn joined(words: impl Iterator<Item = String>, between: &str) -> String {
+    words.collect::<Vec<_>>().join(between)
+}
+
+pub fn hex(bytes: &[u8]) -> String {
+    bytes.iter().map(|byte| format!("{byte:02x}")).collect()
+}

@@ -1,0 +1,143 @@
+//! One line of the language of the command `calls`: which call it writes, or that it writes none.
+
+use crate::record::{Record, node_given};
+
+/// A longer line writes no call.
+pub const MAX_LINE: usize = 131_072;
+
+/// More bits than a graph can have nodes write no erase set.
+const MAX_BITS: usize = 1_024;
+
+/// A call with its arguments. They fit their fields' types; nothing else is known of them.
+#[derive(Debug, PartialEq, Eq)]
+pub enum Call<'a> {
+    Path(&'a [u8]),
+    Back(u16, &'a [u8]),
+    Join(&'a [u8], &'a [u8]),
+    New,
+    Init(u32, u32, &'a [u8]),
+    Add(Record<'a>),
+    Read(Vec<u8>),
+    Write,
+    Dump,
+    Chains,
+    Marks,
+    Compare(u32, u32),
+    Sibling(u32, u32),
+    Compares,
+    Order,
+    List,
+    Cull,
+    Erasable,
+    Erase(Vec<bool>),
+    Deepen(&'a [u8]),
+    Seed(&'a [u8]),
+    Swap,
+    Using(u32, &'a [u8]),
+    Below(u32),
+    Intro(u32),
+}
+
+/// The call that `line` writes. Words stand between single spaces and have at least one byte.
+pub fn parse(line: &[u8]) -> Option<Call<'_>> {
+    if line.len() > MAX_LINE {
+        return None;
+    }
+    let words: Vec<&[u8]> = line.split(|&byte| byte == b' ').collect();
+    if words.iter().any(|word| word.is_empty()) {
+        return None;
+    }
+    Some(match words[..] {
+        [b"path", path] => Call::Path(path),
+        [b"back", steps, path] => Call::Back(number(steps)?, path),
+        [b"join", path, child] => Call::Join(path, child),
+        [b"new"] => Call::New,
+        [b"init", stack, layer, path] => Call::Init(number(stack)?, number(layer)?, path),
+        [b"add", ref fields @ ..] => Call::Add(record(fields)?),
+        [b"read", hex] => Call::Read(bytes(hex)?),
+        [b"write"] => Call::Write,
+        [b"dump"] => Call::Dump,
+        [b"chains"] => Call::Chains,
+        [b"marks"] => Call::Marks,
+        [b"compare", a, b] => Call::Compare(number(a)?, number(b)?),
+        [b"sibling", a, b] => Call::Sibling(number(a)?, number(b)?),
+        [b"compares"] => Call::Compares,
+        [b"order"] => Call::Order,
+        [b"list"] => Call::List,
+        [b"cull"] => Call::Cull,
+        [b"erasable"] => Call::Erasable,
+        [b"erase", set] => Call::Erase(bits(set)?),
+        [b"deepen", path] => Call::Deepen(path),
+        [b"seed", path] => Call::Seed(path),
+        [b"swap"] => Call::Swap,
+        [b"using", stack, path] => Call::Using(number(stack)?, path),
+        [b"below", node] => Call::Below(number(node)?),
+        [b"intro", node] => Call::Intro(number(node)?),
+        _ => return None,
+    })
+}
+
+/// The words of an `add` line after the first, in the order of the line.
+fn record<'a>(words: &[&'a [u8]]) -> Option<Record<'a>> {
+    let &[parent, arc, flags, stack, layer, origin, depth, sibling, restriction, spec_from, has_specs, path] = words
+    else {
+        return None;
+    };
+    Some(Record {
+        arc: number(arc)?,
+        flags: number(flags)?,
+        stack: number(stack)?,
+        layer: number(layer)?,
+        parent: unless_missing(parent)?.and_then(node_given),
+        origin: unless_missing(origin)?.and_then(node_given),
+        depth: unless_missing(depth)?,
+        sibling: number(sibling)?,
+        restriction: number(restriction)?,
+        spec_from: number(spec_from)?,
+        has_specs: number(has_specs)?,
+        path,
+    })
+}
+
+/// A number, or nothing within where `-` stands for a missing one.
+fn unless_missing<T: TryFrom<u32>>(word: &[u8]) -> Option<Option<T>> {
+    if word == b"-" { Some(None) } else { number(word).map(Some) }
+}
+
+/// Decimal digits whose number fits the type asked for.
+fn number<T: TryFrom<u32>>(word: &[u8]) -> Option<T> {
+    let number = word.iter().try_fold(0u32, |number, &byte| {
+        let digit = char::from(byte).to_digit(10)?;
+        number.checked_mul(10)?.checked_add(digit)
+    })?;
+    T::try_from(number).ok()
+}
+
+/// The bytes that pairs of hexadecimal digits in lower case write.
+fn bytes(word: &[u8]) -> Option<Vec<u8>> {
+    let pairs = word.chunks(2).map(|pair| match pair {
+        &[high, low] => Some(hex_digit(high)? << 4 | hex_digit(low)?),
+        _ => None,
+    });
+    pairs.collect()
+}
+
+fn hex_digit(byte: u8) -> Option<u8> {
+    match byte {
+        b'0'..=b'9' => Some(byte - b'0'),
+        b'a'..=b'f' => Some(byte - b'a' + 10),
+        _ => None,
+    }
+}
+
+fn bits(word: &[u8]) -> Option<Vec<bool>> {
+    if word.len() > MAX_BITS {
+        return None;
+    }
+    let bits = word.iter().map(|byte| match byte {
+        b'0' => Some(false),
+        b'1' => Some(true),
+        _ => None,
+    });
+    bits.collect()
+}

@@ -1,0 +1,8 @@
+//! Scripts: lines of the language, the same ones for the same seed.
+
+mod graphs;
+mod paths;
+pub mod random;
+
+pub use graphs::graphs;
+pub use paths::paths;

@@ -1,0 +1,24 @@
+//! The examples of document 01, the edges of the language, and inputs that mean nothing.
+
+mod departures;
+mod examples;
+mod lines;
+mod paths;
+mod robustness;
+
+use crate::calls::Calls;
+
+/// The answers to the lines of `script`.
+fn answers(script: &str) -> Vec<String> {
+    let mut calls = Calls::default();
+    script.split('\n').map(|line| calls.answer(line.as_bytes()).text()).collect()
+}
+
+/// Runs `script`, in which each line is followed by ` => ` and the answer it must get.
+fn check(script: &str) {
+    let mut calls = Calls::default();
+    for line in script.lines().map(str::trim_start).filter(|line| !line.is_empty()) {
+        let (line, expected) = line.split_once(" => ").expect("a line and its answer");
+        assert_eq!(calls.answer(line.as_bytes()).text(), expected, "{line}");
+    }
+}

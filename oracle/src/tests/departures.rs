@@ -1,0 +1,158 @@
+//! Where document 01 departs from the Rust: the smallest input of each departure, and what the Rust does with it when
+//! it is asked directly.
+
+use std::cmp::Ordering;
+
+use super::check;
+use crate::pcp::LayerId;
+use crate::pcp::layer_stack::LayerStackId;
+use crate::pcp::mapping::MapFunction;
+use crate::pcp::prim_graph::{ArcType, NodeDesc, NodeFlags, NodeId, PrimIndexGraph};
+use crate::sdf::Path;
+
+fn path(text: &str) -> Path {
+    Path::parse(text.as_bytes()).expect("a well-formed path")
+}
+
+fn desc(arc: ArcType) -> NodeDesc {
+    NodeDesc::new(LayerStackId(0), LayerId(0), path("/A"), arc, MapFunction::identity())
+}
+
+fn started(at: &str) -> PrimIndexGraph {
+    let mut graph = PrimIndexGraph::default();
+    graph.init_root(LayerStackId(0), LayerId(0), path(at));
+    graph
+}
+
+#[test]
+fn culled_may_be_added_there() {
+    let mut graph = started("/A");
+    let mut culled = desc(ArcType::Reference);
+    culled.flags = NodeFlags::CULLED;
+    let node = graph.add_child(NodeId(0), culled);
+    assert!(graph.node(node).is_culled());
+    check("init 0 0 /A => 0\nadd 0 4 2 0 0 - - 0 0 0 1 /A => refused 6");
+}
+
+#[test]
+fn several_root_arcs_may_be_added_there() {
+    let mut graph = started("/A");
+    let first = graph.add_child(NodeId(0), desc(ArcType::Root));
+    graph.add_child(NodeId(0), desc(ArcType::Root));
+    graph.add_child(first, desc(ArcType::Root));
+    assert_eq!((graph.len(), graph.local_root()), (4, first));
+    check("init 0 0 /A => 0\nadd 0 0 0 0 0 - - 0 0 0 1 /A => 1\nadd 0 0 0 0 0 - - 0 0 0 1 /A => refused 6");
+    check("init 0 0 /A => 0\nadd 0 4 0 0 0 - - 0 0 0 1 /A => 1\nadd 1 0 0 0 0 - - 0 0 0 1 /A => refused 6");
+}
+
+#[test]
+fn deepening_by_no_name_does_nothing_there() {
+    for child in ["/", "/A{v=x}"] {
+        let mut graph = started("/A");
+        graph.append_child_name_to_all_sites(&path(child));
+        assert_eq!(graph.node(NodeId(0)).path(), &path("/A"));
+        check(&format!("init 0 0 /A => 0\ndeepen {child} => refused 5"));
+    }
+}
+
+#[test]
+fn a_site_that_cannot_take_the_name_keeps_its_path_there() {
+    let longest = format!("/{}", "a".repeat(254));
+    let mut graph = started(&longest);
+    graph.append_child_name_to_all_sites(&path("/b"));
+    assert_eq!(graph.node(NodeId(0)).path(), &path(&longest));
+    check(&format!("init 0 0 {longest} => 0\ndeepen /b => refused 7"));
+}
+
+#[test]
+fn a_stale_order_can_be_read_there() {
+    let mut graph = started("/A");
+    graph.finalize_strength_order();
+    graph.add_child(NodeId(0), desc(ArcType::Reference));
+    assert_eq!(graph.strength_order(), [NodeId(0)]);
+    check("init 0 0 /A => 0\norder => ok\nadd 0 4 0 0 0 - - 0 0 0 1 /A => 1\nlist => refused 10");
+}
+
+#[test]
+fn deepening_a_shallow_graph_leaves_its_order_to_be_read_there() {
+    let mut graph = started("/A");
+    let mut beyond = desc(ArcType::Reference);
+    beyond.namespace_depth = Some(2);
+    graph.add_child(NodeId(0), beyond);
+    graph.finalize_strength_order();
+    graph.append_child_name_to_all_sites(&path("/b"));
+    assert_eq!(graph.strength_order(), [NodeId(0), NodeId(1)]);
+    check(
+        "init 0 0 /A => 0
+        add 0 4 0 0 0 - 2 0 0 0 1 /A => 1
+        order => ok
+        list => 0 1
+        deepen /b => ok
+        list => refused 10",
+    );
+}
+
+#[test]
+fn a_graph_has_no_limit_there() {
+    let mut graph = started("/A");
+    for _ in 1..=1_024 {
+        graph.add_child(NodeId(0), desc(ArcType::Reference));
+    }
+    assert_eq!(graph.len(), 1_025);
+}
+
+#[test]
+fn any_two_nodes_are_siblings_there() {
+    let mut graph = started("/A");
+    let child = graph.add_child(NodeId(0), desc(ArcType::Reference));
+    assert_eq!(graph.compare_sibling_node_strength(NodeId(0), child), Ordering::Less);
+    check("init 0 0 /A => 0\nadd 0 4 0 0 0 - - 0 0 0 1 /A => 1\nsibling 0 1 => refused 8");
+}
+
+#[test]
+fn ordering_an_empty_graph_returns_there() {
+    PrimIndexGraph::default().finalize_strength_order();
+    check("order => refused 3");
+}
+
+#[test]
+fn erasing_answers_the_nodes_copied_there() {
+    let mut graph = started("/A");
+    assert_eq!(graph.erase(&[false]), 0);
+    let shared = graph.clone();
+    assert_eq!(graph.erase(&[false]), shared.len());
+    check("init 0 0 /A => 0\nerase 0 => 1");
+}
+
+#[test]
+fn spec_from_reads_0_without_specs_there() {
+    let mut graph = started("/A");
+    let mut without_specs = desc(ArcType::Reference);
+    (without_specs.has_specs, without_specs.spec_from) = (false, 5);
+    let node = graph.add_child(NodeId(0), without_specs);
+    assert_eq!(graph.node(node).spec_from(), 0);
+    check(
+        "init 0 0 /A => 0
+        add 0 4 0 0 0 - - 0 0 5 0 /A => 1
+        dump => 0,1,0,0,-,-,1,0,0,0,1,/A;4,0,0,0,0,0,1,0,0,5,0,/A",
+    );
+}
+
+/// Ordering the cycle is never asked of the Rust: its sort may panic. Comparing is, and gives the cycle.
+#[test]
+fn siblings_may_go_in_a_cycle_there() {
+    let mut graph = started("/M");
+    let root = graph.add_child(NodeId::INVALID, desc(ArcType::Root));
+    let reference = graph.add_child(root, desc(ArcType::Reference));
+    let mut specialize = |origin, depth, flags| {
+        let mut desc = desc(ArcType::Specialize);
+        (desc.origin, desc.namespace_depth, desc.flags) = (origin, Some(depth), flags);
+        graph.add_child(root, desc)
+    };
+    let first = specialize(Some(reference), 1, NodeFlags::HAS_SPECIALIZES);
+    let second = specialize(Some(reference), 3, NodeFlags::HAS_SPECIALIZES);
+    let third = specialize(None, 2, NodeFlags::empty());
+    for (stronger, weaker) in [(first, second), (second, third), (third, first)] {
+        assert_eq!(graph.compare_sibling_node_strength(stronger, weaker), Ordering::Less);
+    }
+}
