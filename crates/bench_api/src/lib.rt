@@ -1,6 +1,5 @@
 // C functions for the benchmark in bench/, and for nothing else: each is one call of the library below it, with its answer as a number.
 use model::PrimCount;
-
 ghost use mathlib.Core.Path.{_≡_};
 ghost use Rattle.model.specs.Path.{countPrims};
 ghost use Rattle.bench_api.specs.Numbers.{countNumber};
