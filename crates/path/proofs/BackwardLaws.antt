@@ -1,14 +1,15 @@
 -- Reading from the back: the definitions at a place k, by the byte before it, as the loops go. Assumes nothing.
 use mathlib.Core.Path.{_≡_, refl, sym, ap, _∙_}
 use mathlib.Core.Bool.{Bool, true, false, cond, false≢true}
-use mathlib.Core.List.{List, [], _∷_}
-use Prim.Native.Nat.{ℕ, zero, suc, pred, _+_, _-_, _≤_, _<_, min, max}
+use mathlib.Core.List.{List}
+use Prim.Native.Nat.{ℕ, zero, suc, pred, _-_, _≤_, _<_, min, max}
 use native.Mathlib.Numerals.{sub-one}
 use native.Mathlib.Omega.{arith}
 use borrow.Author.Tests.{ltb-true, ltb-false, le-leb, lt-leb, eqb-true, eqb-false, eq-eqb, ne-eqb}
 use lib.Dec.{eqb, ltb}
-use lib.ListN.{length, getD}
+use lib.ListN.{getD}
 use Rattle.model.specs.Path.{solidus, openBrace, closeBrace, afterLast, beforeLast, endsIn, nameStart, beforeName, parentLength, withoutSelections, introStep, introLength}
+use Rattle.model.proofs.PathLemmas.{after-last-le}
 
 -- ---- The last place of a byte
 
@@ -19,14 +20,6 @@ after-hit b p (suc k) h e = rw (eq-eqb (getD p k 0) b (rw (sub-one (suc k)) at e
 pub after-miss : (b : ℕ) (p : List ℕ) (k : ℕ) → 0 < k → (getD p (k - 1) 0 ≡ b → ⊥) → afterLast b p k ≡ afterLast b p (k - 1)
 after-miss b p zero h d = absurd (omega arith)
 after-miss b p (suc k) h d = rw (sub-one (suc k), ne-eqb (getD p k 0) b (rw (sub-one (suc k)) at d))
-
-after-within : (b : ℕ) (p : List ℕ) (k : ℕ) → afterLast b p k ≤ k
-after-within b p zero = omega arith
-after-within b p (suc k) = go (eqb (getD p k 0) b) (after-within b p k)
-  where
-    go : (t : Bool) → afterLast b p k ≤ k → cond t (suc k) (afterLast b p k) ≤ suc k
-    go true h = omega arith
-    go false h = omega arith
 
 -- what stands before it is the byte
 after-found : (b : ℕ) (p : List ℕ) (k : ℕ) → 0 < afterLast b p k → getD p (afterLast b p k - 1) 0 ≡ b
@@ -56,11 +49,11 @@ ends-in-at b p (suc k) d = rw (sub-one (suc k))
 
 pub start-at-slash : (p : List ℕ) (k : ℕ) → 0 < k → getD p (k - 1) 0 ≡ solidus → nameStart p k ≡ k
 unfolding nameStart
-start-at-slash p k h e = omega (arith, after-hit solidus p k h e, after-within closeBrace p k)
+start-at-slash p k h e = omega (arith, after-hit solidus p k h e, after-last-le p closeBrace k)
 
 pub start-at-brace : (p : List ℕ) (k : ℕ) → 0 < k → getD p (k - 1) 0 ≡ closeBrace → nameStart p k ≡ k
 unfolding nameStart
-start-at-brace p k h e = omega (arith, after-hit closeBrace p k h e, after-within solidus p k)
+start-at-brace p k h e = omega (arith, after-hit closeBrace p k h e, after-last-le p solidus k)
 
 pub start-before : (p : List ℕ) (k : ℕ) → 0 < k → (getD p (k - 1) 0 ≡ solidus → ⊥) → (getD p (k - 1) 0 ≡ closeBrace → ⊥)
     → nameStart p k ≡ nameStart p (k - 1)
@@ -69,7 +62,7 @@ start-before p k h d e = omega (arith, after-miss solidus p k h d, after-miss cl
 
 pub start-none : (p : List ℕ) (k : ℕ) → k ≤ 0 → nameStart p k ≡ k
 unfolding nameStart
-start-none p k h = omega (arith, after-within solidus p k, after-within closeBrace p k)
+start-none p k h = omega (arith, after-last-le p solidus k, after-last-le p closeBrace k)
 
 -- ---- What stands before the last name, which starts at s
 
@@ -109,7 +102,7 @@ none-before : (a k : ℕ) → a ≤ k → k ≤ 0 → k ≡ pred a
 none-before a k h l = omega arith
 
 pub brace-none : (p : List ℕ) (k : ℕ) → k ≤ 0 → k ≡ beforeLast openBrace p k
-brace-none p k h = none-before (afterLast openBrace p k) k (after-within openBrace p k) h
+brace-none p k h = none-before (afterLast openBrace p k) k (after-last-le p openBrace k) h
 
 inside-skips : (p : List ℕ) (k : ℕ) → withoutSelections true p k ≡ withoutSelections false p (beforeLast openBrace p k)
 inside-skips p zero = refl
@@ -128,10 +121,6 @@ drops-one p (suc k) e =
     let d : eqb (getD p k 0) openBrace ≡ false =
     ap (λ (b : ℕ). eqb b openBrace) (eqb-true (getD p k 0) closeBrace e) in
     rw (e, d) (inside-skips p k)
-
-pub drops-none : (p : List ℕ) (k : ℕ) → endsIn closeBrace p k ≡ false → k ≡ withoutSelections false p k
-drops-none p zero e = refl
-drops-none p (suc k) e = rw e
 
 pub ends-in-some : (b : ℕ) (p : List ℕ) (k : ℕ) → endsIn b p k ≡ true → 0 < k
 ends-in-some b p zero e = absurd (false≢true e)

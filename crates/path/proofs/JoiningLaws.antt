@@ -1,18 +1,17 @@
 -- Appending a name: where it starts, the bytes written, and the questions in their order. Assumes nothing.
 use mathlib.Core.Path.{_≡_, refl, sym, ap, _∙_}
-use mathlib.Core.Bool.{Bool, true, false, not, _||_, _&&_, cond, false≢true}
+use mathlib.Core.Bool.{Bool, true, false, _||_, _&&_, cond, and-eq-true-iff}
 use mathlib.Core.List.{List, [], _∷_, _++_, append-assoc, append-nil}
 use Prim.Native.Nat.{ℕ, suc, _+_, _-_, _≤_, _<_}
-use native.Mathlib.Nat.{add-zero, add-assoc, zero-add}
 use native.Mathlib.Omega.{arith}
-use borrow.Author.Tests.{leb-true, ltb-true, lt-ltb, le-ltb, eq-eqb, ne-eqb}
+use borrow.Author.Tests.{ltb-true, lt-ltb, le-ltb, eq-eqb, ne-eqb}
 use borrow.Rule.Slice.PartMut.{putMid}
-use lib.Dec.{eqb, leb, ltb}
 use lib.ListN.{length, take, drop, set, length-append, length-drop, drop-of-length-le}
 use lib.Seq.{take-all, take-length, drop-cons, drop-drop, set-append-seam, take-append-add, drop-append-add, drop-set-lt}
 use Rattle.model.specs.declared.Refusal.the-variants.{Size, Path, Capacity}
 use Rattle.model.specs.declared.Appended.the-variants.{Length, Refused}
-use Rattle.model.specs.Path.{solidus, closeBrace, endsIn, mayEnd, run, start, wellFormed, nameStart, lastName, endsInName, separator, appendName, appendChildName}
+use Rattle.model.specs.Path.{solidus, closeBrace, endsIn, wellFormed, nameStart, lastName, endsInName, separator, appendName, appendChildName}
+use Rattle.model.proofs.PathGrammar.{well-formed-length}
 
 -- ---- The byte between a path and a name
 
@@ -90,14 +89,6 @@ put-name p w o at e h l =
 abbrev pub joinable : List ℕ → List ℕ → Bool
 joinable p child = wellFormed p && (wellFormed child && endsInName child)
 
-both : (a b : Bool) → (a && b) ≡ true → (a ≡ true) × (b ≡ true)
-both true b e = (refl, e)
-both false b e = absurd (false≢true e)
-
-within-limit : (p : List ℕ) → wellFormed p ≡ true → length p ≤ 255
-unfolding wellFormed
-within-limit p e = leb-true (length p) 255 (both (mayEnd (run start p)) (leb (length p) 255) e .1)
-
 separator-short : (p : List ℕ) → length (separator p) ≤ 1
 unfolding separator
 separator-short p = go (endsIn solidus p (length p) || endsIn closeBrace p (length p))
@@ -114,14 +105,14 @@ last-name-short p = omega (arith, length-drop (nameStart p (length p)) p)
 pub joinable-named : (p child : List ℕ) → joinable p child ≡ true → 0 < length (lastName child)
 unfolding endsInName
 joinable-named p child e =
-    ltb-true 0 (length (lastName child))
-    (both (wellFormed child) (endsInName child) (both (wellFormed p) (wellFormed child && endsInName child) e .1) .1)
+    let both = and-eq-true-iff (wellFormed p) (wellFormed child && endsInName child) .0 e in
+    ltb-true 0 (length (lastName child)) (and-eq-true-iff (wellFormed child) (endsInName child) .0 (both .1) .1)
 
 pub joinable-short : (p child : List ℕ) → joinable p child ≡ true → length p + length (separator p) + length (lastName child) ≤ 511
 joinable-short p child e =
-    let l = both (wellFormed p) (wellFormed child && endsInName child) e in
-    let r = both (wellFormed child) (endsInName child) (l .1) in
-    omega (arith, within-limit p (l .0), within-limit child (r .0), separator-short p, last-name-short child)
+    let l = and-eq-true-iff (wellFormed p) (wellFormed child && endsInName child) .0 e in
+    let r = and-eq-true-iff (wellFormed child) (endsInName child) .0 (l .1) in
+    omega (arith, well-formed-length p (l .0), well-formed-length child (r .0), separator-short p, last-name-short child)
 
 module _ (p child o : List ℕ) where
   pub refused-size : (length o ≡ 255 → ⊥) → Refused Size ≡ appendChildName p child o

@@ -1,18 +1,17 @@
 -- Reading from the front: one byte, a run of bytes, and where the reading fails. Each law is over the state, so that names, sets and
 -- selections share it. Last, that reading a path from its start is `countPrims`. Assumes nothing.
 use mathlib.Core.Path.{_≡_, refl, sym, ap, _∙_}
-use mathlib.Core.Bool.{Bool, true, false, not, _&&_, cond, false≢true}
+use mathlib.Core.Bool.{Bool, true, false, not, _&&_, cond, false≢true, and-eq-true-iff, and-true, and-false}
 use mathlib.Core.List.{List, [], _∷_}
 use Prim.Native.Nat.{ℕ, zero, suc, _+_, _-_, _≤_, _<_}
 use native.Mathlib.Nat.{add-zero, add-suc, zero-add}
 use native.Mathlib.Numerals.{add-one}
 use native.Mathlib.Omega.{arith}
 use borrow.Author.Tests.{ltb-true, ltb-false, lt-ltb, le-leb, lt-leb, ne-eqb}
-use lib.Dec.{eqb, ltb, leb}
+use lib.Dec.{eqb, ltb}
 use lib.ListN.{length, getD, drop, drop-of-length-le}
 use lib.Seq.{drop-cons}
-use Rattle.model.specs.Path.{State, start, root, slash, name, setStart, set, selectionStart, selection, closed, dead, step, run, mayEnd, inName, enters, names, isNameStart, isWordByte, isSelectionByte, solidus, openBrace, equalsSign, closeBrace, wellFormed, primCount, countPrims}
-use Rattle.model.specs.declared.PrimCount.{PrimCount}
+use Rattle.model.specs.Path.{State, start, root, slash, name, setStart, set, selectionStart, selection, closed, dead, step, run, mayEnd, inName, names, isNameStart, isWordByte, isSelectionByte, solidus, openBrace, equalsSign, closeBrace, wellFormed, primCount, countPrims}
 use Rattle.model.specs.declared.PrimCount.the-variants.{Names, Malformed}
 use Rattle.path.specs.declared.forward.Part.{Part}
 use Rattle.path.specs.declared.forward.Part.the-variants.{To, Malformed as NoPart}
@@ -91,34 +90,26 @@ run-stays q test stay p at e r n =
 
 -- ---- A word: a name or a set
 
-and-left : (a b : Bool) → (a && b) ≡ true → a ≡ true
-and-left true b e = refl
-and-left false b e = absurd (false≢true e)
-
-and-right : (a b : Bool) → (a && b) ≡ true → b ≡ true
-and-right true b e = e
-and-right false b e = absurd (false≢true e)
-
-and-false : (a b : Bool) → a ≡ true → (a && b) ≡ false → b ≡ false
-and-false true b h e = e
-and-false false b h e = absurd (false≢true h)
+and-fails : (a b : Bool) → a ≡ true → (a && b) ≡ false → b ≡ false
+and-fails true b h e = e
+and-fails false b h e = absurd (false≢true h)
 
 pub begins-within : (p : List ℕ) (at : ℕ) → beginsName p at ≡ true → at < length p
-begins-within p at e = ltb-true _ _ (and-left _ _ e)
+begins-within p at e = ltb-true _ _ (and-eq-true-iff (ltb at (length p)) (isNameStart (getD p at 0)) .0 e .0)
 
 pub stands-within : (p : List ℕ) (at x : ℕ) → standsAt p at x ≡ true → at < length p
-stands-within p at x e = ltb-true _ _ (and-left _ _ e)
+stands-within p at x e = ltb-true _ _ (and-eq-true-iff (ltb at (length p)) (eqb (getD p at 0) x) .0 e .0)
 
 -- state q waits for a word, which state r is in
 module _ (q r : State) (starts : (b : ℕ) → step q b ≡ cond (isNameStart b) r dead) (p : List ℕ) (at : ℕ) where
   pub word-missing : mayEnd q ≡ false → beginsName p at ≡ false → Fails p q at
   word-missing m e =
-      fails q p at m (λ h. starts (getD p at 0) ∙ ap (λ (t : Bool). cond t r dead) (and-false _ _ (lt-ltb _ _ h) e))
+      fails q p at m (λ h. starts (getD p at 0) ∙ ap (λ (t : Bool). cond t r dead) (and-fails _ _ (lt-ltb _ _ h) e))
 
   pub word-reads : ((b : ℕ) → isWordByte b ≡ true → step r b ≡ r) → (e : ℕ) → beginsName p at ≡ true → Run isWordByte p (at + 1) e
       → (n : ℕ) → reading q n (drop at p) ≡ reading r (counted q r n) (drop e p)
   word-reads stay e b w n =
-      goes q r p at (begins-within p at b) (starts (getD p at 0) ∙ ap (λ (t : Bool). cond t r dead) (and-right (ltb at (length p)) (isNameStart (getD p at 0)) b)) n
+      goes q r p at (begins-within p at b) (starts (getD p at 0) ∙ ap (λ (t : Bool). cond t r dead) (and-eq-true-iff (ltb at (length p)) (isNameStart (getD p at 0)) .0 b .1)) n
       ∙ ap (λ (j : ℕ). reading r (counted q r n) (drop j p)) (sym (add-one at))
       ∙ run-stays r isWordByte stay p (at + 1) e w (counted q r n)
 
@@ -129,12 +120,12 @@ module _ (q r : State) (test : ℕ → Bool) (x : ℕ) (ends : (b : ℕ) → ste
   at-sign h = ends (getD p at 0) ∙ ap (λ (t : Bool). cond t q (cond (eqb (getD p at 0) x) r dead)) (stop h)
 
   pub sign-missing : mayEnd q ≡ false → standsAt p at x ≡ false → Fails p q at
-  sign-missing m e = fails q p at m (λ h. at-sign h ∙ ap (λ (t : Bool). cond t r dead) (and-false _ _ (lt-ltb _ _ h) e))
+  sign-missing m e = fails q p at m (λ h. at-sign h ∙ ap (λ (t : Bool). cond t r dead) (and-fails _ _ (lt-ltb _ _ h) e))
 
   pub sign-reads : standsAt p at x ≡ true → (n : ℕ) → reading q n (drop at p) ≡ reading r (counted q r n) (drop (suc at) p)
   sign-reads e n =
       goes q r p at (stands-within p at x e)
-      (at-sign (stands-within p at x e) ∙ ap (λ (t : Bool). cond t r dead) (and-right (ltb at (length p)) (eqb (getD p at 0) x) e)) n
+      (at-sign (stands-within p at x e) ∙ ap (λ (t : Bool). cond t r dead) (and-eq-true-iff (ltb at (length p)) (eqb (getD p at 0) x) .0 e .1)) n
 
 -- ---- What is in a name stays in it, and so for a set and a selection
 
@@ -298,24 +289,16 @@ reading-all q n (b ∷ bs) =
     ∙ ap (λ (j : ℕ). cond (mayEnd (run (step q b) bs)) (Names j) Malformed)
     (adds (not (inName q) && inName (step q b)) n (names (step q b) bs))
 
-and-true : (a b : Bool) → b ≡ true → (a && b) ≡ a
-and-true true b e = e
-and-true false b e = refl
-
-and-no : (a b : Bool) → b ≡ false → (a && b) ≡ false
-and-no true b e = e
-and-no false b e = refl
-
 pub count-prims-reads : (p : List ℕ) → length p ≤ 255 → reading start 0 p ≡ countPrims p
 unfolding countPrims wellFormed primCount
 count-prims-reads p h =
     reading-all start 0 p ∙ ap (λ (j : ℕ). cond (mayEnd (run start p)) (Names j) Malformed) (zero-add (names start p))
-    ∙ ap (λ (t : Bool). cond t (Names (names start p)) Malformed) (sym (and-true (mayEnd (run start p)) (leb (length p) 255) (le-leb _ _ h)))
+    ∙ ap (λ (t : Bool). cond t (Names (names start p)) Malformed) (sym (ap (λ (t : Bool). mayEnd (run start p) && t) (le-leb (length p) 255 h) ∙ and-true (mayEnd (run start p))))
 
 pub count-prims-long : (p : List ℕ) → 255 < length p → Malformed ≡ countPrims p
 unfolding countPrims wellFormed
 count-prims-long p h =
-    ap (λ (t : Bool). cond t (Names (primCount p)) Malformed) (sym (and-no (mayEnd (run start p)) (leb (length p) 255) (lt-leb _ _ h)))
+    ap (λ (t : Bool). cond t (Names (primCount p)) Malformed) (sym (ap (λ (t : Bool). mayEnd (run start p) && t) (lt-leb (length p) 255 h) ∙ and-false (mayEnd (run start p))))
 
 -- the count tells whether the path is well formed
 pub counted-well-formed : (p : List ℕ) (n : ℕ) → countPrims p ≡ Names n → true ≡ wellFormed p

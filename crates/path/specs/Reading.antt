@@ -6,7 +6,7 @@ use mathlib.Core.List.{List, [], _∷_}
 use Prim.Native.Nat.{ℕ, suc, _<_, _≤_}
 use lib.Dec.{eqb, ltb}
 use lib.ListN.{length, getD, drop}
-use Rattle.model.specs.Path.{State, slash, name, setStart, closed, step, mayEnd, inName, isNameStart, isWordByte}
+use Rattle.model.specs.Path.{State, name, setStart, closed, step, mayEnd, inName, isNameStart, isWordByte}
 use Rattle.model.specs.declared.PrimCount.{PrimCount}
 use Rattle.model.specs.declared.PrimCount.the-variants.{Names, Malformed}
 use Rattle.path.specs.declared.forward.Part.{Part}

@@ -2,11 +2,12 @@
 -- The measure is `k`. Assumes nothing.
 use borrow.Author.Needs.{needs}
 use native.Mathlib.Omega.{arith}
-use Rattle.path.proofs.BackwardLaws.{drops-one, drops-none, ends-in-some}
+use Rattle.path.proofs.BackwardLaws.{drops-one, ends-in-some}
 use mathlib.Core.Path.{_≡_, refl, _∙_, sym, ap}
 use mathlib.Core.Bool.{false}
 use Prim.Native.Nat.{_≤_, _-_}
 use Rattle.model.specs.Path.{withoutSelections, closeBrace}
+use Rattle.model.proofs.PathLemmas.{without-selections-none}
 use Rattle.path.proofs.backward.without_selections.Statement.{statement}
 use Rattle.path.proofs.backward.without_selections.Tie as tie
 
@@ -34,7 +35,7 @@ loop-again c =
     (ap (withoutSelections false (c .before .before .before .before .before .args .path .now)) (c .selection-start .ensures .0) ∙ sym (drops-one (c .before .before .before .before .before .args .path .now) (c .before .before .before .loop .k) (sym (c .before .before .ends-in .ensures) ∙ c .before .if1 .taken)) ∙ c .before .before .before .loop .inv .0, omega (arith, c .selection-start .ensures .1, c .before .before .before .loop .inv .1))
 
 returns : tie.Need-returns Inv-loop μ-loop
-returns c = (drops-none (c .before .before .before .before .args .path .now) (c .before .before .loop .k) (sym (c .before .ends-in .ensures) ∙ c .if1 .left) ∙ c .before .before .loop .inv .0, c .before .before .loop .inv .1)
+returns c = (sym (without-selections-none (c .before .before .before .before .args .path .now) (c .before .before .loop .k) (sym (c .before .ends-in .ensures) ∙ c .if1 .left)) ∙ c .before .before .loop .inv .0, c .before .before .loop .inv .1)
 
 pub without-selections-spec : {M : Type 1} → statement M
 without-selections-spec =
