@@ -1,5 +1,4 @@
--- The laws that the functions' proofs cite: reading from the front, from the back, and appending.
-mod ReadingLaws
+-- The laws that the functions' proofs cite: reading from the back, appending, and equality.
 mod BackwardLaws
 mod JoiningLaws
 mod EqualLaws

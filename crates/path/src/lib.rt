@@ -2,7 +2,6 @@
 // child's name. No public function has a `requires`: on bytes that are no path each answers what its definition gives for them. Only
 // `append_child_name` copies; every other path handed back is a part of the caller's. The definitions are in model/specs/Path.antt.
 mod backward;
-mod forward;
 mod joining;
 
 use model::Appended;
@@ -19,7 +18,7 @@ pub fn prim_count(path: &[u8]) -> PrimCount
     if 255 < path.len() {
         return PrimCount::Malformed;
     }
-    forward::read_path(path)
+    path_scan::read_path(path)
 }
 
 // Whether the bytes are a path (question 5).
