@@ -11,14 +11,14 @@ use lib.Dec.{eqb, leb}
 use lib.ListN.{length}
 use borrow.Author.Tests.{eqb-true, leb-true, le-leb}
 use Rattle.model.specs.Path.{solidus, openBrace, closeBrace, equalsSign, isNameStart, isWordByte, isSelectionByte, State, start, root, slash, name, setStart, set, selectionStart, selection, closed, dead, step, run, mayEnd, wellFormed, inName, enters, names, separator, appendName}
-use Rattle.model.proofs.PathLemmas.{All, all-append, all-weaken, snoc-induction, Edge, begins, root-name, slash-name, closed-name, in-name, name-slash, name-opens, closed-opens, set-begins, in-set, set-ends, selection-begins, in-selection, closes, fails, edge, may-end-not-empty, Ended, at-root, at-name, at-closed, ended, run-append, names-append, name-start-is-word, selection-byte-is-word, state-ending, separator-root, separator-name, separator-closed}
+use Rattle.model.proofs.PathLemmas.{AllPass, all-pass-append, all-pass-weaken, snoc-induction, Edge, begins, root-name, slash-name, closed-name, in-name, name-slash, name-opens, closed-opens, set-begins, in-set, set-ends, selection-begins, in-selection, closes, fails, edge, may-end-not-empty, Ended, at-root, at-name, at-closed, ended, run-append, names-append, name-start-is-word, selection-byte-is-word, state-ending, separator-root, separator-name, separator-closed}
 
 -- ---- The grammar
 
--- a byte that passes one test, and any number of bytes that all pass another (`All` is in PathLemmas)
+-- a byte that passes one test, and any number of bytes that all pass another (`AllPass` is in PathLemmas)
 abbrev pub OneOrMore : (ℕ → Bool) → (ℕ → Bool) → List ℕ → Type 0
 OneOrMore first more [] = ⊥
-OneOrMore first more (b ∷ bs) = (first b ≡ true) × All more bs
+OneOrMore first more (b ∷ bs) = (first b ≡ true) × AllPass more bs
 
 -- "Names, sets and selections are one or more ASCII letters, digits or `_`; names and sets do not begin with a digit"
 abbrev pub Name : List ℕ → Type 0
@@ -39,13 +39,13 @@ pub data Grammar : List ℕ → Type 0 where
   named : {q : List ℕ} (p w : List ℕ) → Grammar p → Name w → q ≡ appendName p w → Grammar q
   selected : {q : List ℕ} (p s v : List ℕ) → Grammar p → p ≢ solidus ∷ [] → Name s → Selection v → q ≡ select p s v → Grammar q
 
-pub name-is-word : (w : List ℕ) → Name w → All isWordByte w
+pub name-is-word : (w : List ℕ) → Name w → AllPass isWordByte w
 name-is-word [] n = absurd n
 name-is-word (b ∷ w) n = (name-start-is-word b (n .0), n .1)
 
-pub selection-is-word : (v : List ℕ) → Selection v → All isWordByte v
+pub selection-is-word : (v : List ℕ) → Selection v → AllPass isWordByte v
 selection-is-word [] n = absurd n
-selection-is-word (b ∷ v) n = all-weaken isSelectionByte isWordByte selection-byte-is-word (b ∷ v) n
+selection-is-word (b ∷ v) n = all-pass-weaken isSelectionByte isWordByte selection-byte-is-word (b ∷ v) n
 
 -- ---- What may end is in the grammar
 
@@ -66,7 +66,7 @@ data Reading : State → List ℕ → Type 0 where
 
 one-more : (first more : ℕ → Bool) (w : List ℕ) (b : ℕ) → OneOrMore first more w → more b ≡ true → OneOrMore first more (w ++ b ∷ [])
 one-more first more [] b n e = absurd n
-one-more first more (c ∷ w) b n e = (n .0, all-append more w (b ∷ []) (n .1) (e, tt))
+one-more first more (c ∷ w) b n e = (n .0, all-pass-append more w (b ∷ []) (n .1) (e, tt))
 
 append-with : (p s w : List ℕ) → separator p ≡ s → appendName p w ≡ p ++ (s ++ w)
 unfolding appendName
@@ -132,7 +132,7 @@ may-end-grammar p e = read-grammar e (reads p)
 -- ---- What is in the grammar may end
 
 -- bytes that keep a state enter no name
-reads-on : (more : ℕ → Bool) (q : State) → ((b : ℕ) → more b ≡ true → step q b ≡ q) → (w : List ℕ) → All more w → (run q w ≡ q) × (names q w ≡ 0)
+reads-on : (more : ℕ → Bool) (q : State) → ((b : ℕ) → more b ≡ true → step q b ≡ q) → (w : List ℕ) → AllPass more w → (run q w ≡ q) × (names q w ≡ 0)
 reads-on more q h [] n = (refl, refl)
 reads-on more q h (b ∷ w) n = rw (h b (n .0), not-and-self (inName q)) (let r = reads-on more q h w (n .1) in (r .0, omega arith))
 

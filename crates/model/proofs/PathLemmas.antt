@@ -16,17 +16,17 @@ use Rattle.model.specs.Path.{solidus, openBrace, closeBrace, equalsSign,
 -- ---- Lists of bytes
 
 -- each byte passes the test
-abbrev pub All : (ℕ → Bool) → List ℕ → Type 0
-All f [] = Unit {0}
-All f (b ∷ bs) = (f b ≡ true) × All f bs
+abbrev pub AllPass : (ℕ → Bool) → List ℕ → Type 0
+AllPass f [] = Unit {0}
+AllPass f (b ∷ bs) = (f b ≡ true) × AllPass f bs
 
-pub all-append : (f : ℕ → Bool) (xs ys : List ℕ) → All f xs → All f ys → All f (xs ++ ys)
-all-append f [] ys h k = k
-all-append f (x ∷ xs) ys h k = (h .0, all-append f xs ys (h .1) k)
+pub all-pass-append : (f : ℕ → Bool) (xs ys : List ℕ) → AllPass f xs → AllPass f ys → AllPass f (xs ++ ys)
+all-pass-append f [] ys h k = k
+all-pass-append f (x ∷ xs) ys h k = (h .0, all-pass-append f xs ys (h .1) k)
 
-pub all-weaken : (f g : ℕ → Bool) → ((b : ℕ) → f b ≡ true → g b ≡ true) → (xs : List ℕ) → All f xs → All g xs
-all-weaken f g i [] h = tt
-all-weaken f g i (x ∷ xs) h = (i x (h .0), all-weaken f g i xs (h .1))
+pub all-pass-weaken : (f g : ℕ → Bool) → ((b : ℕ) → f b ≡ true → g b ≡ true) → (xs : List ℕ) → AllPass f xs → AllPass g xs
+all-pass-weaken f g i [] h = tt
+all-pass-weaken f g i (x ∷ xs) h = (i x (h .0), all-pass-weaken f g i xs (h .1))
 
 -- lists that grow at the end
 pub snoc-induction : (P : List ℕ → Type 0) → P [] → ((p : List ℕ) (b : ℕ) → P p → P (p ++ b ∷ [])) → (p : List ℕ) → P p
@@ -36,8 +36,8 @@ snoc-induction P none more p = go [] p none
     go p [] h = rw append-nil h
     go p (b ∷ bs) h = rw (← append-snoc) (go (p ++ b ∷ []) bs (more p b h))
 
-pub length-snoc : (p : List ℕ) (b : ℕ) → length (p ++ b ∷ []) ≡ suc (length p)
-length-snoc p b = simp length-append (omega arith)
+pub length-snoc {ℓ} : {A : Type ℓ} (xs : List A) (x : A) → length (xs ++ x ∷ []) ≡ suc (length xs)
+length-snoc xs x = length-append xs (x ∷ []) ∙ omega arith
 
 -- ---- The automaton
 
@@ -181,8 +181,8 @@ close-brace-marks = refl
 pub word-byte-other : (b : ℕ) → Marker b → (c : ℕ) → isWordByte c ≡ true → eqb c b ≡ false
 word-byte-other b m c e = ne-eqb c b (λ q. true≢false (sym e ∙ ap isWordByte q ∙ m))
 
-pub word-other : (b : ℕ) → Marker b → (w : List ℕ) → All isWordByte w → All (other b) w
-word-other b m = all-weaken isWordByte (other b) (λ c e. ap not (word-byte-other b m c e))
+pub word-other : (b : ℕ) → Marker b → (w : List ℕ) → AllPass isWordByte w → AllPass (other b) w
+word-other b m = all-pass-weaken isWordByte (other b) (λ c e. ap not (word-byte-other b m c e))
 
 -- ---- Searches from the end answer no more than they were given
 
@@ -282,13 +282,13 @@ module _ (p : List ℕ) (c : ℕ) where
       )
 
 -- past bytes that are not b
-pub after-last-past : (b : ℕ) (p bs : List ℕ) → All (other b) bs → afterLast b (p ++ bs) (length (p ++ bs)) ≡ afterLast b p (length p)
+pub after-last-past : (b : ℕ) (p bs : List ℕ) → AllPass (other b) bs → afterLast b (p ++ bs) (length (p ++ bs)) ≡ afterLast b p (length p)
 after-last-past b p [] h = rw append-nil
 after-last-past b p (c ∷ bs) h =
     rw (← append-snoc, after-last-past b (p ++ c ∷ []) bs (h .1), after-last-snoc p c b, not-true (eqb c b) (h .0))
 
 -- past a word
-module _ (p w : List ℕ) (h : All isWordByte w) where
+module _ (p w : List ℕ) (h : AllPass isWordByte w) where
   after-last-past-word : (b : ℕ) → Marker b → afterLast b (p ++ w) (length (p ++ w)) ≡ afterLast b p (length p)
   after-last-past-word b m = after-last-past b p w (word-other b m w h)
 
@@ -301,7 +301,7 @@ module _ (p w : List ℕ) (h : All isWordByte w) where
   name-start-past = rw (after-last-past-word solidus solidus-marks, after-last-past-word closeBrace close-brace-marks)
 
 -- back to b
-pub after-last-at : (b : ℕ) (p bs : List ℕ) → All (other b) bs → afterLast b (p ++ b ∷ bs) (length (p ++ b ∷ bs)) ≡ suc (length p)
+pub after-last-at : (b : ℕ) (p bs : List ℕ) → AllPass (other b) bs → afterLast b (p ++ b ∷ bs) (length (p ++ b ∷ bs)) ≡ suc (length p)
 after-last-at b p bs h = rw (← append-snoc, after-last-past b (p ++ b ∷ []) bs h, after-last-snoc p b b, eq-eqb b b refl)
 
 pub after-last-of-end : (b : ℕ) (p : List ℕ) (k : ℕ) → endsIn b p k ≡ true → afterLast b p k ≡ k
@@ -309,14 +309,14 @@ after-last-of-end b p zero e = refl
 after-last-of-end b p (suc k) e = rw e
 
 -- past bytes of a selection
-pub without-selections-past : (p bs : List ℕ) → All (other openBrace) bs
+pub without-selections-past : (p bs : List ℕ) → AllPass (other openBrace) bs
     → withoutSelections true (p ++ bs) (length (p ++ bs)) ≡ withoutSelections true p (length p)
 without-selections-past p [] h = rw append-nil
 without-selections-past p (c ∷ bs) h =
     rw (← append-snoc, without-selections-past (p ++ c ∷ []) bs (h .1), without-selections-snoc p c true, not-true (eqb c openBrace) (h .0))
 
 -- back over a selection
-pub without-selections-over : (p bs : List ℕ) → All (other openBrace) bs
+pub without-selections-over : (p bs : List ℕ) → AllPass (other openBrace) bs
     → withoutSelections false (p ++ openBrace ∷ bs ++ closeBrace ∷ []) (length (p ++ openBrace ∷ bs ++ closeBrace ∷ []))
     ≡ withoutSelections false p (length p)
 without-selections-over p bs h =

@@ -8,7 +8,7 @@ use native.Mathlib.Omega.{arith}
 use lib.ListN.{length, take, length-append}
 use lib.Seq.{take-append-seam, take-append-le}
 use Rattle.model.specs.Path.{solidus, openBrace, closeBrace, equalsSign, start, root, name, closed, run, mayEnd, afterLast, endsIn, beforeName, nameStart, separator, appendName, withoutSelections, introStep}
-use Rattle.model.proofs.PathLemmas.{All, all-append, length-snoc, may-end-not-empty, Ended, at-root, at-name, at-closed, ended, other, open-brace-marks, word-other, same-below-append, before-name-local, without-selections-le, after-last-le, after-last-snoc, after-last-at, after-last-of-end, before-name-past, name-start-past, ends-in-snoc, without-selections-over, without-selections-none, state-ending, separator-root, separator-name, separator-closed}
+use Rattle.model.proofs.PathLemmas.{AllPass, all-pass-append, length-snoc, may-end-not-empty, Ended, at-root, at-name, at-closed, ended, other, open-brace-marks, word-other, same-below-append, before-name-local, without-selections-le, after-last-le, after-last-snoc, after-last-at, after-last-of-end, before-name-past, name-start-past, ends-in-snoc, without-selections-over, without-selections-none, state-ending, separator-root, separator-name, separator-closed}
 use Rattle.model.proofs.PathGrammar.{Name, Selection, select, name-is-word, selection-is-word, append-runs}
 
 -- ---- A name appended
@@ -86,9 +86,9 @@ module _ (p s v : List ℕ) where
       (omega (arith, after-last-le (select p s v) solidus (length (select p s v))))
 
 module _ (p s v : List ℕ) (m : Name s) (n : Selection v) where
-  inner-other : All (other openBrace) (inner s v)
+  inner-other : AllPass (other openBrace) (inner s v)
   inner-other =
-      all-append (other openBrace) s (equalsSign ∷ v) (word-other openBrace open-brace-marks s (name-is-word s m))
+      all-pass-append (other openBrace) s (equalsSign ∷ v) (word-other openBrace open-brace-marks s (name-is-word s m))
       (refl, word-other openBrace open-brace-marks v (selection-is-word v n))
 
   pub select-opens : afterLast openBrace (select p s v) (length (select p s v)) ≡ suc (length p)

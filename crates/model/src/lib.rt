@@ -1,7 +1,38 @@
-// The types that every crate shares. What they mean is in specs/: Refusals.antt gives each refusal its number, Path.antt says
-// what the answers about a path are.
+// The types that every crate shares. What they mean is in specs/: Refusals.antt gives each refusal its number, Answers.antt each answer its
+// refusal and its value, Path.antt says what the answers about a path are.
 ghost use mathlib.Core.Path.{_≡_};
+ghost use mathlib.Core.Bool.{not};
+ghost use lib.Dec.{eqb};
+ghost use Rattle.model.specs.Node.{invalid};
 ghost use Rattle.model.specs.Refusals.{refusalNumber};
+
+// A node's number.
+pub struct NodeId(pub u32);
+
+impl NodeId {
+    // No node: a missing parent or origin.
+    pub const INVALID: NodeId = NodeId(4294967295);
+
+    pub fn new(number: u32) -> NodeId
+        ensures { λ r. ⌜ r .0 ≡ number ⌝ }
+    {
+        NodeId(number)
+    }
+
+    // Whether it is a node's number at all.
+    pub fn is_valid(self) -> bool
+        ensures { λ r. ⌜ r ≡ not (eqb (self .0) invalid) ⌝ }
+    {
+        self.0 != 4294967295
+    }
+}
+
+// Which of two nodes is the stronger: the first (Less), the second (Greater), or one node twice.
+pub enum Ordering {
+    Less,
+    Equal,
+    Greater,
+}
 
 // Why a call was refused: the first of document 01's twelve questions whose answer is no.
 pub enum Refusal {
@@ -50,5 +81,23 @@ pub enum PrimCount {
 // What appending a child's name answers: the length of the new path, or the refusal.
 pub enum Appended {
     Length(usize),
+    Refused(Refusal),
+}
+
+// The answer of a call that gives a number: a node's, a count, a depth.
+pub enum Numbered {
+    Number(u32),
+    Refused(Refusal),
+}
+
+// The answer of a comparison.
+pub enum Compared {
+    As(Ordering),
+    Refused(Refusal),
+}
+
+// The answer of a call that gives nothing.
+pub enum Finished {
+    Done,
     Refused(Refusal),
 }

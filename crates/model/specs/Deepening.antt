@@ -1,0 +1,40 @@
+-- Document 01, "Node and site" and "Order": appending a child name to every site. Seeding does the same into a second room.
+use mathlib.Core.Bool.{Bool, true, false, _&&_, cond}
+use mathlib.Core.List.{List, [], _∷_, map}
+use Prim.Native.Nat.{ℕ, _+_}
+use lib.Dec.{leb}
+use lib.ListN.{length}
+use Rattle.model.specs.Path.{lastName, appendName}
+use Rattle.model.specs.Node.{Node}
+use Rattle.model.specs.Graph.{Graph}
+
+abbrev pub deepened : List ℕ → Node → Node
+deepened name x = record {
+  arc = x .arc;
+  flags = x .flags;
+  stack = x .stack;
+  layer = x .layer;
+  parent = x .parent;
+  origin = x .origin;
+  depth = x .depth;
+  sibling = x .sibling;
+  restriction = x .restriction;
+  specFrom = x .specFrom;
+  hasSpecs = x .hasSpecs;
+  path = appendName (x .path) name;
+}
+
+-- "Deepening, and seeding in the room it fills, keeps both if finalized, else clears ordered"
+unfoldable pub deepen : List ℕ → Graph → Graph
+deepen name g = record {
+  nodes = map (deepened name) (g .nodes);
+  children = g .children;
+  order = cond (g .finalized) (g .order) [];
+  ordered = g .ordered && g .finalized;
+  finalized = g .finalized;
+  shallow = g .shallow;
+}
+
+-- "append the last name of a path that must end in a name"
+abbrev pub appendChildNameToAllSites : List ℕ → Graph → Graph
+appendChildNameToAllSites child g = deepen (lastName child) g
