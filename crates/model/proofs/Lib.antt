@@ -31,6 +31,8 @@ pub mod DeepenLaws
 pub mod AddLaws
 pub mod GraphExamples
 pub mod BigEndianLaws
+pub mod StoredLaws
 pub mod SnapshotLaws
 pub mod SnapshotReadLaws
 pub mod SnapshotExamples
+pub mod ArenaExamples

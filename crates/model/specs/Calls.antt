@@ -1,22 +1,19 @@
 -- Each call of document 01 as one function, from its arguments and the graph to its refusal, its value and the graph. Refused, the value is 0 (or
 -- nothing) and the graph is as it was. Questions 1 and 2 are about lent bytes, and come before these.
-use mathlib.Core.Bool.{Bool, true, false, not, _||_, _&&_, cond}
+use mathlib.Core.Bool.{Bool, true, not, _||_, _&&_, cond}
 use mathlib.Core.Option.{Option, none, some}
-use mathlib.Core.List.{List, [], _∷_, map}
-use Prim.Native.Nat.{ℕ, zero, suc, _+_}
+use mathlib.Core.List.{List, [], _∷_}
+use Prim.Native.Nat.{ℕ, zero, suc}
 use lib.Dec.{eqb, ltb, leb}
 use lib.ListN.{length}
-use Rattle.model.specs.declared.Ordering.{Ordering}
-use Rattle.model.specs.declared.Ordering.the-variants.{Equal}
-use Rattle.model.specs.Path.{wellFormed, primCount, lastName, endsInName, appendName}
+use Rattle.model.specs.Path.{wellFormed, primCount, endsInName}
 use Rattle.model.specs.Node.{invalid, rootArc, inertFlag, Node}
-use Rattle.model.specs.Graph.{Graph, emptyGraph, size, nodeAt, withNode, depthBelowIntroduction, pathAtIntroduction, nodeUsingSite}
-use Rattle.model.specs.Strength.{view, compareNodeStrength, compareSiblingNodeStrength}
+use Rattle.model.specs.Graph.{Graph, emptyGraph, size, nodeAt, withNode}
 use Rattle.model.specs.Order.{hasOrder, ordering}
 use Rattle.model.specs.Culling.{cullSubtreesWithoutOpinions}
-use Rattle.model.specs.Erasing.{stays, erasable, canErase, newNumber, erase}
-use Rattle.model.specs.Deepening.{deepen, appendChildNameToAllSites}
-use Rattle.model.specs.Snapshot.{writeSnapshot, readSnapshot}
+use Rattle.model.specs.Erasing.{stays, canErase, newNumber, erase}
+use Rattle.model.specs.Deepening.{appendChildNameToAllSites}
+use Rattle.model.specs.Snapshot.{readSnapshot}
 use Rattle.model.specs.Refusals.{Question, ask, refusal, mostPathBytes, pathBytes, hasRoom, addedKind, recordQuestions}
 
 -- ---- What a call that writes a graph comes to

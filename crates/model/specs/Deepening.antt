@@ -1,9 +1,7 @@
 -- Document 01, "Node and site" and "Order": appending a child name to every site. Seeding does the same into a second room.
-use mathlib.Core.Bool.{Bool, true, false, _&&_, cond}
-use mathlib.Core.List.{List, [], _∷_, map}
-use Prim.Native.Nat.{ℕ, _+_}
-use lib.Dec.{leb}
-use lib.ListN.{length}
+use mathlib.Core.Bool.{_&&_, cond}
+use mathlib.Core.List.{List, [], map}
+use Prim.Native.Nat.{ℕ}
 use Rattle.model.specs.Path.{lastName, appendName}
 use Rattle.model.specs.Node.{Node}
 use Rattle.model.specs.Graph.{Graph}

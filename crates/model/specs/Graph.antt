@@ -1,12 +1,12 @@
 -- Document 01, "Node and site": the graph that the nodes make, a node more, and what is asked of one node.
-use mathlib.Core.Bool.{Bool, true, false, not, _||_, _&&_, cond}
+use mathlib.Core.Bool.{Bool, false, not, _||_, _&&_, cond}
 use mathlib.Core.List.{List, [], _∷_, _++_}
-use Prim.Native.Nat.{ℕ, zero, suc, _+_, _-_}
+use Prim.Native.Nat.{ℕ, suc, _+_, _-_}
 use lib.Dec.{eqb, ltb}
 use lib.ListN.{length, getD, set}
 use Rattle.model.specs.Lists.{anyBelow}
 use Rattle.model.specs.Path.{primCount, samePath, pathAtIntroDepth}
-use Rattle.model.specs.Node.{invalid, rootArc, Node, noNode, isInert, isCulled, sameSite, hasSpecializes}
+use Rattle.model.specs.Node.{invalid, rootArc, Node, noNode, isInert, isCulled}
 
 -- The nodes, "numbered from 0 in order of adding"; each node's children, in chain order; the order, empty unless the graph is ordered; and
 -- the marks ordered, finalized and shallow.

@@ -1,5 +1,6 @@
 -- What a reader must believe: the definitions of document 01, a file for each of its sections.
 pub mod Path
+pub mod Bytes
 pub mod Lists
 pub mod Node
 pub mod Graph
@@ -13,3 +14,4 @@ pub mod Listing
 pub mod Refusals
 pub mod Answers
 pub mod Calls
+pub mod Arena

@@ -1,8 +1,8 @@
 -- Document 01, "The twelve questions": the number of each refusal, and the tests on nodes and graphs that the questions put. Questions 1 and 2
 -- are about lent bytes; 8 to 12 stand with their definitions (Order, Erasing, Snapshot) and in Calls.antt.
-use mathlib.Core.Bool.{Bool, true, false, not, _||_, _&&_, cond}
+use mathlib.Core.Bool.{Bool, not, _||_, _&&_, cond}
 use mathlib.Core.List.{List, [], _∷_}
-use Prim.Native.Nat.{ℕ, zero, suc, _+_}
+use Prim.Native.Nat.{ℕ, _+_}
 use lib.Dec.{eqb, ltb, leb}
 use lib.ListN.{length}
 use Rattle.model.specs.Path.{wellFormed}

@@ -1,11 +1,11 @@
 -- Document 01, "Snapshot": how a graph is written as bytes, and how bytes are read as records (question 12). The questions that each record
 -- is put are in Refusals.antt.
-use mathlib.Core.Bool.{Bool, true, false, _&&_, cond}
+use mathlib.Core.Bool.{Bool, _&&_, cond}
 use mathlib.Core.Option.{Option, none, some}
 use mathlib.Core.List.{List, [], _∷_, _++_}
 use Prim.Native.Nat.{ℕ, zero, suc, _+_, _*_, _/_, _%_, _^_}
 use lib.Dec.{eqb, leb}
-use lib.ListN.{length, take, drop, getD}
+use lib.ListN.{length, take, drop}
 use Rattle.model.specs.Node.{Node}
 use Rattle.model.specs.Graph.{Graph, size}
 

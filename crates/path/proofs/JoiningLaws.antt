@@ -1,13 +1,12 @@
 -- Appending a name: where it starts, the bytes written, and the questions in their order. Assumes nothing.
 use mathlib.Core.Path.{_≡_, refl, sym, ap, _∙_}
 use mathlib.Core.Bool.{Bool, true, false, _||_, _&&_, cond, and-eq-true-iff}
-use mathlib.Core.List.{List, [], _∷_, _++_, append-assoc, append-nil}
+use mathlib.Core.List.{List, [], _∷_, _++_, append-assoc}
 use Prim.Native.Nat.{ℕ, suc, _+_, _-_, _≤_, _<_}
 use native.Mathlib.Omega.{arith}
 use borrow.Author.Tests.{ltb-true, lt-ltb, le-ltb, eq-eqb, ne-eqb}
-use borrow.Rule.Slice.PartMut.{putMid}
-use lib.ListN.{length, take, drop, set, length-append, length-drop, drop-of-length-le}
-use lib.Seq.{take-all, take-length, drop-cons, drop-drop, set-append-seam, take-append-add, drop-append-add, drop-set-lt}
+use lib.ListN.{length, take, drop, set, length-append, length-drop}
+use lib.Seq.{drop-cons, drop-drop, set-append-seam, take-append-add, drop-append-add, drop-set-lt}
 use Rattle.model.specs.declared.Refusal.the-variants.{Size, Path, Capacity}
 use Rattle.model.specs.declared.Appended.the-variants.{Length, Refused}
 use Rattle.model.specs.Path.{solidus, closeBrace, endsIn, wellFormed, nameStart, lastName, endsInName, separator, appendName, appendChildName}
@@ -35,20 +34,6 @@ unfolding appendName
 length-append-name p w = omega (arith, length-append p (separator p ++ w), length-append (separator p) w)
 
 -- ---- The bytes
-
--- what a part written from `at` on makes of the whole
-pub put-part : (at : ℕ) (o src : List ℕ) → at + length src ≤ length o
-    → putMid at (length o - at) o (take (length src) src ++ drop (length src) (take (length o - at) (drop at o)))
-    ≡ take at o ++ (src ++ drop (at + length src) o)
-put-part at o src h =
-    let whole : length (drop at o) ≤ length o - at = omega (arith, length-drop at o) in
-    rw (
-      take-length src,
-      take-all (length o - at) (drop at o) whole,
-      drop-of-length-le (drop at o) whole,
-      append-nil (src ++ drop (length src) (drop at o)),
-      drop-drop (length src) at o,
-    )
 
 put-slash : (p o : List ℕ) → length p < length o → set (p ++ drop (length p) o) (length p) solidus ≡ p ++ (solidus ∷ drop (suc (length p)) o)
 put-slash p o h =

@@ -4,7 +4,7 @@ ghost use mathlib.Core.Path.{_≡_};
 ghost use mathlib.Core.Bool.{_&&_};
 ghost use mathlib.Core.List.{_++_};
 ghost use Prim.Native.Nat.{_+_, _<_, _≤_};
-ghost use lib.ListN.{length, take, drop};
+ghost use lib.ListN.{length, drop};
 ghost use Rattle.model.specs.Path.{wellFormed, endsInName, separator, appendName};
 
 // Whether both are paths and the child's ends in a name.
@@ -35,20 +35,12 @@ pub(crate) fn joint(path: &[u8]) -> usize
     end + 1
 }
 
-// Writes `src` into `out` from `at` on.
-fn put_at(src: &[u8], at: usize, out: &mut [u8])
-    requires { ⌜ at + length (now src) ≤ length (now out) ⌝ }
-    ensures { λ _. ⌜ now (out .exit) ≡ take at (now (out .entry)) ++ (now (src .entry) ++ drop (at + length (now (src .entry))) (now (out .entry))) ⌝ }
-{
-    bytes::copy(src, &mut out[at..]);
-}
-
 // Writes the path with the name appended, which starts at `at`. The slash is written where the name may come over it.
 pub(crate) fn put_joined(path: &[u8], name: &[u8], at: usize, out: &mut [u8])
     requires { ⌜ (at ≡ length (now path) + length (separator (now path))) × (0 < length (now name)) × (at + length (now name) ≤ length (now out)) ⌝ }
     ensures { λ _. ⌜ now (out .exit) ≡ appendName (now (path .entry)) (now (name .entry)) ++ drop (at + length (now (name .entry))) (now (out .entry)) ⌝ }
 {
-    put_at(path, 0, out);
+    big_endian::write_bytes(out, 0, path);
     out[path.len()] = b'/';
-    put_at(name, at, out);
+    big_endian::write_bytes(out, at, name);
 }
