@@ -1,4 +1,4 @@
--- What follows from the definitions. Paths; the examples; lists, trees and walks; strength; order; culling and erasing; deepening and adding; snapshots.
+-- What follows from the definitions. Paths; the examples; lists, trees and walks; strength; order; culling and erasing; deepening and adding; snapshots; what every list of calls keeps, and demand 3.
 pub mod Text
 pub mod PathLemmas
 pub mod PathGrammar
@@ -36,3 +36,12 @@ pub mod SnapshotLaws
 pub mod SnapshotReadLaws
 pub mod SnapshotExamples
 pub mod ArenaExamples
+pub mod LegalGraphs
+pub mod AcceptedQuestions
+pub mod LegalAdded
+pub mod LegalAlike
+pub mod LegalErased
+pub mod CallsKeepLegal
+pub mod Demand3
+pub mod Demand3Proof
+pub mod Demand3Examples

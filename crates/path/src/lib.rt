@@ -8,7 +8,7 @@ use model::Appended;
 use model::PrimCount;
 use model::Refusal;
 ghost use mathlib.Core.Path.{_≡_};
-ghost use Prim.Native.Nat.{ℕ, _<_, _≤_};
+ghost use Prim.Native.Nat.{_<_};
 ghost use Rattle.model.specs.Path.{wellFormed, countPrims, parent, lastName, appendChildName, written, pathAtIntroDepth, samePath};
 
 // How many names the path has, or that the bytes are no path.

@@ -3,8 +3,8 @@
 use model::PrimCount;
 ghost use mathlib.Core.Path.{_≡_};
 ghost use mathlib.Core.Bool.{true, false};
-ghost use Prim.Native.Nat.{ℕ, _+_, _<_, _≤_};
-ghost use lib.ListN.{length, getD, drop};
+ghost use Prim.Native.Nat.{_+_, _<_, _≤_};
+ghost use lib.ListN.{length, drop};
 ghost use Rattle.model.specs.Path.{start, slash, name, between, isNameStart, isWordByte, isSelectionByte};
 ghost use Rattle.path_scan.specs.Reading.{Run, Stops, NameRead, SelectionRead, ElementRead, reading, standing, beginsName, standsAt, asName, asSelection};
 
