@@ -40,7 +40,8 @@ pub record Table : Type 0 where
   pub node-number : siblings siblingNumbers 3 4 ≡ Less
   pub once-replaced : siblings replacedOnce 4 6 ≡ Less
   pub shallow-ordered : (from (shallow ++ orders ∷ []) .ordered ≡ true) × (from (shallow ++ orders ∷ []) .finalized ≡ false)
-  pub shallow-deepened : from (shallow ++ orders ∷ deepening (bytes "/b") ∷ []) .ordered ≡ false
+  pub shallow-deepened : (from (shallow ++ orders ∷ deepening (bytes "/b") ∷ []) .ordered ≡ false)
+      × (from (shallow ++ deepening (bytes "/b") ∷ []) .shallow ≡ true)
   pub finalized-deepened : from (four ++ orders ∷ deepening (bytes "/b") ∷ []) .ordered ≡ true
   pub adding-clears : from (four ++ orders ∷ plain 1 4 "/Q" ∷ []) .ordered ≡ false
 
@@ -71,7 +72,7 @@ table = record {
   node-number = refl;
   once-replaced = refl;
   shallow-ordered = (refl, refl);
-  shallow-deepened = refl;
+  shallow-deepened = (refl, refl);
   finalized-deepened = refl;
   adding-clears = refl;
 }
