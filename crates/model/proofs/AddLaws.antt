@@ -1,17 +1,17 @@
 -- Adding a node: links stay lower, and unless it is a local root a comparison of the nodes before it cannot tell (`add-looks-like`): a late
 -- addition moves nobody. What is then read of each node, and its child lists, are in Trees.antt (`node-old`, `node-new`, `children-here`).
 -- Assumes nothing.
-use mathlib.Core.Path.{_≡_, refl, ap, ap₂}
+use mathlib.Core.Path.{_≡_, refl, ap₂}
 use mathlib.Core.Logic.{_≢_}
 use mathlib.Core.Bool.{Bool, true, false, and-false}
 use Prim.Native.Nat.{ℕ, _<_}
 use native.Mathlib.Omega.{arith}
 use lib.Dec.{eqb, ltb}
 use borrow.Author.Tests.{eqb-true, eqb-false, ne-eqb, ltb-true}
-use Rattle.model.specs.Node.{rootArc, Node, hasSpecializes, sameSite}
+use Rattle.model.specs.Node.{rootArc, Node, sameSite}
 use Rattle.model.specs.Graph.{Graph, size, nodeAt, withNode, depthBelowIntroduction, isLocalRoot, inLocalStack}
 use Rattle.model.specs.Strength.{view}
-use Rattle.model.proofs.Views.{LegalView, LooksLike}
+use Rattle.model.proofs.Views.{LegalView, LooksLike, SameButPaths, local-root-same, same-but-paths-looks-like}
 use Rattle.model.proofs.Trees.{size-with-node, node-old, node-new}
 use Rattle.model.proofs.ListLaws.{any-below-cong}
 use Rattle.model.proofs.EraseLists.{behind-tests}
@@ -58,9 +58,8 @@ module _ (g : Graph) (x : Node) (legal : LegalView (size g) (view (g .nodes))) w
   same-depth-below-added a b l m =
       behind-tests (ltb 0 a) (ltb 0 b) _ _ (λ p q. ap₂ eqb (depth-below-added a (ltb-true 0 a p) l) (depth-below-added b (ltb-true 0 b q) m))
 
-  local-root-added : (n : ℕ) → n < size g → isLocalRoot (withNode g x .nodes) n ≡ isLocalRoot (g .nodes) n
-  unfolding isLocalRoot
-  local-root-added n h = rw (node-old g x n h)
+  same-added : SameButPaths (size g) (g .nodes) (withNode g x .nodes)
+  same-added = record { path = λ c. nodeAt (g .nodes) c .path; same = node-old g x }
 
   module _ (d : x .arc ≢ rootArc) where
     new-no-local-root : isLocalRoot (withNode g x .nodes) (size g) ≡ false
@@ -71,25 +70,8 @@ module _ (g : Graph) (x : Node) (legal : LegalView (size g) (view (g .nodes))) w
     unfolding inLocalStack
     local-stack-added n h =
         rw (size-with-node g x, new-no-local-root)
-        (any-below-cong _ _ (size g) (λ i l. rw (local-root-added i l, node-old g x i l, node-old g x n h)))
+        (any-below-cong _ _ (size g) (λ i l. rw (local-root-same (size g) (g .nodes) (withNode g x .nodes) same-added i l, node-old g x i l, node-old g x n h)))
 
     pub add-looks-like : LooksLike (size g) (λ n. true) (λ n. n) (view (g .nodes)) (view (withNode g x .nodes))
-    add-looks-like = record {
-      root-kept = refl;
-      root-stays = refl;
-      same-number = λ a b k j. refl;
-      same-sequence = λ a b k j. refl;
-      parent-kept = λ c h l k. refl;
-      origin-kept = λ c h l k. refl;
-      parents = λ c h l k. ap (λ (y : Node). y .parent) (node-old g x c l);
-      origins = λ c h l k. ap (λ (y : Node). y .origin) (node-old g x c l);
-      ranks = λ a l k. ap (λ (y : Node). y .arc) (node-old g x a l);
-      arcs = λ a l k. ap (λ (y : Node). y .arc) (node-old g x a l);
-      specials = λ a l k. ap hasSpecializes (node-old g x a l);
-      depths = λ a l k. ap (λ (y : Node). y .depth) (node-old g x a l);
-      siblings = λ a l k. ap (λ (y : Node). y .sibling) (node-old g x a l);
-      sites = λ a b l m k j. same-site-added a b l m;
-      depths-below = λ a b l m k j. same-depth-below-added a b l m;
-      local-roots = λ a l k. local-root-added a l;
-      local-stacks = λ a l k. local-stack-added a l;
-    }
+    add-looks-like =
+        same-but-paths-looks-like (size g) (g .nodes) (withNode g x .nodes) same-added same-site-added same-depth-below-added local-stack-added

@@ -19,6 +19,7 @@ use Rattle.model.specs.Culling.{keepsInherit, canCull, cullDown, cullSub
 use Rattle.model.specs.Erasing.{stays, erasable, canErase}
 use Rattle.model.specs.Calls.{Call, starting, adding, calls, initRoot, addChild}
 use Rattle.model.proofs.Text.{bytes}
+use Rattle.model.proofs.ExampleGraphs.{sampleNode}
 use Rattle.model.proofs.Views.{LegalView}
 use Rattle.model.proofs.ErasableLaws.{Reached, unmarked, as-origin, Spared, erasable-not-reached, erasable-largest}
 use Rattle.model.proofs.CullingLaws.{ChildrenFirst, cullAlong, cull-along-is-cull-down, Decided, culling-decides}
@@ -27,20 +28,7 @@ use Rattle.model.proofs.ListLaws.{all-below}
 use Rattle.model.proofs.EraseSets.{can-erase-iff, erasable-accepted}
 
 abbrev node : ℕ → ℕ → ℕ → ℕ → ℕ → ℕ → String → Node
-node arc flags parent origin depth hasSpecs path = record {
-  arc = arc;
-  flags = flags;
-  stack = 0;
-  layer = 0;
-  parent = parent;
-  origin = origin;
-  depth = depth;
-  sibling = 0;
-  restriction = 0;
-  specFrom = 0;
-  hasSpecs = hasSpecs;
-  path = bytes path;
-}
+node arc flags parent origin depth hasSpecs path = sampleNode parent arc flags 0 origin depth 0 hasSpecs (bytes path)
 
 -- 3 has specs, and 2 for its origin; 2, 4 and 5 have none, with flags f; 5 is a child of 4
 abbrev sample : ℕ → Graph

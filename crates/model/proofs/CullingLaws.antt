@@ -12,11 +12,12 @@ use lib.Seq.{getD-set-same, getD-set-other, set-out, ext-getD}
 use borrow.Author.Tests.{eqb-true, eqb-false, eq-eqb, ne-eqb, ltb-true, ltb-false}
 use Rattle.model.specs.Lists.{All, Pairs, bit, count, every, anyBelow}
 use Rattle.model.specs.Path.{primCount, pathAtIntroDepth, samePath}
-use Rattle.model.specs.Node.{rootArc, inheritArc, culledFlag, Node, noNode, hasFlag, isInert, isCulled, sameSite}
+use Rattle.model.specs.Node.{rootArc, inheritArc, culledFlag, Node, noNode, hasFlag, isInert, isCulled, sameSite, changed}
 use Rattle.model.specs.Graph.{Graph, size, nodeAt, childrenOf, depthBelowIntroduction, pathAtIntroduction, isLocalRoot, hasLocalRoot, inLocalStack}
 use Rattle.model.specs.Strength.{View, view, isAuthored, originRootNode}
 use Rattle.model.specs.Culling.{introducer, keepsInherit, canCull, culled, cullOne, cullDown, cullSubtreesWithoutOpinions}
 use Rattle.model.proofs.Views.{LooksLike}
+use Rattle.model.proofs.StrengthLaws.{looks-like-itself}
 
 -- ---- One node
 
@@ -53,10 +54,13 @@ other-flags f (suc (suc j)) e h =
 culled-again : (x : Node) → isCulled x ≡ true → culled x ≡ x
 culled-again x e = rw e
 
-culled-only : (x : Node) → (x .arc ≡ rootArc → isCulled x ≡ true) → OnlyCulled x (culled x)
-culled-only x root = record {
+-- other flags alone
+flags-alone : (x : Node) (f : ℕ) → let y = changed f (x .parent) (x .origin) (x .path) x in
+    ((i : ℕ) → (i ≡ 1 → ⊥) → hasFlag (2 ^ i) f ≡ hasFlag (2 ^ i) (x .flags)) → (isCulled x ≡ true → y ≡ x) → (x .arc ≡ rootArc → y ≡ x)
+    → OnlyCulled x y
+flags-alone x f flags culled-stays root-stays = record {
   arc = refl;
-  flags = λ i h. go i h (isCulled x) refl;
+  flags = flags;
   stack = refl;
   layer = refl;
   parent = refl;
@@ -67,9 +71,12 @@ culled-only x root = record {
   spec-from = refl;
   has-specs = refl;
   path = refl;
-  culled-stays = culled-again x;
-  root-stays = λ e. culled-again x (root e);
+  culled-stays = culled-stays;
+  root-stays = root-stays;
 }
+
+culled-only : (x : Node) → (x .arc ≡ rootArc → isCulled x ≡ true) → OnlyCulled x (culled x)
+culled-only x root = flags-alone x _ (λ i h. go i h (isCulled x) refl) (culled-again x) (λ e. culled-again x (root e))
   where
     go : (i : ℕ) → (i ≡ 1 → ⊥) → (b : Bool) → isCulled x ≡ b
         → hasFlag (2 ^ i) (cond b (x .flags) (x .flags + culledFlag)) ≡ hasFlag (2 ^ i) (x .flags)
@@ -77,22 +84,7 @@ culled-only x root = record {
     go i h false e = other-flags (x .flags) i e h
 
 unchanged : (x : Node) → OnlyCulled x x
-unchanged x = record {
-  arc = refl;
-  flags = λ i h. refl;
-  stack = refl;
-  layer = refl;
-  parent = refl;
-  origin = refl;
-  depth = refl;
-  sibling = refl;
-  restriction = refl;
-  spec-from = refl;
-  has-specs = refl;
-  path = refl;
-  culled-stays = λ e. refl;
-  root-stays = λ e. refl;
-}
+unchanged x = flags-alone x (x .flags) (λ i h. refl) (λ e. refl) (λ e. refl)
 
 then-only-culled : (x y z : Node) → OnlyCulled x y → OnlyCulled y z → OnlyCulled x z
 then-only-culled x y z p q = record {
@@ -229,27 +221,6 @@ culling-only-culls g = go (hasLocalRoot (g .nodes))
 -- what the comparison reads stays
 pub culling-keeps-view : (g : Graph) → view (cullSubtreesWithoutOpinions g .nodes) ≡ view (g .nodes)
 culling-keeps-view g = view-kept (g .nodes) (cullSubtreesWithoutOpinions g .nodes) (culling-only-culls g)
-
-looks-like-itself : (n : ℕ) (u : View) → LooksLike n (λ m. true) (λ m. m) u u
-looks-like-itself n u = record {
-  root-kept = refl;
-  root-stays = refl;
-  same-number = λ a b e f. refl;
-  same-sequence = λ a b e f. refl;
-  parent-kept = λ c p q e. refl;
-  origin-kept = λ c p q e. refl;
-  parents = λ c p q e. refl;
-  origins = λ c p q e. refl;
-  ranks = λ a p e. refl;
-  arcs = λ a p e. refl;
-  specials = λ a p e. refl;
-  depths = λ a p e. refl;
-  siblings = λ a p e. refl;
-  sites = λ a b p q e f. refl;
-  depths-below = λ a b p q e f. refl;
-  local-roots = λ a p e. refl;
-  local-stacks = λ a p e. refl;
-}
 
 -- so the comparison cannot tell
 pub culled-looks-like : (g : Graph)

@@ -12,11 +12,11 @@ use lib.Dec.{eqb, ltb, eqb·suc-suc}
 use lib.ListN.{length-map}
 use borrow.Author.Tests.{ne-eqb, ltb-true}
 use Rattle.model.specs.Path.{start, run, mayEnd, primCount, appendName, samePath}
-use Rattle.model.specs.Node.{Node, noNode, hasSpecializes, sameSite}
-use Rattle.model.specs.Graph.{Graph, size, nodeAt, depthBelowIntroduction, isLocalRoot, inLocalStack}
+use Rattle.model.specs.Node.{Node, noNode, sameSite}
+use Rattle.model.specs.Graph.{Graph, size, nodeAt, depthBelowIntroduction, inLocalStack}
 use Rattle.model.specs.Strength.{view}
 use Rattle.model.specs.Deepening.{deepened, deepen}
-use Rattle.model.proofs.Views.{LegalView, LooksLike}
+use Rattle.model.proofs.Views.{LegalView, LooksLike, SameButPaths, local-root-same, same-but-paths-looks-like}
 use Rattle.model.proofs.PathGrammar.{Name, append-runs}
 use Rattle.model.proofs.PathLaws.{append-prim-count, append-injective, same-path-equal, equal-same-path}
 use Rattle.model.proofs.Trees.{TreeOf}
@@ -128,33 +128,22 @@ module _ (name : List ℕ) (is-name : Name name) (g : Graph) (legal : LegalView 
       ap₂ eqb (depth-below-deepened a (ltb-true 0 a p) l) (depth-below-deepened b (ltb-true 0 b q) m)
       ∙ both-more (depthBelowIntroduction (g .nodes) a) (depthBelowIntroduction (g .nodes) b))
 
-  local-root-deepened : (n : ℕ) → n < size g → isLocalRoot (deepen name g .nodes) n ≡ isLocalRoot (g .nodes) n
-  unfolding isLocalRoot
-  local-root-deepened n h = rw (node-deepened name g n h)
+  same-deepened : SameButPaths (size g) (g .nodes) (deepen name g .nodes)
+  same-deepened = record { path = λ c. appendName (nodeAt (g .nodes) c .path) name; same = node-deepened name g }
 
   local-stack-deepened : (n : ℕ) → n < size g → inLocalStack (deepen name g .nodes) n ≡ inLocalStack (g .nodes) n
   unfolding inLocalStack
   local-stack-deepened n h =
       rw (size-deepened name g)
-      (any-below-cong _ _ (size g) (λ i l. rw (local-root-deepened i l, node-deepened name g i l, node-deepened name g n h)))
+      (any-below-cong _ _ (size g) (λ i l. rw (local-root-same (size g) (g .nodes) (deepen name g .nodes) same-deepened i l, node-deepened name g i l, node-deepened name g n h)))
 
   pub deepen-looks-like : LooksLike (size g) (λ n. true) (λ n. n) (view (g .nodes)) (view (deepen name g .nodes))
-  deepen-looks-like = record {
-    root-kept = refl;
-    root-stays = refl;
-    same-number = λ a b k j. refl;
-    same-sequence = λ a b k j. refl;
-    parent-kept = λ c h l k. refl;
-    origin-kept = λ c h l k. refl;
-    parents = λ c h l k. ap (λ (x : Node). x .parent) (node-deepened name g c l);
-    origins = λ c h l k. ap (λ (x : Node). x .origin) (node-deepened name g c l);
-    ranks = λ a l k. ap (λ (x : Node). x .arc) (node-deepened name g a l);
-    arcs = λ a l k. ap (λ (x : Node). x .arc) (node-deepened name g a l);
-    specials = λ a l k. ap hasSpecializes (node-deepened name g a l);
-    depths = λ a l k. ap (λ (x : Node). x .depth) (node-deepened name g a l);
-    siblings = λ a l k. ap (λ (x : Node). x .sibling) (node-deepened name g a l);
-    sites = λ a b l m k j. same-site-deepened a b l m;
-    depths-below = λ a b l m k j. same-depth-below-deepened a b l m;
-    local-roots = λ a l k. local-root-deepened a l;
-    local-stacks = λ a l k. local-stack-deepened a l;
-  }
+  deepen-looks-like =
+      same-but-paths-looks-like
+      (size g)
+      (g .nodes)
+      (deepen name g .nodes)
+      same-deepened
+      same-site-deepened
+      same-depth-below-deepened
+      local-stack-deepened

@@ -18,28 +18,13 @@ use Rattle.model.specs.Deepening.{deepen}
 use Rattle.model.specs.Snapshot.{recordBody, writeSnapshot, readRecord, readRecords, readSnapshot}
 use Rattle.model.specs.Calls.{Call, starting, adding, orders, culls, deepening, calls, initRoot, addChild, finalizeStrengthOrder, cull, eraseSet, appendChildName, seedChild, readInto}
 use Rattle.model.proofs.Text.{bytes}
+use Rattle.model.proofs.ExampleGraphs.{sampleNode}
 use Rattle.model.proofs.Demand3.{Listed, kept, rest, Erased, Deepened, Demand3, empty, read, seeded}
 use Rattle.model.proofs.Demand3Proof.{demand3}
 
 -- a node of stack 0 without flags, with its parent for origin
 abbrev add : ℕ → ℕ → ℕ → Option ℕ → String → Call
-add parent arc hasSpecs depth path = adding (record {
-  fields = record {
-    arc = arc;
-    flags = 0;
-    stack = 0;
-    layer = 0;
-    parent = parent;
-    origin = invalid;
-    depth = 0;
-    sibling = 0;
-    restriction = 0;
-    specFrom = 0;
-    hasSpecs = hasSpecs;
-    path = bytes path;
-  };
-  depth = depth;
-})
+add parent arc hasSpecs depth path = adding (record { fields = sampleNode parent arc 0 0 invalid 0 0 hasSpecs (bytes path); depth = depth })
 
 -- Nodes 0 and 1 `/M/a`; under 1 the References 2 and 3, of which 2 has no specs, and an Inherit. The second start is refused. Culling marks 2.
 abbrev grown : List Call

@@ -10,25 +10,27 @@ use Rattle.model.specs.Graph.{Graph, emptyGraph}
 use Rattle.model.specs.Strength.{view, compareSiblingNodeStrength, compareNodeStrength}
 use Rattle.model.specs.Calls.{rootNode, Call, starting, adding, calls}
 
--- a node of stack 0 and sibling number 0, with specs
-abbrev pub add : ℕ → ℕ → ℕ → ℕ → ℕ → Option ℕ → ℕ → String → Call
-add parent arc flags stack origin depth sibling path = adding (record {
-  fields = record {
-    arc = arc;
-    flags = flags;
-    stack = stack;
-    layer = 0;
-    parent = parent;
-    origin = origin;
-    depth = 0;
-    sibling = sibling;
-    restriction = 0;
-    specFrom = 0;
-    hasSpecs = 1;
-    path = bytes path;
-  };
+-- a node of layer 0 that restricts nothing
+abbrev pub sampleNode : ℕ → ℕ → ℕ → ℕ → ℕ → ℕ → ℕ → ℕ → List ℕ → Node
+sampleNode parent arc flags stack origin depth sibling hasSpecs path = record {
+  arc = arc;
+  flags = flags;
+  stack = stack;
+  layer = 0;
+  parent = parent;
+  origin = origin;
   depth = depth;
-})
+  sibling = sibling;
+  restriction = 0;
+  specFrom = 0;
+  hasSpecs = hasSpecs;
+  path = path;
+}
+
+-- adding one with specs
+abbrev pub add : ℕ → ℕ → ℕ → ℕ → ℕ → Option ℕ → ℕ → String → Call
+add parent arc flags stack origin depth sibling path =
+    adding (record { fields = sampleNode parent arc flags stack origin 0 sibling 1 (bytes path); depth = depth })
 
 -- with origin, depth and sibling number missing or 0
 abbrev pub plain : ℕ → ℕ → String → Call
@@ -89,20 +91,7 @@ shallow = line (add 1 4 0 0 invalid (some 2) 0 "/A" ∷ [])
 
 -- a record as a snapshot brings it, CULLED or not, under `/M/a` and without specs
 abbrev pub found : ℕ → ℕ → Node
-found flags origin = record {
-  arc = 4;
-  flags = flags;
-  stack = 0;
-  layer = 0;
-  parent = 0;
-  origin = origin;
-  depth = 0;
-  sibling = 0;
-  restriction = 0;
-  specFrom = 0;
-  hasSpecs = 0;
-  path = bytes "/A";
-}
+found flags origin = sampleNode 0 4 flags 0 origin 0 0 0 (bytes "/A")
 
 -- 1 and 2 are marked; 3 is not, and 1 is its origin
 abbrev pub markedOrigin : List Node

@@ -14,6 +14,7 @@ use Rattle.model.specs.Order.{walk}
 use Rattle.model.specs.Erasing.{newNumber, eraseBy}
 use Rattle.model.specs.Deepening.{deepen}
 use Rattle.model.proofs.Text.{bytes}
+use Rattle.model.proofs.ExampleGraphs.{sampleNode}
 use Rattle.model.proofs.PathGrammar.{Name}
 use Rattle.model.proofs.Views.{LegalView, LooksLike}
 use Rattle.model.proofs.ListLaws.{all-below}
@@ -24,20 +25,7 @@ use Rattle.model.proofs.EraseLaws.{node0-links-erased, erase-looks-like
 use Rattle.model.proofs.DeepenLaws.{Reached, deepen-looks-like}
 
 abbrev node : ℕ → ℕ → List ℕ → Node
-node parent arc path = record {
-  arc = arc;
-  flags = 0;
-  stack = 0;
-  layer = 0;
-  parent = parent;
-  origin = parent;
-  depth = 1;
-  sibling = 0;
-  restriction = 0;
-  specFrom = 0;
-  hasSpecs = 1;
-  path = path;
-}
+node parent arc path = sampleNode parent arc 0 0 parent 1 0 1 path
 
 -- "Nodes 0 `/M`, 1 root site Root `/M`, 2 Reference `/R` and 3 Inherit `/C` under 1"
 abbrev only-root : Graph

@@ -11,7 +11,7 @@ use Rattle.model.specs.Graph.{Graph, emptyGraph, size, childrenOf, withN
 use Rattle.model.specs.Strength.{view, smaller, isPropagatedSpecializes, originRootNode, outward, isNestedUnder, originsAreNested, sameOriginLines, originLines, depthLine, specializesLines, plainLines, siblingLines, nodesBy, compareSiblingNodeStrength, compareNodeStrength}
 use Rattle.model.specs.Order.{isStronger, hasOrder, ordering}
 use Rattle.model.specs.Calls.{rootNode, initRoot, addChild}
-use Rattle.model.proofs.ExampleGraphs.{from, ring}
+use Rattle.model.proofs.ExampleGraphs.{from, ring, sampleNode}
 use Rattle.model.proofs.SortLaws.{NoOrder, OnlyOrder}
 use Rattle.model.proofs.Trees.{TreeOf, tree-with-node, tree-with-root}
 use Rattle.model.proofs.WalkLaws.{Ordered}
@@ -19,20 +19,7 @@ use Rattle.model.proofs.OrderLaws.{ordering-children, ordering-ordered,
 
 -- a child of node 0
 abbrev child : ℕ → Node
-child arc = record {
-  arc = arc;
-  flags = 0;
-  stack = 0;
-  layer = 0;
-  parent = 0;
-  origin = 0;
-  depth = 0;
-  sibling = 0;
-  restriction = 0;
-  specFrom = 0;
-  hasSpecs = 1;
-  path = [];
-}
+child arc = sampleNode 0 arc 0 0 0 0 0 1 []
 
 abbrev alone : Graph
 alone = withNode emptyGraph (rootNode 0 0 [])

@@ -6,7 +6,7 @@ use lib.Dec.{eqb}
 use lib.ListN.{length, set, getD}
 use Rattle.model.specs.Lists.{every}
 use Rattle.model.specs.Path.{primCount}
-use Rattle.model.specs.Node.{rootArc, inheritArc, culledFlag, Node, isInert, isCulled}
+use Rattle.model.specs.Node.{rootArc, inheritArc, culledFlag, Node, isInert, isCulled, changed}
 use Rattle.model.specs.Graph.{Graph, size, nodeAt, depthBelowIntroduction, pathAtIntroduction, hasLocalRoot, inLocalStack}
 use Rattle.model.specs.Strength.{view, isAuthored, originRootNode}
 
@@ -34,20 +34,7 @@ canCull children ns n =
 
 -- the record with CULLED set
 abbrev pub culled : Node → Node
-culled x = record {
-  arc = x .arc;
-  flags = cond (isCulled x) (x .flags) (x .flags + culledFlag);
-  stack = x .stack;
-  layer = x .layer;
-  parent = x .parent;
-  origin = x .origin;
-  depth = x .depth;
-  sibling = x .sibling;
-  restriction = x .restriction;
-  specFrom = x .specFrom;
-  hasSpecs = x .hasSpecs;
-  path = x .path;
-}
+culled x = changed (cond (isCulled x) (x .flags) (x .flags + culledFlag)) (x .parent) (x .origin) (x .path) x
 
 abbrev pub cullOne : List (List ℕ) → ℕ → List Node → List Node
 cullOne children n ns = cond (canCull children ns n) (set ns n (culled (nodeAt ns n))) ns

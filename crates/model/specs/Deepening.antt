@@ -3,24 +3,11 @@ use mathlib.Core.Bool.{_&&_, cond}
 use mathlib.Core.List.{List, [], map}
 use Prim.Native.Nat.{ℕ}
 use Rattle.model.specs.Path.{lastName, appendName}
-use Rattle.model.specs.Node.{Node}
+use Rattle.model.specs.Node.{Node, changed}
 use Rattle.model.specs.Graph.{Graph}
 
 abbrev pub deepened : List ℕ → Node → Node
-deepened name x = record {
-  arc = x .arc;
-  flags = x .flags;
-  stack = x .stack;
-  layer = x .layer;
-  parent = x .parent;
-  origin = x .origin;
-  depth = x .depth;
-  sibling = x .sibling;
-  restriction = x .restriction;
-  specFrom = x .specFrom;
-  hasSpecs = x .hasSpecs;
-  path = appendName (x .path) name;
-}
+deepened name x = changed (x .flags) (x .parent) (x .origin) (appendName (x .path) name) x
 
 -- "Deepening, and seeding in the room it fills, keeps both if finalized, else clears ordered"
 unfoldable pub deepen : List ℕ → Graph → Graph

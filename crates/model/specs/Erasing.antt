@@ -5,7 +5,7 @@ use Prim.Native.Nat.{ℕ, zero, suc, _+_}
 use lib.Dec.{eqb, ltb, leb}
 use lib.ListN.{getD}
 use Rattle.model.specs.Lists.{bit, filter, keepAt, allBelow}
-use Rattle.model.specs.Node.{rootArc, Node}
+use Rattle.model.specs.Node.{rootArc, Node, changed}
 use Rattle.model.specs.Graph.{Graph, size, nodeAt}
 use Rattle.model.specs.Culling.{isErasable}
 
@@ -43,20 +43,7 @@ abbrev pub newLink : (ℕ → Bool) → ℕ → ℕ → ℕ
 newLink kept count n = cond (ltb n count) (newNumber kept n) n
 
 abbrev pub renumbered : (ℕ → Bool) → ℕ → Node → Node
-renumbered kept count x = record {
-  arc = x .arc;
-  flags = x .flags;
-  stack = x .stack;
-  layer = x .layer;
-  parent = newLink kept count (x .parent);
-  origin = newLink kept count (x .origin);
-  depth = x .depth;
-  sibling = x .sibling;
-  restriction = x .restriction;
-  specFrom = x .specFrom;
-  hasSpecs = x .hasSpecs;
-  path = x .path;
-}
+renumbered kept count x = changed (x .flags) (newLink kept count (x .parent)) (newLink kept count (x .origin)) (x .path) x
 
 -- "chains lose only what went"; the order too; the marks stay
 unfoldable pub eraseBy : (ℕ → Bool) → Graph → Graph

@@ -51,6 +51,23 @@ pub record Node : Type 0 where
   pub hasSpecs : ℕ
   pub path : List ℕ
 
+-- the node with other flags, parent, origin and path: no call changes any other field
+abbrev pub changed : ℕ → ℕ → ℕ → List ℕ → Node → Node
+changed flags parent origin path x = record {
+  arc = x .arc;
+  flags = flags;
+  stack = x .stack;
+  layer = x .layer;
+  parent = parent;
+  origin = origin;
+  depth = x .depth;
+  sibling = x .sibling;
+  restriction = x .restriction;
+  specFrom = x .specFrom;
+  hasSpecs = x .hasSpecs;
+  path = path;
+}
+
 -- what stands where there is no node: 7 is no arc
 abbrev pub noNode : Node
 noNode = record {
