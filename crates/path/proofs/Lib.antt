@@ -1,4 +1,3 @@
--- The laws that the functions' proofs cite: reading from the back, appending, and equality.
-mod BackwardLaws
+-- The laws that the functions' proofs cite: appending and equality.
 mod JoiningLaws
 mod EqualLaws

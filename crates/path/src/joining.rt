@@ -1,5 +1,5 @@
 // Appending a name: when it may be, where the name goes, and the bytes.
-use crate::backward::ends_in;
+use path_back::ends_in;
 ghost use mathlib.Core.Path.{_≡_};
 ghost use mathlib.Core.Bool.{_&&_};
 ghost use mathlib.Core.List.{_++_};

@@ -1,7 +1,6 @@
 // Paths on lent bytes: whether they are well formed, their prim count, parent, last name and introduction path, equality, and appending a
 // child's name. No public function has a `requires`: on bytes that are no path each answers what its definition gives for them. Only
 // `append_child_name` copies; every other path handed back is a part of the caller's. The definitions are in model/specs/Path.antt.
-mod backward;
 mod joining;
 
 use model::Appended;
@@ -36,7 +35,7 @@ pub fn is_well_formed(path: &[u8]) -> bool
 pub fn parent(path: &[u8]) -> &[u8]
     ensures { λ r. ⌜ now r ≡ parent (now (path .entry)) ⌝ }
 {
-    let end = backward::parent_length(path);
+    let end = path_back::parent_length(path);
     &path[..end]
 }
 
@@ -44,7 +43,7 @@ pub fn parent(path: &[u8]) -> &[u8]
 pub fn last_name(path: &[u8]) -> &[u8]
     ensures { λ r. ⌜ now r ≡ lastName (now (path .entry)) ⌝ }
 {
-    let start = backward::name_start(path, path.len());
+    let start = path_back::name_start(path, path.len());
     &path[start..]
 }
 
@@ -52,7 +51,7 @@ pub fn last_name(path: &[u8]) -> &[u8]
 pub fn path_at_intro_depth(path: &[u8], depth: u16) -> &[u8]
     ensures { λ r. ⌜ now r ≡ pathAtIntroDepth depth (now (path .entry)) ⌝ }
 {
-    let end = backward::intro_length(path, depth);
+    let end = path_back::intro_length(path, depth);
     &path[..end]
 }
 

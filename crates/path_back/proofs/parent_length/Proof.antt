@@ -1,12 +1,12 @@
--- `backward::parent_length` meets its contract: the tests are the definition's, in its order. Assumes nothing.
+-- `parent_length` meets its contract: the tests are the definition's, in its order. Assumes nothing.
 use borrow.Author.Needs.{needs}
 use native.Mathlib.Omega.{arith}
-use Rattle.path.proofs.BackwardLaws.{parent-selected, parent-none, parent-named}
+use Rattle.path_back.proofs.BackwardLaws.{parent-selected, parent-none, parent-named}
 use mathlib.Core.Path.{_∙_, sym}
 use Prim.Native.Nat.{_-_}
 use lib.ListN.{length}
-use Rattle.path.proofs.backward.parent_length.Statement.{statement}
-use Rattle.path.proofs.backward.parent_length.Tie as tie
+use Rattle.path_back.proofs.parent_length.Statement.{statement}
+use Rattle.path_back.proofs.parent_length.Tie as tie
 
 ends-in-requires : tie.Need-ends-in-requires
 ends-in-requires c κs = search needs

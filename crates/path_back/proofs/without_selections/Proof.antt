@@ -1,15 +1,15 @@
--- `backward::without_selections` meets its contract. The loop's invariant: what is left of the first `k` bytes is what is left of the first `end`.
+-- `without_selections` meets its contract. The loop's invariant: what is left of the first `k` bytes is what is left of the first `end`.
 -- The measure is `k`. Assumes nothing.
 use borrow.Author.Needs.{needs}
 use native.Mathlib.Omega.{arith}
-use Rattle.path.proofs.BackwardLaws.{drops-one, ends-in-some}
+use Rattle.path_back.proofs.BackwardLaws.{drops-one, ends-in-some}
 use mathlib.Core.Path.{_≡_, refl, _∙_, sym, ap}
 use mathlib.Core.Bool.{false}
 use Prim.Native.Nat.{_≤_, _-_}
 use Rattle.model.specs.Path.{withoutSelections, closeBrace}
 use Rattle.model.proofs.PathLemmas.{without-selections-none}
-use Rattle.path.proofs.backward.without_selections.Statement.{statement}
-use Rattle.path.proofs.backward.without_selections.Tie as tie
+use Rattle.path_back.proofs.without_selections.Statement.{statement}
+use Rattle.path_back.proofs.without_selections.Tie as tie
 
 abbrev Inv-loop : tie.InvT-loop
 Inv-loop path end k₀ k = (withoutSelections false path k ≡ withoutSelections false path end) × (k ≤ end)

@@ -1,13 +1,13 @@
--- `backward::name_start` meets its contract. The loop's invariant: the first `k` bytes have the last name's start that the first `end` have. The
+-- `name_start` meets its contract. The loop's invariant: the first `k` bytes have the last name's start that the first `end` have. The
 -- measure is `k`. Assumes nothing.
 use borrow.Author.Needs.{needs}
 use native.Mathlib.Omega.{arith}
-use Rattle.path.proofs.BackwardLaws.{start-at-slash, start-at-brace, start-before, start-none}
+use Rattle.path_back.proofs.BackwardLaws.{start-at-slash, start-at-brace, start-before, start-none}
 use mathlib.Core.Path.{_≡_, refl, _∙_, sym}
 use Prim.Native.Nat.{_≤_, _-_}
 use Rattle.model.specs.Path.{nameStart}
-use Rattle.path.proofs.backward.name_start.Statement.{statement}
-use Rattle.path.proofs.backward.name_start.Tie as tie
+use Rattle.path_back.proofs.name_start.Statement.{statement}
+use Rattle.path_back.proofs.name_start.Tie as tie
 
 abbrev Inv-loop : tie.InvT-loop
 Inv-loop path end k₀ k = (nameStart path k ≡ nameStart path end) × (k ≤ end)

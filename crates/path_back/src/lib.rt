@@ -7,7 +7,7 @@ ghost use lib.ListN.{length};
 ghost use Rattle.model.specs.Path.{openBrace, beforeLast, endsIn, nameStart, beforeName, parentLength, withoutSelections, introLength};
 
 // Whether the first `end` bytes end in `b`.
-pub(crate) fn ends_in(path: &[u8], end: usize, b: u8) -> bool
+pub fn ends_in(path: &[u8], end: usize, b: u8) -> bool
     requires { ⌜ end ≤ length (now path) ⌝ }
     ensures { λ r. ⌜ r ≡ endsIn b (now (path .entry)) end ⌝ }
 {
@@ -18,7 +18,7 @@ pub(crate) fn ends_in(path: &[u8], end: usize, b: u8) -> bool
 }
 
 // Where the last name of the first `end` bytes starts: after the last `/` or `}`.
-pub(crate) fn name_start(path: &[u8], end: usize) -> usize
+pub fn name_start(path: &[u8], end: usize) -> usize
     requires { ⌜ end ≤ length (now path) ⌝ }
     ensures { λ r. ⌜ (r ≡ nameStart (now (path .entry)) end) × (r ≤ end) ⌝ }
 {
@@ -79,7 +79,7 @@ fn without_selections(path: &[u8], end: usize) -> usize
 }
 
 // How much of the path its parent keeps.
-pub(crate) fn parent_length(path: &[u8]) -> usize
+pub fn parent_length(path: &[u8]) -> usize
     ensures { λ r. ⌜ (r ≡ parentLength (now (path .entry)) (length (now (path .entry)))) × (r ≤ length (now (path .entry))) ⌝ }
 {
     let end = path.len();
@@ -93,7 +93,7 @@ pub(crate) fn parent_length(path: &[u8]) -> usize
 }
 
 // How much of the path is left `depth` names up.
-pub(crate) fn intro_length(path: &[u8], depth: u16) -> usize
+pub fn intro_length(path: &[u8], depth: u16) -> usize
     ensures { λ r. ⌜ (r ≡ introLength depth (now (path .entry)) (length (now (path .entry)))) × (r ≤ length (now (path .entry))) ⌝ }
 {
     let mut end = path.len();

@@ -1,8 +1,8 @@
--- `backward::ends_in` meets its contract: the byte before the end is tested. Assumes nothing.
+-- `ends_in` meets its contract: the byte before the end is tested. Assumes nothing.
 use borrow.Author.Needs.{needs}
-use Rattle.path.proofs.BackwardLaws.{ends-in-at}
-use Rattle.path.proofs.backward.ends_in.Statement.{statement}
-use Rattle.path.proofs.backward.ends_in.Tie as tie
+use Rattle.path_back.proofs.BackwardLaws.{ends-in-at}
+use Rattle.path_back.proofs.ends_in.Statement.{statement}
+use Rattle.path_back.proofs.ends_in.Tie as tie
 
 returns : tie.Need-returns
 returns c = search needs

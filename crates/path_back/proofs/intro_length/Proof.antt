@@ -1,14 +1,14 @@
--- `backward::intro_length` meets its contract. The loop's invariant: the steps left from `end` on lead where all of them lead from the whole path. The
+-- `intro_length` meets its contract. The loop's invariant: the steps left from `end` on lead where all of them lead from the whole path. The
 -- measure is the steps left. Assumes nothing.
 use borrow.Author.Needs.{needs}
 use native.Mathlib.Omega.{arith}
-use Rattle.path.proofs.BackwardLaws.{intro-more, intro-stays, intro-none}
+use Rattle.path_back.proofs.BackwardLaws.{intro-more, intro-stays, intro-none}
 use mathlib.Core.Path.{_≡_, refl, _∙_, sym, ap}
 use Prim.Native.Nat.{_≤_, _-_}
 use lib.ListN.{length}
 use Rattle.model.specs.Path.{introLength, beforeName, introStep}
-use Rattle.path.proofs.backward.intro_length.Statement.{statement}
-use Rattle.path.proofs.backward.intro_length.Tie as tie
+use Rattle.path_back.proofs.intro_length.Statement.{statement}
+use Rattle.path_back.proofs.intro_length.Tie as tie
 
 abbrev Inv-loop : tie.InvT-loop
 Inv-loop path depth end₀ left₀ end left = (introLength left path end ≡ introLength depth path (length path)) × (end ≤ length path)

@@ -1,10 +1,10 @@
--- `backward::before_name` meets its contract: what the name starts after tells whether a slash goes with it. Assumes nothing.
+-- `before_name` meets its contract: what the name starts after tells whether a slash goes with it. Assumes nothing.
 use borrow.Author.Needs.{needs}
 use native.Mathlib.Omega.{arith}
-use Rattle.path.proofs.BackwardLaws.{before-first, before-slash, before-bare}
+use Rattle.path_back.proofs.BackwardLaws.{before-first, before-slash, before-bare}
 use Prim.Native.Nat.{_-_}
-use Rattle.path.proofs.backward.before_name.Statement.{statement}
-use Rattle.path.proofs.backward.before_name.Tie as tie
+use Rattle.path_back.proofs.before_name.Statement.{statement}
+use Rattle.path_back.proofs.before_name.Tie as tie
 
 name-start-requires : tie.Need-name-start-requires
 name-start-requires c κs = search needs

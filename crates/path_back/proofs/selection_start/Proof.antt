@@ -1,13 +1,13 @@
--- `backward::selection_start` meets its contract. The loop's invariant: the last `{` of the first `k` bytes is that of the first `end`. The measure
+-- `selection_start` meets its contract. The loop's invariant: the last `{` of the first `k` bytes is that of the first `end`. The measure
 -- is `k`. Assumes nothing.
 use borrow.Author.Needs.{needs}
 use native.Mathlib.Omega.{arith}
-use Rattle.path.proofs.BackwardLaws.{brace-hit, after-miss, brace-none}
+use Rattle.path_back.proofs.BackwardLaws.{brace-hit, after-miss, brace-none}
 use mathlib.Core.Path.{_≡_, refl, _∙_, sym, ap}
 use Prim.Native.Nat.{_≤_, _-_, pred}
 use Rattle.model.specs.Path.{openBrace, afterLast}
-use Rattle.path.proofs.backward.selection_start.Statement.{statement}
-use Rattle.path.proofs.backward.selection_start.Tie as tie
+use Rattle.path_back.proofs.selection_start.Statement.{statement}
+use Rattle.path_back.proofs.selection_start.Tie as tie
 
 abbrev Inv-loop : tie.InvT-loop
 Inv-loop path end k₀ k = (afterLast openBrace path k ≡ afterLast openBrace path end) × (k ≤ end)
