@@ -36,7 +36,7 @@ pub record Addable (g : Graph) (x : Node) : Type 0 where
   pub node-fits : size g < mostNodes
   pub path-fits : pathBytes (g .nodes) + length (x .path) ≤ mostPathBytes
 
-path-bytes-append : (xs ys : List Node) → pathBytes (xs ++ ys) ≡ pathBytes xs + pathBytes ys
+pub path-bytes-append : (xs ys : List Node) → pathBytes (xs ++ ys) ≡ pathBytes xs + pathBytes ys
 path-bytes-append [] ys = omega arith
 path-bytes-append (x ∷ xs) ys = omega (arith, path-bytes-append xs ys)
 
@@ -256,7 +256,7 @@ root-record x e =
     }
 
 -- a record that passes its questions
-read-addable : (g : Graph) (x : Node) → Accepted (recordQuestions g x) → Addable g x
+pub read-addable : (g : Graph) (x : Node) → Accepted (recordQuestions g x) → Addable g x
 read-addable g x a = record {
   first = first;
   parent-lower = λ h. ltb-true (x .parent) (size g) (lower h .0);

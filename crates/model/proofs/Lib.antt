@@ -1,4 +1,5 @@
--- What follows from the definitions. Paths; the examples; lists, trees and walks; strength; order; culling and erasing; deepening and adding; snapshots; what every list of calls keeps, and demand 3.
+-- What follows from the definitions. Paths; the examples; lists, trees and walks; strength; order; culling and erasing; deepening and adding;
+-- snapshots; what every list of calls keeps; arenas; and demand 3.
 pub mod Text
 pub mod PathLemmas
 pub mod PathGrammar
@@ -9,6 +10,7 @@ pub mod ExampleGraphs
 pub mod Examples
 pub mod Views
 pub mod ListLaws
+pub mod LengthLaws
 pub mod SortLaws
 pub mod Trees
 pub mod FollowLaws
@@ -42,6 +44,18 @@ pub mod LegalAdded
 pub mod LegalAlike
 pub mod LegalErased
 pub mod CallsKeepLegal
+pub mod LegalGrows
+pub mod Encodable
+pub mod ArenaParts
+pub mod ArenaFields
+pub mod TabulateLaws
+pub mod ChainLaws
+pub mod ArenaLaws
+pub mod ArenaHolds
+pub mod HeldArenas
+pub mod ArenaBack
+pub mod HeldEncodable
+pub mod ArenaExact
 pub mod Demand3
 pub mod Demand3Proof
 pub mod Demand3Examples

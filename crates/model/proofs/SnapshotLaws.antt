@@ -237,10 +237,10 @@ after-one : (x : Node) (o : Option (List Node)) (xs : List Node) → before x o 
 after-one x none xs e = absurd (Option·none-ne-some xs e)
 after-one x (some ys) xs e = (ys, refl, cc)
 
-and-first : (a b : Bool) → (a && b) ≡ true → a ≡ true
+pub and-first : (a b : Bool) → (a && b) ≡ true → a ≡ true
 and-first a b e = and-eq-true-iff a b .0 e .0
 
-and-second : (a b : Bool) → (a && b) ≡ true → b ≡ true
+pub and-second : (a b : Bool) → (a && b) ≡ true → b ≡ true
 and-second a b e = and-eq-true-iff a b .0 e .1
 
 -- one record read in front

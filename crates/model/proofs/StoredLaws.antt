@@ -18,7 +18,7 @@ part-append : (a w : ℕ) (p q : List ℕ) → a + w ≤ length p → take w (dr
 part-append a w p q h = rw (drop-append-le a p q (omega arith), take-append-le w (drop a p) q (rw length-drop (omega arith)))
 
 -- a byte is the first of the part from its place on
-byte-part : (i : ℕ) (s : List ℕ) → getD s i 0 ≡ getD (take 1 (drop i s)) 0 0
+pub byte-part : (i : ℕ) (s : List ℕ) → getD s i 0 ≡ getD (take 1 (drop i s)) 0 0
 byte-part i s = sym (getD-take 1 (drop i s) 0 0 (omega arith) ∙ getD-drop i s 0 0 ∙ ap (λ (n : ℕ). getD s n 0) (add-zero i))
 
 take-rest : (w : ℕ) (s : List ℕ) → take w s ++ drop (length (take w s)) s ≡ s

@@ -1,0 +1,26 @@
+-- Question 2, exactly: it passes at the bytes of encodable graphs and at no others (`holds-exactly`), and each passing arena is the bytes of one graph
+-- only, the one that it holds (`encoded-one`). Assumes nothing.
+use mathlib.Core.Path.{_≡_, sym, ap, subst, _∙_}
+use mathlib.Core.Logic.{_↔_}
+use mathlib.Core.Bool.{true}
+use mathlib.Core.List.{List}
+use Prim.Native.Nat.{ℕ}
+use lib.ListN.{length}
+use Rattle.model.specs.Graph.{Graph}
+use Rattle.model.specs.Arena.{arenaBytes, decode, encode, holdsGraph}
+use Rattle.model.proofs.BigEndianLaws.{Bytes}
+use Rattle.model.proofs.Encodable.{Encodable}
+use Rattle.model.proofs.ArenaLaws.{decode-encode}
+use Rattle.model.proofs.ArenaHolds.{holds-encoded}
+use Rattle.model.proofs.ArenaBack.{encode-decode}
+use Rattle.model.proofs.HeldEncodable.{held-encodable}
+
+pub holds-exactly : (bs : List ℕ) → Bytes bs → length bs ≡ arenaBytes
+    → (holdsGraph bs ≡ true) ↔ ((g : Graph) × Encodable g × (encode g bs ≡ bs))
+holds-exactly bs bytes whole = (
+  λ holds. (decode bs, held-encodable bs bytes whole holds, encode-decode bs bytes whole holds),
+  λ k. subst (λ (s : List ℕ). holdsGraph s ≡ true) (k .2) (holds-encoded (k .0) bs (k .1) whole),
+)
+
+pub encoded-one : (g : Graph) (bs : List ℕ) → Encodable g → length bs ≡ arenaBytes → encode g bs ≡ bs → g ≡ decode bs
+encoded-one g bs ok whole e = sym (decode-encode g bs ok whole) ∙ ap decode e
