@@ -1,0 +1,36 @@
+-- `write_marks` meets its contract: the three stores are one. Assumes nothing.
+use mathlib.Core.List.{[], _∷_}
+use borrow.Author.Needs.{needs}
+use native.Mathlib.Omega.{arith}
+use Rattle.model.specs.Lists.{bit}
+use Rattle.arena.proofs.StoreLaws.{run-stored}
+use Rattle.arena.proofs.header.write_marks.Statement.{statement}
+use Rattle.arena.proofs.header.write_marks.Tie as tie
+
+write-mark-requires : tie.Need-write-mark-requires
+write-mark-requires c κs = search needs
+
+write-mark-requires-2 : tie.Need-write-mark-requires-2
+write-mark-requires-2 c κs = search needs
+
+write-mark-requires-3 : tie.Need-write-mark-requires-3
+write-mark-requires-3 c κs = search needs
+
+same-length : tie.Need-same-length
+same-length c = search needs
+
+returns : tie.Need-returns
+returns c =
+    let third = c .before .before in
+    let second = third .before .before .before .before in
+    let first = second .before .before .before .before in
+    let s = first .before .before .before in
+    let a = s .args in
+    run-stored 0 4 ((bit (a .ordered) ∷ []) ∷ (bit (a .finalized) ∷ []) ∷ []) (bit (a .shallow) ∷ []) (a .arena .now) _
+    (omega (arith, s .pre))
+    (_, first .write-mark .ensures, (_, second .write-mark2 .ensures, third .write-mark3 .ensures))
+
+pub write-marks-spec : {M : Type 1} → statement M
+write-marks-spec =
+    tie.close
+    (tie.spec write-mark-requires write-mark-requires-2 write-mark-requires-3 same-length returns)

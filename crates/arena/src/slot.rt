@@ -1,0 +1,199 @@
+// A slot's fields, one load or store each, and the path. The record's fields are read where they lie, whatever length the record says it has.
+ghost use mathlib.Core.Path.{_≡_};
+ghost use Prim.Native.Nat.{_+_, _≤_};
+ghost use Rattle.model.specs.Arena.{slotAt, firstChildIn, lastChildIn, nextSiblingIn, orderEntryIn, primCountIn, recordLengthIn, nodeIn};
+ghost use Rattle.model.specs.Snapshot.{field};
+ghost use Rattle.arena.specs.Slot.{HasSlot, HasPath, arcIn, flagsIn, stackIn, layerIn, parentIn, originIn, depthIn, siblingIn, restrictionIn, specFromIn, hasSpecsIn, orderEntryStored, flagsStored};
+
+// How many bytes the header has.
+pub(crate) const HEADER: usize = 64;
+
+// How many bytes a slot has.
+pub(crate) const SLOT: usize = 320;
+
+// The byte at an offset of slot n.
+fn read_u8(arena: &[u8], n: u32, offset: usize) -> u8
+    requires { ⌜ HasSlot (now arena) n × (offset + 1 ≤ 320) ⌝ }
+    ensures { λ r. ⌜ r ≡ field (slotAt n + offset) 1 (now (arena .entry)) ⌝ }
+{
+    big_endian::read_u8(arena, HEADER + (n as usize) * SLOT + offset)
+}
+
+// The number in the two bytes from an offset of slot n on.
+fn read_u16(arena: &[u8], n: u32, offset: usize) -> u16
+    requires { ⌜ HasSlot (now arena) n × (offset + 2 ≤ 320) ⌝ }
+    ensures { λ r. ⌜ r ≡ field (slotAt n + offset) 2 (now (arena .entry)) ⌝ }
+{
+    big_endian::read_u16(arena, HEADER + (n as usize) * SLOT + offset)
+}
+
+// The number in the four bytes from an offset of slot n on.
+fn read_u32(arena: &[u8], n: u32, offset: usize) -> u32
+    requires { ⌜ HasSlot (now arena) n × (offset + 4 ≤ 320) ⌝ }
+    ensures { λ r. ⌜ r ≡ field (slotAt n + offset) 4 (now (arena .entry)) ⌝ }
+{
+    big_endian::read_u32(arena, HEADER + (n as usize) * SLOT + offset)
+}
+
+// The first child of node n; 4,294,967,295 for none, as in each link.
+pub fn first_child(arena: &[u8], n: u32) -> u32
+    requires { ⌜ HasSlot (now arena) n ⌝ }
+    ensures { λ r. ⌜ r ≡ firstChildIn (now (arena .entry)) n ⌝ }
+{
+    big_endian::read_u32(arena, HEADER + (n as usize) * SLOT)
+}
+
+// The last child of node n.
+pub fn last_child(arena: &[u8], n: u32) -> u32
+    requires { ⌜ HasSlot (now arena) n ⌝ }
+    ensures { λ r. ⌜ r ≡ lastChildIn (now (arena .entry)) n ⌝ }
+{
+    read_u32(arena, n, 4)
+}
+
+// The sibling after node n.
+pub fn next_sibling(arena: &[u8], n: u32) -> u32
+    requires { ⌜ HasSlot (now arena) n ⌝ }
+    ensures { λ r. ⌜ r ≡ nextSiblingIn (now (arena .entry)) n ⌝ }
+{
+    read_u32(arena, n, 8)
+}
+
+// Entry n of the order.
+pub fn order_entry(arena: &[u8], n: u32) -> u32
+    requires { ⌜ HasSlot (now arena) n ⌝ }
+    ensures { λ r. ⌜ r ≡ orderEntryIn (now (arena .entry)) n ⌝ }
+{
+    read_u32(arena, n, 12)
+}
+
+// The prim count of node n's path.
+pub fn prim_count(arena: &[u8], n: u32) -> u8
+    requires { ⌜ HasSlot (now arena) n ⌝ }
+    ensures { λ r. ⌜ r ≡ primCountIn (now (arena .entry)) n ⌝ }
+{
+    read_u8(arena, n, 16)
+}
+
+// The length of node n's record: its numbers' 27 bytes and its path.
+pub fn record_length(arena: &[u8], n: u32) -> u16
+    requires { ⌜ HasSlot (now arena) n ⌝ }
+    ensures { λ r. ⌜ r ≡ recordLengthIn (now (arena .entry)) n ⌝ }
+{
+    read_u16(arena, n, 17)
+}
+
+// The arc of node n.
+pub fn arc(arena: &[u8], n: u32) -> u8
+    requires { ⌜ HasSlot (now arena) n ⌝ }
+    ensures { λ r. ⌜ r ≡ arcIn (now (arena .entry)) n ⌝ }
+{
+    read_u8(arena, n, 19)
+}
+
+// The flags of node n.
+pub fn flags(arena: &[u8], n: u32) -> u8
+    requires { ⌜ HasSlot (now arena) n ⌝ }
+    ensures { λ r. ⌜ r ≡ flagsIn (now (arena .entry)) n ⌝ }
+{
+    read_u8(arena, n, 20)
+}
+
+// The stack of node n's site.
+pub fn stack(arena: &[u8], n: u32) -> u32
+    requires { ⌜ HasSlot (now arena) n ⌝ }
+    ensures { λ r. ⌜ r ≡ stackIn (now (arena .entry)) n ⌝ }
+{
+    read_u32(arena, n, 21)
+}
+
+// The layer of node n.
+pub fn layer(arena: &[u8], n: u32) -> u32
+    requires { ⌜ HasSlot (now arena) n ⌝ }
+    ensures { λ r. ⌜ r ≡ layerIn (now (arena .entry)) n ⌝ }
+{
+    read_u32(arena, n, 25)
+}
+
+// The parent of node n.
+pub fn parent(arena: &[u8], n: u32) -> u32
+    requires { ⌜ HasSlot (now arena) n ⌝ }
+    ensures { λ r. ⌜ r ≡ parentIn (now (arena .entry)) n ⌝ }
+{
+    read_u32(arena, n, 29)
+}
+
+// The origin of node n.
+pub fn origin(arena: &[u8], n: u32) -> u32
+    requires { ⌜ HasSlot (now arena) n ⌝ }
+    ensures { λ r. ⌜ r ≡ originIn (now (arena .entry)) n ⌝ }
+{
+    read_u32(arena, n, 33)
+}
+
+// The namespace depth of node n.
+pub fn depth(arena: &[u8], n: u32) -> u16
+    requires { ⌜ HasSlot (now arena) n ⌝ }
+    ensures { λ r. ⌜ r ≡ depthIn (now (arena .entry)) n ⌝ }
+{
+    read_u16(arena, n, 37)
+}
+
+// The sibling number of node n.
+pub fn sibling(arena: &[u8], n: u32) -> u16
+    requires { ⌜ HasSlot (now arena) n ⌝ }
+    ensures { λ r. ⌜ r ≡ siblingIn (now (arena .entry)) n ⌝ }
+{
+    read_u16(arena, n, 39)
+}
+
+// The restriction depth of node n.
+pub fn restriction(arena: &[u8], n: u32) -> u16
+    requires { ⌜ HasSlot (now arena) n ⌝ }
+    ensures { λ r. ⌜ r ≡ restrictionIn (now (arena .entry)) n ⌝ }
+{
+    read_u16(arena, n, 41)
+}
+
+// The `spec_from` of node n.
+pub fn spec_from(arena: &[u8], n: u32) -> u16
+    requires { ⌜ HasSlot (now arena) n ⌝ }
+    ensures { λ r. ⌜ r ≡ specFromIn (now (arena .entry)) n ⌝ }
+{
+    read_u16(arena, n, 43)
+}
+
+// Whether node n has specs: 1 or 0.
+pub fn has_specs(arena: &[u8], n: u32) -> u8
+    requires { ⌜ HasSlot (now arena) n ⌝ }
+    ensures { λ r. ⌜ r ≡ hasSpecsIn (now (arena .entry)) n ⌝ }
+{
+    read_u8(arena, n, 45)
+}
+
+// The path of node n, a part of the arena: what follows the numbers of its record.
+pub fn path(arena: &[u8], n: u32) -> &[u8]
+    requires { ⌜ HasPath (now arena) n ⌝ }
+    ensures { λ r. ⌜ now r ≡ nodeIn (now (arena .entry)) n .path ⌝ }
+{
+    let body = HEADER + (n as usize) * SLOT + 19;
+    let start = body + 27;
+    let end = body + (record_length(arena, n) as usize);
+    &arena[start..end]
+}
+
+// Stores entry n of the order.
+pub fn write_order_entry(arena: &mut [u8], n: u32, entry: u32)
+    requires { ⌜ HasSlot (now arena) n ⌝ }
+    ensures { λ _. ⌜ now (arena .exit) ≡ orderEntryStored n entry (now (arena .entry)) ⌝ }
+{
+    big_endian::write_u32(arena, HEADER + (n as usize) * SLOT + 12, entry);
+}
+
+// Stores the flags of node n.
+pub fn write_flags(arena: &mut [u8], n: u32, flags: u8)
+    requires { ⌜ HasSlot (now arena) n ⌝ }
+    ensures { λ _. ⌜ now (arena .exit) ≡ flagsStored n flags (now (arena .entry)) ⌝ }
+{
+    big_endian::write_u8(arena, HEADER + (n as usize) * SLOT + 20, flags);
+}
