@@ -1,3 +1,16 @@
--- What the functions' proofs cite, and the laws for callers of this crate.
+-- The laws of the layout: what each part and field is after `encode`, that `encode` and `decode` undo each other, and what question 2 means. Then what
+-- the functions' proofs cite, and for callers the fields of a slot.
+pub mod TabulateLaws
+pub mod ChainLaws
+pub mod Encodable
+pub mod ArenaParts
+pub mod ArenaFields
+pub mod ArenaLaws
+pub mod ArenaHolds
+pub mod HeldArenas
+pub mod ArenaBack
+pub mod HeldEncodable
+pub mod ArenaExact
+pub mod ArenaExamples
 mod StoreLaws
 pub mod SlotLaws

@@ -1,5 +1,5 @@
 -- What follows from the definitions. Paths; the examples; lists, trees and walks; strength; order; culling and erasing; deepening and adding;
--- snapshots; what every list of calls keeps; arenas; and demand 3.
+-- snapshots; what every list of calls keeps; and demand 3.
 pub mod Text
 pub mod PathLemmas
 pub mod PathGrammar
@@ -37,7 +37,6 @@ pub mod StoredLaws
 pub mod SnapshotLaws
 pub mod SnapshotReadLaws
 pub mod SnapshotExamples
-pub mod ArenaExamples
 pub mod LegalGraphs
 pub mod AcceptedQuestions
 pub mod LegalAdded
@@ -45,17 +44,6 @@ pub mod LegalAlike
 pub mod LegalErased
 pub mod CallsKeepLegal
 pub mod LegalGrows
-pub mod Encodable
-pub mod ArenaParts
-pub mod ArenaFields
-pub mod TabulateLaws
-pub mod ChainLaws
-pub mod ArenaLaws
-pub mod ArenaHolds
-pub mod HeldArenas
-pub mod ArenaBack
-pub mod HeldEncodable
-pub mod ArenaExact
 pub mod Demand3
 pub mod Demand3Proof
 pub mod Demand3Examples

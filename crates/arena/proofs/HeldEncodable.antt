@@ -8,22 +8,22 @@ use native.Mathlib.Omega.{arith}
 use lib.Dec.{eqb, ltb}
 use lib.ListN.{length, List·getD-eq-default}
 use borrow.Author.Tests.{eqb-true, eq-eqb, ne-eqb, ltb-true, ltb-false, lt-ltb}
 use Rattle.model.specs.Lists.{count}
 use Rattle.model.specs.Node.{invalid, Node}
 use Rattle.model.specs.Graph.{size, nodeAt, childrenOf, isShallow}
 use Rattle.model.specs.Strength.{view}
 use Rattle.model.specs.Arena.{arenaBytes, countIn, orderedIn, finalizedIn, shallowIn, nodeIn, tabulate, nodesIn, childrenIn, orderIn, orderEntryIn, decode, holdsGraph}
 use Rattle.model.proofs.BigEndianLaws.{Bytes}
 use Rattle.model.proofs.SnapshotLaws.{FieldsFit, NodesFit}
 use Rattle.model.proofs.SnapshotReadLaws.{built}
 use Rattle.model.proofs.ListLaws.{all-at}
 use Rattle.model.proofs.LengthLaws.{once-nothing-else}
 use Rattle.model.proofs.Trees.{Child, TreeOf}
 use Rattle.model.proofs.LegalGraphs.{Legal, DepthsReached}
-use Rattle.model.proofs.Encodable.{unordered, EachOnce, Encodable}
-use Rattle.model.proofs.TabulateLaws.{tabulate-length}
-use Rattle.model.proofs.HeldArenas.{Held, held, held-chain}
-use Rattle.model.proofs.ArenaBack.{size-decode, node-decode, lists-decode, children-decode, fresh-nodes, fresh-legal, parent-lower, root-parent, node-fits}
+use Rattle.arena.proofs.Encodable.{unordered, EachOnce, Encodable}
+use Rattle.arena.proofs.TabulateLaws.{tabulate-length}
+use Rattle.arena.proofs.HeldArenas.{Held, held, held-chain}
+use Rattle.arena.proofs.ArenaBack.{size-decode, node-decode, lists-decode, children-decode, fresh-nodes, fresh-legal, parent-lower, root-parent, node-fits}
 
 tabulate-fits : (f : ℕ → Node) (at n : ℕ) → ((i : ℕ) → at ≤ i → i < at + n → FieldsFit (f i)) → NodesFit (tabulate f at n)
 tabulate-fits f at zero h = tt

@@ -11,13 +11,13 @@ use native.Mathlib.Omega.{arith}
 use lib.Dec.{eqb, ltb}
 use lib.ListN.{length, take, drop, getD}
 use borrow.Author.Tests.{eqb-false, ltb-true, ltb-false, ne-eqb}
 use Rattle.model.specs.Bytes.{stored}
 use Rattle.model.specs.Graph.{Graph, size, nodeAt}
 use Rattle.model.specs.Snapshot.{bigEndian}
 use Rattle.model.specs.Arena.{arenaBytes, slotAt, linkBytes, siteBytes, slotStored, slotsStored, orderStored, headerBytes, rootStored, localRootOf, encode}
 use Rattle.model.proofs.StoredLaws.{byte-part, length-stored, part-of-stored, part-in-stored, part-before-stored, part-after-stored}
 use Rattle.model.proofs.SnapshotLaws.{record-length}
-use Rattle.model.proofs.Encodable.{Encodable, fit-at, order-below}
+use Rattle.arena.proofs.Encodable.{Encodable, fit-at, order-below}
 
 -- ---- Parts
 

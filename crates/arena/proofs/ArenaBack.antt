@@ -9,22 +9,22 @@ use lib.Dec.{eqb}
 use lib.ListN.{length, take, drop, length-drop, List·getD-eq-default}
 use lib.Seq.{length-take-le}
 use borrow.Author.Tests.{eqb-true, eqb-false}
 use Rattle.model.specs.Bytes.{stored}
 use Rattle.model.specs.Lists.{bit}
 use Rattle.model.specs.Path.{primCount}
 use Rattle.model.specs.Node.{invalid, Node, noNode}
 use Rattle.model.specs.Graph.{Graph, size, nodeAt, childrenOf}
 use Rattle.model.specs.Snapshot.{bigEndian, value, field, recordBody}
 use Rattle.model.specs.Arena.{arenaBytes, slotAt, countIn, orderedIn, finalizedIn, shallowIn, firstChildIn, lastChildIn, nextSiblingIn, orderEntryIn, primCountIn, recordLengthIn, nodeIn, tabulate, nodesIn, childrenIn, firstOf, lastOf, afterIn, localRootOf, decode, linkBytes, siteBytes, slotStored, slotsStored, orderStored, headerBytes, rootStored, encode, holdsGraph}
 use Rattle.model.proofs.BigEndianLaws.{Bytes}
 use Rattle.model.proofs.StoredLaws.{bytes-take, bytes-drop, stored-part-same, stored-field-same, stored-next}
 use Rattle.model.proofs.SnapshotLaws.{FieldsFit, read-record-written, read-record-fits}
 use Rattle.model.proofs.SnapshotReadLaws.{built, built-nodes}
 use Rattle.model.proofs.LegalGraphs.{Legal}
 use Rattle.model.proofs.LegalGrows.{grows-legal}
-use Rattle.model.proofs.HeldArenas.{Held, held, held-chain}
-use Rattle.model.proofs.ChainLaws.{after-linked}
-use Rattle.model.proofs.TabulateLaws.{tabulate-length, tabulate-at}
+use Rattle.arena.proofs.HeldArenas.{Held, held, held-chain}
+use Rattle.arena.proofs.ChainLaws.{after-linked}
+use Rattle.arena.proofs.TabulateLaws.{tabulate-length, tabulate-at}
 
 -- ---- Stores of what is there
 

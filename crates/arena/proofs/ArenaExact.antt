@@ -6,14 +6,14 @@ use mathlib.Core.Bool.{true}
 use mathlib.Core.List.{List}
 use Prim.Native.Nat.{ℕ}
 use lib.ListN.{length}
 use Rattle.model.specs.Graph.{Graph}
 use Rattle.model.specs.Arena.{arenaBytes, decode, encode, holdsGraph}
 use Rattle.model.proofs.BigEndianLaws.{Bytes}
-use Rattle.model.proofs.Encodable.{Encodable}
-use Rattle.model.proofs.ArenaLaws.{decode-encode}
-use Rattle.model.proofs.ArenaHolds.{holds-encoded}
-use Rattle.model.proofs.ArenaBack.{encode-decode}
-use Rattle.model.proofs.HeldEncodable.{held-encodable}
+use Rattle.arena.proofs.Encodable.{Encodable}
+use Rattle.arena.proofs.ArenaLaws.{decode-encode}
+use Rattle.arena.proofs.ArenaHolds.{holds-encoded}
+use Rattle.arena.proofs.ArenaBack.{encode-decode}
+use Rattle.arena.proofs.HeldEncodable.{held-encodable}
 
 pub holds-exactly : (bs : List ℕ) → Bytes bs → length bs ≡ arenaBytes
     → (holdsGraph bs ≡ true) ↔ ((g : Graph) × Encodable g × (encode g bs ≡ bs))

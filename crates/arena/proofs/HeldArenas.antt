@@ -7,16 +7,16 @@ use Prim.Native.Nat.{ℕ, _≤_, _<_}
 use native.Mathlib.Omega.{arith}
 use lib.Dec.{eqb}
 use borrow.Author.Tests.{eqb-true, eq-eqb, ne-eqb, leb-true}
 use Rattle.model.specs.Lists.{count}
 use Rattle.model.specs.Path.{primCount}
 use Rattle.model.specs.Node.{invalid, Node}
 use Rattle.model.specs.Graph.{Graph, emptyGraph, isShallow, withNode}
 use Rattle.model.specs.Refusals.{refusal, recordQuestions}
 use Rattle.model.specs.Arena.{countIn, orderedIn, finalizedIn, shallowIn, localRootIn, firstChildIn, lastChildIn, nextSiblingIn, primCountIn, recordLengthIn, nodeIn, nodesIn, childrenIn, orderIn, lastOf, localRootOf, recordsAccepted, chainEnds, inChainOnce, inOrderOnce, shallowMarked, nodeRight, holdsGraph}
 use Rattle.model.proofs.ListLaws.{all-below}
 use Rattle.model.proofs.SnapshotLaws.{and-first, and-second}
 use Rattle.model.proofs.SnapshotReadLaws.{GrowsFrom, Grows}
-use Rattle.model.proofs.ChainLaws.{or-second, Chain, chain-held}
+use Rattle.arena.proofs.ChainLaws.{or-second, Chain, chain-held}
 
 -- `nodeRight`, test by test
 pub record HeldNode (bs : List ℕ) (n : ℕ) : Type 0 where

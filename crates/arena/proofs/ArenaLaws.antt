@@ -6,18 +6,18 @@ use Prim.Native.Nat.{ℕ, _≤_, _<_}
 use native.Mathlib.Omega.{arith}
 use lib.Dec.{eqb}
 use lib.ListN.{length}
 use Rattle.model.specs.Lists.{All, bit, count}
 use Rattle.model.specs.Node.{Node, noNode}
 use Rattle.model.specs.Graph.{Graph, size, childrenOf}
 use Rattle.model.specs.Strength.{view}
 use Rattle.model.specs.Arena.{arenaBytes, countIn, nextSiblingIn, orderEntryIn, nodeIn, tabulate, nodesIn, chainIn, childrenIn, orderIn, afterIn, decode, encode}
 use Rattle.model.proofs.ListLaws.{all-imp}
 use Rattle.model.proofs.LengthLaws.{length-at-most-once}
-use Rattle.model.proofs.TabulateLaws.{tabulate-same}
-use Rattle.model.proofs.ChainLaws.{Linked, linked-after, chain-linked}
+use Rattle.arena.proofs.TabulateLaws.{tabulate-same}
+use Rattle.arena.proofs.ChainLaws.{Linked, linked-after, chain-linked}
 use Rattle.model.proofs.Trees.{Child, all-children, child-once}
-use Rattle.model.proofs.Encodable.{Encodable, order-length}
-use Rattle.model.proofs.ArenaFields.{count-encode, ordered-encode, finalized-encode, shallow-encode, order-entry-encode, first-child-encode, next-sibling-encode, node-encode}
+use Rattle.arena.proofs.Encodable.{Encodable, order-length}
+use Rattle.arena.proofs.ArenaFields.{count-encode, ordered-encode, finalized-encode, shallow-encode, order-entry-encode, first-child-encode, next-sibling-encode, node-encode}
 
 -- ---- The graph read back
 
