@@ -231,9 +231,3 @@ compareSiblingNodeStrength u a b = siblingsUpTo u (suc (a + b)) a b
 
 unfoldable pub compareNodeStrength : View → ℕ → ℕ → Ordering
 compareNodeStrength u a b = nodesBy (u .parent) (compareSiblingNodeStrength u) a b
-
--- ---- Other questions of the Rust's
-
--- x is met going up from y, before node 0 and the local root
-unfoldable pub isAncestorOf : View → ℕ → ℕ → Bool
-isAncestorOf u x y = ltb 0 x && (not (u .localRoot x) && eqb (follow (λ n. eqb n x || u .localRoot n) (u .parent) y) x)
