@@ -15,3 +15,4 @@ pub mod Refusals
 pub mod Answers
 pub mod Calls
 pub mod Arena
+pub mod ArenaCalls

@@ -1,0 +1,51 @@
+-- Each call on an arena: questions 1 and 2, then the call's own, and what it leaves of the bytes. One lifting for the calls that write a graph, one for
+-- those that only read; the functions of prim_graph promise no more and no less.
+use mathlib.Core.Path.{_≡_}
+use mathlib.Core.Bool.{Bool, cond}
+use mathlib.Core.List.{List, _∷_}
+use Prim.Native.Nat.{ℕ, zero, suc}
+use lib.Dec.{eqb}
+use lib.ListN.{length}
+use Rattle.model.specs.Graph.{Graph, emptyGraph}
+use Rattle.model.specs.Refusals.{Question, ask, refusal}
+use Rattle.model.specs.Calls.{Outcome, unchanged}
+use Rattle.model.specs.Arena.{arenaBytes, decode, encode, holdsGraph}
+use Rattle.model.specs.Answers.{numberedRefusal, numberedValue}
+use Rattle.model.specs.declared.Numbered.{Numbered}
+
+-- question 1: "Has each lent buffer the size docs/ gives its use"
+abbrev pub isArena : List ℕ → Bool
+isArena bs = eqb (length bs) arenaBytes
+
+-- ---- The calls that write a graph
+
+unfoldable pub onArena : (Graph → Outcome) → List ℕ → Outcome
+onArena f bs = cond (isArena bs) (cond (holdsGraph bs) (f (decode bs)) (unchanged 2 (decode bs))) (unchanged 1 (decode bs))
+
+-- "The room that reading or seeding fills is exempt" from question 2
+unfoldable pub intoArena : Outcome → List ℕ → Outcome
+intoArena o bs = cond (isArena bs) o (unchanged 1 emptyGraph)
+
+-- "the first no is the answer, with value 0 and every lent byte unchanged"; accepted, the arena has the new graph's bytes
+abbrev pub left : Outcome → List ℕ → List ℕ
+left o bs = cond (eqb (o .refused) 0) (encode (o .graph) bs) bs
+
+-- the answer and the arena after a call that came to o
+pub record Wrote (o : Outcome) (before : List ℕ) (r : Numbered) (after : List ℕ) : Type 0 where
+  pub refused : numberedRefusal r ≡ o .refused
+  pub value : numberedValue r ≡ o .value
+  pub arena : after ≡ left o before
+
+-- ---- The calls that only read
+
+abbrev pub askArena : List ℕ → List Question → List Question
+askArena bs questions = ask 1 (isArena bs) ∷ ask 2 (holdsGraph bs) ∷ questions
+
+abbrev pub valueUnless : ℕ → ℕ → ℕ
+valueUnless zero value = value
+valueUnless (suc number) value = 0
+
+-- the answer of a call that puts these questions and gives this value
+pub record Answered (questions : List Question) (answer : ℕ) (r : Numbered) : Type 0 where
+  pub refused : numberedRefusal r ≡ refusal questions
+  pub value : numberedValue r ≡ valueUnless (refusal questions) answer
