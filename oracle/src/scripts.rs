@@ -2,7 +2,6 @@
 
 mod graphs;
 mod paths;
-pub mod random;
 
 pub use graphs::graphs;
 pub use paths::paths;

@@ -8,11 +8,11 @@ mod style;
 
 use std::io::{self, Write};
 
-use super::random::Random;
 use crate::calls::{Answer, Calls, hex};
 use crate::record::NO_NODE;
 use crate::sdf::Path;
 use crate::snapshot;
+use plain::random::Random;
 use style::{Style, child_of};
 
 pub fn graphs(seed: u64, count: usize, out: &mut dyn Write) -> io::Result<()> {

@@ -3,9 +3,9 @@
 
 use std::io::{self, Write};
 
-use super::random::Random;
 use crate::line::MAX_LINE;
 use crate::sdf::Path;
+use plain::random::Random;
 
 /// The bytes that document 01's rules tell apart.
 #[derive(Clone, Copy)]

@@ -2,9 +2,9 @@
 
 use super::check;
 use crate::judge::path_at_intro_depth;
-use crate::scripts::random::Random;
 use crate::sdf::Path;
 use crate::stand_ins::path::TooLong;
+use plain::random::Random;
 
 fn path(text: &str) -> Path {
     Path::parse(text.as_bytes()).expect("a well-formed path")

@@ -3,8 +3,8 @@
 use std::io::Cursor;
 
 use crate::line::MAX_LINE;
-use crate::scripts::random::Random;
 use crate::{scripts, stream};
+use plain::random::Random;
 
 fn answers(input: &[u8]) -> Vec<u8> {
     let mut out = Vec::new();

@@ -5,7 +5,7 @@ use std::iter;
 use crate::narrowing::{MAX_NODES, MAX_PATH_BYTES};
 use crate::pcp::prim_graph::ArcType;
 use crate::record::Record;
-use crate::scripts::random::Random;
+use plain::random::Random;
 
 /// Changes one field of one record; about half of the changes are legal.
 pub fn change_record(random: &mut Random, records: &mut [Record]) {

@@ -2,7 +2,7 @@
 
 use crate::narrowing::MAX_NODES;
 use crate::pcp::prim_graph::ArcType::{self, Inherit, Payload, Reference, Relocate, Specialize, Variant};
-use crate::scripts::random::Random;
+use plain::random::Random;
 
 const NAMES: [&str; 6] = ["A", "B", "c_1", "_d", "Drive", "M"];
 const SELECTIONS: [&str; 6] = ["", "", "", "{v=x}", "{v=y}", "{set=0}{w=_}"];

@@ -1,0 +1,13 @@
+//! Plain Rust for a part of what the proved program does, written by hand from document 01 and docs/LAYOUT.md alone: a
+//! judge that shares nothing with the proved code, and the yardstick for its speed. [`samples`] makes the graphs that
+//! both are tried on, whole and damaged.
+
+pub mod arena;
+pub mod layout;
+pub mod path;
+pub mod random;
+pub mod record;
+pub mod samples;
+pub mod snapshot;
+#[cfg(test)]
+mod tests;

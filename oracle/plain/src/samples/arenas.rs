@@ -1,0 +1,118 @@
+//! Arenas with random graphs.
+
+use super::graphs;
+use crate::layout::*;
+use crate::random::Random;
+use crate::record::{FIXED_BYTES, PARENT};
+use crate::snapshot;
+
+/// An arena that remembers what it held before it was damaged.
+pub struct Arena {
+    bytes: Vec<u8>,
+    /// Where bytes have been changed since, and what stood there.
+    changed: Vec<(usize, u8)>,
+}
+
+impl Arena {
+    /// Bytes that hold no graph yet: any bytes, since a graph leaves those that it does not use as they were.
+    pub fn any(random: &mut Random) -> Self {
+        Self { bytes: (0..ARENA_BYTES).map(|_| random.byte()).collect(), changed: Vec::new() }
+    }
+
+    pub fn bytes(&self) -> &[u8] {
+        &self.bytes
+    }
+
+    /// The count that the header has. Where it is damaged, there may be no such slots.
+    pub fn count(&self) -> usize {
+        self.number(COUNT) as usize
+    }
+
+    /// A number in the arena.
+    pub fn number(&self, at: usize) -> u32 {
+        u32_at(&self.bytes, at)
+    }
+
+    /// Fills the arena with a random graph, mostly of few nodes.
+    pub fn fill(&mut self, random: &mut Random) {
+        let count = match random.below(400) {
+            0..=3 => 0,
+            4..=10 => random.between(20, 60),
+            _ => random.between(1, 12),
+        };
+        let nodes = if random.one_in(5_000) { graphs::crowded(random, 0) } else { graphs::nodes(random, count) };
+        snapshot::read(&graphs::snapshot(&nodes), &mut self.bytes).expect("a graph that a snapshot may have");
+        self.changed.clear();
+        if nodes.is_empty() {
+            return;
+        }
+        self.bytes[SHALLOW] |= u8::from(random.one_in(8));
+        if random.one_in(2) {
+            (0..nodes.len()).for_each(|parent| self.shuffle_children(random, parent));
+        }
+        if random.one_in(2) {
+            self.set_order(random, nodes.len());
+        }
+    }
+
+    /// Links the children of a node in another order.
+    fn shuffle_children(&mut self, random: &mut Random, parent: usize) {
+        let mut children = self.children(parent);
+        shuffle(random, &mut children);
+        let ends = [children.first(), children.last()].map(|end| end.copied().unwrap_or(INVALID));
+        put_u32(&mut self.bytes, slot_at(parent) + FIRST_CHILD, ends[0]);
+        put_u32(&mut self.bytes, slot_at(parent) + LAST_CHILD, ends[1]);
+        for (at, &child) in children.iter().enumerate() {
+            let next = children.get(at + 1).copied().unwrap_or(INVALID);
+            put_u32(&mut self.bytes, slot_at(child as usize) + NEXT_SIBLING, next);
+        }
+    }
+
+    /// The nodes that say that `parent` is their parent.
+    fn children(&self, parent: usize) -> Vec<u32> {
+        let parent_of = |node: &u32| self.number(slot_at(*node as usize) + RECORD + PARENT) as usize;
+        (1..self.count() as u32).filter(|node| parent_of(node) == parent).collect()
+    }
+
+    /// Any order, marked; finalized in some, unless the graph is shallow.
+    fn set_order(&mut self, random: &mut Random, count: usize) {
+        let mut order: Vec<u32> = (0..count as u32).collect();
+        shuffle(random, &mut order);
+        for (at, node) in order.into_iter().enumerate() {
+            put_u32(&mut self.bytes, slot_at(at) + ORDER_ENTRY, node);
+        }
+        self.bytes[ORDERED] = 1;
+        self.bytes[FINALIZED] = u8::from(self.bytes[SHALLOW] == 0 && random.one_in(2));
+    }
+
+    /// Changes bytes, until [`restore`](Self::restore).
+    pub fn put(&mut self, at: usize, bytes: &[u8]) {
+        for (at, &byte) in (at..).zip(bytes) {
+            self.changed.push((at, self.bytes[at]));
+            self.bytes[at] = byte;
+        }
+    }
+
+    pub fn put_number(&mut self, at: usize, number: u32) {
+        self.put(at, &number.to_be_bytes());
+    }
+
+    /// Takes all changes back.
+    pub fn restore(&mut self) {
+        while let Some((at, byte)) = self.changed.pop() {
+            self.bytes[at] = byte;
+        }
+    }
+
+    /// The bytes of a slot that are used, as far as the slot goes.
+    pub fn used(&self, node: usize) -> &[u8] {
+        let slot = &self.bytes[slot_at(node)..][..SLOT_BYTES];
+        &slot[..(RECORD + usize::from(u16_at(slot, RECORD_LENGTH))).clamp(RECORD + FIXED_BYTES, SLOT_BYTES)]
+    }
+}
+
+fn shuffle<T>(random: &mut Random, items: &mut [T]) {
+    for at in (1..items.len()).rev() {
+        items.swap(at, random.below(at + 1));
+    }
+}

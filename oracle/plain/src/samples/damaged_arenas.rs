@@ -1,0 +1,204 @@
+//! Damage to arenas, by kind. Some of it leaves a graph.
+
+use super::arenas::Arena;
+use super::damaged_snapshots::change_letter;
+use crate::layout::*;
+use crate::random::Random;
+use crate::record::{ARC, DEPTH, FIXED_BYTES, FLAGS, HAS_SPECS, ORIGIN, PARENT};
+
+/// One way to damage an arena. It is given one whose header has a right count, at least 1.
+type Kind = fn(&mut Arena, &mut Random);
+
+/// Each kind, by what it changes.
+pub const KINDS: [(&str, Kind); 22] = [
+    ("any byte that is used", any_byte),
+    ("next sibling to another node", |arena, random| link(arena, random, NEXT_SIBLING)),
+    ("first child to another node", |arena, random| link(arena, random, FIRST_CHILD)),
+    ("last child to another node", |arena, random| link(arena, random, LAST_CHILD)),
+    ("child list cut short", cut_list),
+    ("child list into a cycle", close_list),
+    ("tails of two child lists crossed", cross_tails),
+    ("link out of range", link_out_of_range),
+    ("child moved to another list", move_child),
+    ("parent", |arena, random| any_number(arena, random, RECORD + PARENT)),
+    ("origin", |arena, random| any_number(arena, random, RECORD + ORIGIN)),
+    ("order entry", |arena, random| any_number(arena, random, ORDER_ENTRY)),
+    ("two order entries exchanged", exchange_entries),
+    ("marks", marks),
+    ("local root", |arena, random| arena.put_number(LOCAL_ROOT, node_or_not(arena, random))),
+    ("prim count", prim_count),
+    ("count", count),
+    ("count 0", |arena, random| (arena.put_number(COUNT, 0), marks(arena, random)).0),
+    ("record length", record_length),
+    ("path longer by a letter", lengthen_path),
+    ("letter of a path", path_letter),
+    ("arc, flags, has-specs or depth", small_field),
+];
+
+/// Damages up to three places, and answers the kinds: their places in [`KINDS`].
+pub fn damage(arena: &mut Arena, random: &mut Random) -> Vec<usize> {
+    let wanted = random.pick(&[0, 1, 1, 1, 1, 1, 2, 2, 3]);
+    let mut done = Vec::with_capacity(wanted);
+    while done.len() < wanted && (1..=MAX_NODES).contains(&arena.count()) {
+        let kind = random.below(KINDS.len());
+        KINDS[kind].1(arena, random);
+        done.push(kind);
+    }
+    if arena.count() == 0 && random.one_in(3) {
+        KINDS[EMPTY_MARKS].1(arena, random);
+        done.push(EMPTY_MARKS);
+    }
+    done
+}
+
+/// The kind that suits an empty graph too.
+const EMPTY_MARKS: usize = 13;
+
+/// Where the slot of some node begins.
+fn any_slot(arena: &Arena, random: &mut Random) -> usize {
+    slot_at(random.below(arena.count()))
+}
+
+/// Mostly a node's number; else one near the limits.
+fn node_or_not(arena: &Arena, random: &mut Random) -> u32 {
+    let count = arena.count() as u32;
+    match random.below(5) {
+        0 => random.pick(&[count, count + 1, 1_023, 1_024, 65_536, INVALID - 1, INVALID]),
+        _ => random.below(arena.count()) as u32,
+    }
+}
+
+fn any_byte(arena: &mut Arena, random: &mut Random) {
+    let byte = random.byte();
+    if random.one_in(8) {
+        return arena.put(random.pick(&[0, 1, 2, 3, 4, 5, 6, 8, 9, 10, 11]), &[byte]);
+    }
+    let node = random.below(arena.count());
+    let at = random.below(arena.used(node).len());
+    arena.put(slot_at(node) + at, &[byte]);
+}
+
+fn link(arena: &mut Arena, random: &mut Random, which: usize) {
+    let to = random.below(arena.count()) as u32;
+    arena.put_number(any_slot(arena, random) + which, to);
+}
+
+fn link_out_of_range(arena: &mut Arena, random: &mut Random) {
+    let count = arena.count() as u32;
+    let which = random.pick(&[FIRST_CHILD, LAST_CHILD, NEXT_SIBLING]);
+    let to = random.pick(&[count, count + 1, 1_023, 1_024, 65_536, INVALID - 1]);
+    arena.put_number(any_slot(arena, random) + which, to);
+}
+
+fn any_number(arena: &mut Arena, random: &mut Random, which: usize) {
+    arena.put_number(any_slot(arena, random) + which, node_or_not(arena, random));
+}
+
+fn cut_list(arena: &mut Arena, random: &mut Random) {
+    let slot = any_slot(arena, random);
+    let which = random.pick(&[NEXT_SIBLING, NEXT_SIBLING, FIRST_CHILD]);
+    if arena.number(slot + which) != INVALID && random.one_in(2) {
+        arena.put_number(slot + LAST_CHILD, arena.number(slot + FIRST_CHILD));
+    }
+    arena.put_number(slot + which, INVALID);
+}
+
+/// Leads the last child of some node to its first, or to itself.
+fn close_list(arena: &mut Arena, random: &mut Random) {
+    let slot = any_slot(arena, random);
+    let (first, last) = (arena.number(slot + FIRST_CHILD), arena.number(slot + LAST_CHILD));
+    if (last as usize) < MAX_NODES {
+        arena.put_number(slot_at(last as usize) + NEXT_SIBLING, random.pick(&[first, last]));
+    }
+}
+
+fn cross_tails(arena: &mut Arena, random: &mut Random) {
+    let (one, other) = (any_slot(arena, random) + NEXT_SIBLING, any_slot(arena, random) + NEXT_SIBLING);
+    let (after_one, after_other) = (arena.number(one), arena.number(other));
+    arena.put_number(one, after_other);
+    arena.put_number(other, after_one);
+}
+
+/// Takes a first child out of its list and puts it first into another, all links right. What may be wrong then is that
+/// the new parent is not lower, or that the local root is not below node 0.
+fn move_child(arena: &mut Arena, random: &mut Random) {
+    let (from, to) = (any_slot(arena, random), any_slot(arena, random));
+    let child = arena.number(from + FIRST_CHILD);
+    if child as usize >= MAX_NODES {
+        return;
+    }
+    let slot = slot_at(child as usize);
+    let next = arena.number(slot + NEXT_SIBLING);
+    arena.put_number(from + FIRST_CHILD, next);
+    if next == INVALID {
+        arena.put_number(from + LAST_CHILD, INVALID);
+    }
+    let follows = arena.number(to + FIRST_CHILD);
+    arena.put_number(slot + NEXT_SIBLING, follows);
+    arena.put_number(to + FIRST_CHILD, child);
+    if follows == INVALID {
+        arena.put_number(to + LAST_CHILD, child);
+    }
+    arena.put_number(slot + RECORD + PARENT, ((to - HEADER_BYTES) / SLOT_BYTES) as u32);
+}
+
+fn exchange_entries(arena: &mut Arena, random: &mut Random) {
+    let (one, other) = (any_slot(arena, random) + ORDER_ENTRY, any_slot(arena, random) + ORDER_ENTRY);
+    let (first, second) = (arena.number(one), arena.number(other));
+    arena.put_number(one, second);
+    arena.put_number(other, first);
+}
+
+fn marks(arena: &mut Arena, random: &mut Random) {
+    if random.one_in(2) {
+        let bits = random.below(8) as u8;
+        return arena.put(ORDERED, &[bits & 1, bits >> 1 & 1, bits >> 2]);
+    }
+    arena.put(random.pick(&[ORDERED, FINALIZED, SHALLOW]), &[random.pick(&[0, 1, 2, 255])]);
+}
+
+fn prim_count(arena: &mut Arena, random: &mut Random) {
+    let at = any_slot(arena, random) + PRIM_COUNT;
+    let changed = arena.bytes()[at].wrapping_add(random.pick(&[1, u8::MAX]));
+    arena.put(at, &[changed]);
+}
+
+fn count(arena: &mut Arena, random: &mut Random) {
+    let count = arena.count() as u32;
+    let changed = random.pick(&[count - 1, count + 1, 1, 1_024, 1_025, 65_536, 65_536 + count, INVALID]);
+    arena.put_number(COUNT, changed);
+}
+
+fn record_length(arena: &mut Arena, random: &mut Random) {
+    let at = any_slot(arena, random) + RECORD_LENGTH;
+    let length = u16_at(arena.bytes(), at);
+    let changed = random.pick(&[length.wrapping_sub(1), length.wrapping_add(1), 27, 28, 282, 283, 301, 302, 65_535]);
+    arena.put(at, &changed.to_be_bytes());
+}
+
+fn lengthen_path(arena: &mut Arena, random: &mut Random) {
+    let slot = any_slot(arena, random);
+    let length = u16_at(arena.bytes(), slot + RECORD_LENGTH);
+    if usize::from(length) < SLOT_BYTES - RECORD {
+        arena.put(slot + RECORD_LENGTH, &(length + 1).to_be_bytes());
+        arena.put(slot + RECORD + usize::from(length), &[random.pick(b"aZ_9")]);
+    }
+}
+
+fn path_letter(arena: &mut Arena, random: &mut Random) {
+    let node = random.below(arena.count());
+    let mut path = arena.used(node)[RECORD + FIXED_BYTES..].to_vec();
+    change_letter(random, &mut path);
+    arena.put(slot_at(node) + RECORD + FIXED_BYTES, &path);
+}
+
+fn small_field(arena: &mut Arena, random: &mut Random) {
+    let record = any_slot(arena, random) + RECORD;
+    match random.below(5) {
+        0 => arena.put(record + ARC, &[random.pick(&[0, 1, 6, 7, 255])]),
+        1 => arena.put(record + FLAGS, &[random.byte()]),
+        2 => arena.put(record + HAS_SPECS, &[random.pick(&[0, 1, 2, 255])]),
+        3 => arena.put(record + DEPTH, &random.pick(&[0u16, 1, 4, 65_535]).to_be_bytes()),
+        _ => arena.put(record + DEPTH + 2, &[random.byte(), random.byte()]),
+    }
+}

@@ -1,0 +1,5 @@
+//! The plain code against the definitions, word by word, on whole and damaged samples.
+
+mod arenas;
+mod definitions;
+mod snapshots;
