@@ -19,35 +19,47 @@ mod stand_ins;
 mod stream;
 #[cfg(test)]
 mod tests;
+mod timing;
 
 use std::env;
 use std::io::{self, BufWriter, Write};
 use std::process::ExitCode;
 
 const USAGE: &str = "\
-usage: oracle answer                     answer the lines on standard input
-       oracle script paths SEED          print lines on paths
-       oracle script graphs SEED COUNT   print lines on COUNT random graphs";
+usage: oracle answer                        answer the lines on standard input
+       oracle script paths SEED             print lines on paths
+       oracle script graphs SEED COUNT      print lines on COUNT random graphs
+       oracle script arenas SEED COUNT      print COUNT scripts that make graphs and look at them
+       oracle script snapshots SEED COUNT   print lines that read COUNT damaged snapshots
+       oracle time-adding COUNT             print the nanoseconds that the Rust takes to add COUNT nodes";
+
+type Script = fn(u64, usize, &mut dyn Write) -> io::Result<()>;
 
 fn main() -> ExitCode {
     let arguments: Vec<String> = env::args().skip(1).collect();
     let words: Vec<&str> = arguments.iter().map(String::as_str).collect();
     let printed = match words[..] {
-        ["answer"] => print(|out| stream::answer_all(&mut io::stdin().lock(), out, explained())),
-        ["script", "paths", seed] => match seed.parse() {
-            Ok(seed) => print(|out| scripts::paths(seed, out)),
-            Err(_) => return usage(),
-        },
-        ["script", "graphs", seed, count] => match (seed.parse(), count.parse()) {
-            (Ok(seed), Ok(count)) => print(|out| scripts::graphs(seed, count, out)),
-            _ => return usage(),
-        },
-        _ => return usage(),
+        ["answer"] => Some(print(|out| stream::answer_all(&mut io::stdin().lock(), out, explained()))),
+        ["script", "paths", seed] => seed.parse().ok().map(|seed| print(|out| scripts::paths(seed, out))),
+        ["script", "graphs", seed, count] => print_script(scripts::graphs, seed, count),
+        ["script", "arenas", seed, count] => print_script(scripts::arenas, seed, count),
+        ["script", "snapshots", seed, count] => print_script(scripts::snapshots, seed, count),
+        ["time-adding", count] => {
+            count.parse().ok().map(|count| print(|out| writeln!(out, "{}", timing::adding(count))))
+        }
+        _ => None,
     };
     match printed {
-        Ok(()) => ExitCode::SUCCESS,
-        Err(_) => ExitCode::FAILURE,
+        Some(Ok(())) => ExitCode::SUCCESS,
+        Some(Err(_)) => ExitCode::FAILURE,
+        None => usage(),
     }
+}
+
+/// Prints a script, if the words are numbers.
+fn print_script(script: Script, seed: &str, count: &str) -> Option<io::Result<()>> {
+    let (seed, count) = (seed.parse().ok()?, count.parse().ok()?);
+    Some(print(|out| script(seed, count, out)))
 }
 
 fn usage() -> ExitCode {

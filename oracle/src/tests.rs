@@ -1,10 +1,11 @@
-//! The examples of document 01, the edges of the language, and inputs that mean nothing.
+//! The examples of document 01, the edges of the language, inputs that mean nothing, and the plain reader of snapshots.
 
 mod departures;
 mod examples;
 mod lines;
 mod paths;
 mod robustness;
+mod snapshots;
 
 use crate::calls::Calls;
 

@@ -13,7 +13,8 @@ use crate::record::NO_NODE;
 use crate::sdf::Path;
 use crate::snapshot;
 use plain::random::Random;
-use style::{Style, child_of};
+pub use style::Style;
+use style::child_of;
 
 pub fn graphs(seed: u64, count: usize, out: &mut dyn Write) -> io::Result<()> {
     let mut random = Random::new(seed);
@@ -26,12 +27,12 @@ pub fn graphs(seed: u64, count: usize, out: &mut dyn Write) -> io::Result<()> {
     Ok(())
 }
 
-struct Script<'a> {
-    random: &'a mut Random,
+pub struct Script<'a> {
+    pub random: &'a mut Random,
     /// Makes the calls as they are written, so that a later line can build on their answers.
-    calls: &'a mut Calls,
-    out: &'a mut dyn Write,
-    style: Style,
+    pub calls: &'a mut Calls,
+    pub out: &'a mut dyn Write,
+    pub style: Style,
 }
 
 impl Script<'_> {
@@ -49,13 +50,13 @@ impl Script<'_> {
     }
 
     /// Writes a line, makes its call and hands its answer back.
-    fn say(&mut self, line: &str) -> io::Result<Answer> {
+    pub fn say(&mut self, line: &str) -> io::Result<Answer> {
         self.out.write_all(line.as_bytes())?;
         self.out.write_all(b"\n")?;
         Ok(self.calls.answer(line.as_bytes()))
     }
 
-    fn say_all(&mut self, lines: &[&str]) -> io::Result<()> {
+    pub fn say_all(&mut self, lines: &[&str]) -> io::Result<()> {
         lines.iter().try_for_each(|line| self.say(line).map(drop))
     }
 
@@ -67,7 +68,7 @@ impl Script<'_> {
         })
     }
 
-    fn count(&self) -> usize {
+    pub fn count(&self) -> usize {
         self.calls.current().graph().len()
     }
 
@@ -76,6 +77,10 @@ impl Script<'_> {
             let early = self.random.pick(&["order", "list", "cull", "erasable", "erase 0", "deepen /A", "seed /A"]);
             self.say(early)?;
         }
+        self.init()
+    }
+
+    pub fn init(&mut self) -> io::Result<()> {
         let (stack, layer, path) = (self.stack(), self.random.below(3), self.path());
         self.say(&format!("init {stack} {layer} {path}"))?;
         Ok(())
@@ -164,11 +169,12 @@ impl Script<'_> {
         self.say_all(&["marks", "list", "dump"])
     }
 
-    /// Writes a snapshot and reads it back: as it is, with one record changed, or with one byte changed.
     fn snapshot(&mut self) -> io::Result<()> {
-        if self.random.one_in(60) {
-            return self.crowded_snapshot();
-        }
+        if self.random.one_in(60) { self.crowded_snapshot() } else { self.read_back() }
+    }
+
+    /// Writes a snapshot and reads it back: as it is, with one record changed, or with one byte changed.
+    pub fn read_back(&mut self) -> io::Result<()> {
         self.say("write")?;
         let mut records = self.calls.current().records();
         if self.random.one_in(2) {
@@ -199,7 +205,7 @@ impl Script<'_> {
         Ok(())
     }
 
-    fn ask_about_node(&mut self) -> io::Result<()> {
+    pub fn ask_about_node(&mut self) -> io::Result<()> {
         for _ in 0..2 {
             let node = self.node_number();
             self.say(&format!("below {node}"))?;

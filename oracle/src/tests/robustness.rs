@@ -2,9 +2,11 @@
 
 use std::io::Cursor;
 
+use plain::random::Random;
+
+use crate::Script;
 use crate::line::MAX_LINE;
 use crate::{scripts, stream};
-use plain::random::Random;
 
 fn answers(input: &[u8]) -> Vec<u8> {
     let mut out = Vec::new();
@@ -72,14 +74,45 @@ fn the_longest_chains_of_origins_and_parents() {
     assert_eq!(lines(&answers(script.as_bytes())), lines(script.as_bytes()));
 }
 
-#[test]
-fn graph_scripts() {
+fn script(print: Script, seed: u64, count: usize) -> Vec<u8> {
     let mut script = Vec::new();
-    scripts::graphs(5, 60, &mut script).expect("memory takes every byte");
-    assert_eq!(lines(&answers(&script)), lines(&script));
-    let mut again = Vec::new();
-    scripts::graphs(5, 60, &mut again).expect("memory takes every byte");
-    assert_eq!(again, script);
+    print(seed, count, &mut script).expect("memory takes every byte");
+    script
+}
+
+#[test]
+fn repeatable_scripts() {
+    let scripts: [(Script, usize); 3] = [(scripts::graphs, 60), (scripts::arenas, 300), (scripts::snapshots, 300)];
+    for (print, count) in scripts {
+        let printed = script(print, 5, count);
+        assert_eq!(lines(&answers(&printed)), lines(&printed));
+        assert!(script(print, 5, count) == printed);
+    }
+}
+
+/// Arenas and snapshots are scripts for a program that makes graphs and looks at them, and no more.
+#[test]
+fn words_of_the_arena_and_snapshot_scripts() {
+    const WORDS: [&[u8]; 13] = [
+        b"", b"new", b"init", b"add", b"read", b"write", b"dump", b"chains", b"marks", b"using", b"below", b"intro",
+        b"swap",
+    ];
+    let printed = [script(scripts::arenas, 9, 600), script(scripts::snapshots, 9, 100)].concat();
+    for line in printed.split(|&byte| byte == b'\n') {
+        let word = line.split(|&byte| byte == b' ').next().unwrap_or(line);
+        assert!(WORDS.contains(&word) && line.len() <= MAX_LINE, "{}", String::from_utf8_lossy(line));
+    }
+}
+
+/// Every refusal that these scripts are for comes, and the limits are met on both sides.
+#[test]
+fn refusals_of_the_arena_and_snapshot_scripts() {
+    let refused = |script: &[u8]| {
+        let answers = String::from_utf8(answers(script)).expect("text");
+        (0..=12).filter(|number| answers.lines().any(|line| line == format!("refused {number}"))).collect::<Vec<_>>()
+    };
+    assert_eq!(refused(&script(scripts::arenas, 10, 600)), [3, 4, 5, 6, 7, 12]);
+    assert_eq!(refused(&script(scripts::snapshots, 10, 2_000)), [4, 5, 6, 7, 12]);
 }
 
 #[test]
@@ -92,8 +125,7 @@ fn the_path_script() {
 
 #[test]
 fn scripts_with_bytes_changed() {
-    let mut script = Vec::new();
-    scripts::graphs(7, 40, &mut script).expect("memory takes every byte");
+    let mut script = script(scripts::graphs, 7, 40);
     let mut random = Random::new(8);
     for _ in 0..script.len() / 50 {
         let at = random.below(script.len());

@@ -4,18 +4,20 @@ use super::graphs::{self, Node, path_of, set_length};
 use crate::layout::INVALID;
 use crate::path;
 use crate::random::Random;
-use crate::record::FIXED_BYTES;
+use crate::record::{FIXED_BYTES, ROOT};
 use crate::snapshot::HEADER;
 
-/// A damaged snapshot of `nodes`: a field is changed before they are written, or bytes afterwards, or both.
+/// A damaged snapshot of `nodes`: fields are changed before they are written, or bytes afterwards, or both.
 pub fn damaged(random: &mut Random, nodes: &[Node]) -> Vec<u8> {
     let mut nodes = nodes.to_vec();
     let way = random.below(8);
-    if way < 5 {
-        change_field(random, &mut nodes);
+    if way < 6 {
+        for _ in 0..random.pick(&[1, 1, 1, 2, 3]) {
+            change_field(random, &mut nodes);
+        }
     }
     let mut bytes = graphs::snapshot(&nodes);
-    if way > 3 {
+    if way > 4 {
         change_bytes(random, &mut bytes);
         if random.one_in(2) {
             set_length(&mut bytes);
@@ -31,12 +33,12 @@ fn change_field(random: &mut Random, nodes: &mut [Node]) {
     let Some(node) = nodes.get_mut(at) else { return };
     let lower = random.below(at) as u32;
     let not_lower = random.pick(&[at as u32, at as u32 + 1, above, 65_536, INVALID - 1, INVALID]);
-    match random.below(14) {
+    match random.below(16) {
         0 => node.parent = not_lower,
         1 => node.origin = not_lower,
         2 => node.parent = lower,
         3 => node.origin = lower,
-        4 => node.arc = random.pick(&[0, 0, 1, 6, 7, 8, 255]),
+        4 => node.arc = random.pick(&[1, 6, 7, 8, 255]),
         5 => node.flags ^= 1 << random.below(8),
         6 => node.flags ^= random.pick(&[1, 2, 3]),
         7 => node.has_specs = random.pick(&[0, 1, 2, 255]),
@@ -44,7 +46,8 @@ fn change_field(random: &mut Random, nodes: &mut [Node]) {
         9 => node.path = random.pick(&["", "A", "//", "/A{v=x}/B", "/A{v=x}1", "/A{v=x}B", "/A/", "/1"]).into(),
         10 => node.path = path_of(random.pick(&[path::MAX_BYTES, path::MAX_BYTES + 1])),
         11 => change_letter(random, &mut node.path),
-        12 => node.depth = random.pick(&[0, 1, 2, 5, 65_535]),
+        12 | 13 => node.arc = ROOT,
+        14 => node.depth = random.pick(&[0, 1, 2, 5, 65_535]),
         _ => (node.stack, node.sibling) = (random.below(1 << 32) as u32, random.below(1 << 16) as u16),
     }
 }
@@ -63,7 +66,7 @@ fn change_bytes(random: &mut Random, bytes: &mut Vec<u8>) {
     let at = random.below(bytes.len());
     let off_by_one = random.pick(&[1, u8::MAX]);
     match random.below(9) {
-        0 => bytes.truncate(at),
+        0 => bytes.truncate(at.max(1)),
         1 => bytes.insert(at, random.byte()),
         2 => double(random, bytes, at),
         3 => bytes[3] = bytes[3].wrapping_add(off_by_one),

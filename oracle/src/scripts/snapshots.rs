@@ -1,0 +1,26 @@
+//! Snapshots to read: a whole one, then a damaged copy of it, then what is held is written. A few are at a limit or just
+//! past it.
+
+use std::io::{self, Write};
+
+use plain::random::Random;
+use plain::samples::damaged_snapshots::damaged;
+use plain::samples::graphs::{crowded, nodes, snapshot};
+
+use crate::calls::hex;
+
+pub fn snapshots(seed: u64, count: usize, out: &mut dyn Write) -> io::Result<()> {
+    let mut random = Random::new(seed);
+    for at in 0..count {
+        let size = random.below(9);
+        let whole = nodes(&mut random, size);
+        let other = if at % 100 == 50 {
+            let more = random.below(2);
+            snapshot(&crowded(&mut random, more))
+        } else {
+            damaged(&mut random, &whole)
+        };
+        writeln!(out, "read {}\nread {}\nwrite", hex(&snapshot(&whole)), hex(&other))?;
+    }
+    Ok(())
+}
