@@ -59,6 +59,19 @@ fn any_slot(arena: &Arena, random: &mut Random) -> usize {
     slot_at(random.below(arena.count()))
 }
 
+/// The node whose slot begins there.
+fn number_of(slot: usize) -> u32 {
+    ((slot - HEADER_BYTES) / SLOT_BYTES) as u32
+}
+
+/// Where the slot of a node begins that has this link; if there is none, that of any node.
+fn linked_slot(arena: &Arena, random: &mut Random, which: usize) -> usize {
+    let count = arena.count();
+    let start = random.below(count);
+    let mut slots = (0..count).map(|at| slot_at((start + at) % count));
+    slots.find(|slot| arena.number(slot + which) != INVALID).unwrap_or(slot_at(start))
+}
+
 /// Mostly a node's number; else one near the limits.
 fn node_or_not(arena: &Arena, random: &mut Random) -> u32 {
     let count = arena.count() as u32;
@@ -94,18 +107,22 @@ fn any_number(arena: &mut Arena, random: &mut Random, which: usize) {
     arena.put_number(any_slot(arena, random) + which, node_or_not(arena, random));
 }
 
+/// Ends a list early; in some, the last child then is the one that ends it.
 fn cut_list(arena: &mut Arena, random: &mut Random) {
-    let slot = any_slot(arena, random);
     let which = random.pick(&[NEXT_SIBLING, NEXT_SIBLING, FIRST_CHILD]);
-    if arena.number(slot + which) != INVALID && random.one_in(2) {
-        arena.put_number(slot + LAST_CHILD, arena.number(slot + FIRST_CHILD));
-    }
+    let slot = linked_slot(arena, random, which);
     arena.put_number(slot + which, INVALID);
+    let parent = arena.number(slot + RECORD + PARENT) as usize;
+    if random.one_in(2) && which == FIRST_CHILD {
+        arena.put_number(slot + LAST_CHILD, INVALID);
+    } else if random.one_in(2) && parent < MAX_NODES {
+        arena.put_number(slot_at(parent) + LAST_CHILD, number_of(slot));
+    }
 }
 
 /// Leads the last child of some node to its first, or to itself.
 fn close_list(arena: &mut Arena, random: &mut Random) {
-    let slot = any_slot(arena, random);
+    let slot = linked_slot(arena, random, LAST_CHILD);
     let (first, last) = (arena.number(slot + FIRST_CHILD), arena.number(slot + LAST_CHILD));
     if (last as usize) < MAX_NODES {
         arena.put_number(slot_at(last as usize) + NEXT_SIBLING, random.pick(&[first, last]));
@@ -113,7 +130,8 @@ fn close_list(arena: &mut Arena, random: &mut Random) {
 }
 
 fn cross_tails(arena: &mut Arena, random: &mut Random) {
-    let (one, other) = (any_slot(arena, random) + NEXT_SIBLING, any_slot(arena, random) + NEXT_SIBLING);
+    let one = linked_slot(arena, random, NEXT_SIBLING) + NEXT_SIBLING;
+    let other = any_slot(arena, random) + NEXT_SIBLING;
     let (after_one, after_other) = (arena.number(one), arena.number(other));
     arena.put_number(one, after_other);
     arena.put_number(other, after_one);
@@ -122,7 +140,7 @@ fn cross_tails(arena: &mut Arena, random: &mut Random) {
 /// Takes a first child out of its list and puts it first into another, all links right. What may be wrong then is that
 /// the new parent is not lower, or that the local root is not below node 0.
 fn move_child(arena: &mut Arena, random: &mut Random) {
-    let (from, to) = (any_slot(arena, random), any_slot(arena, random));
+    let (from, to) = (linked_slot(arena, random, FIRST_CHILD), any_slot(arena, random));
     let child = arena.number(from + FIRST_CHILD);
     if child as usize >= MAX_NODES {
         return;
@@ -139,7 +157,7 @@ fn move_child(arena: &mut Arena, random: &mut Random) {
     if follows == INVALID {
         arena.put_number(to + LAST_CHILD, child);
     }
-    arena.put_number(slot + RECORD + PARENT, ((to - HEADER_BYTES) / SLOT_BYTES) as u32);
+    arena.put_number(slot + RECORD + PARENT, number_of(to));
 }
 
 fn exchange_entries(arena: &mut Arena, random: &mut Random) {

@@ -196,7 +196,7 @@ pub fn grown(count: usize) -> Vec<(u32, Vec<u8>)> {
     let mut random = Random::new(count as u64);
     let child = |at| {
         let parent = if at == 1 { 0 } else { random.below(at) };
-        (parent as u32, super::path(&mut random, 25))
+        (parent as u32, super::path(&mut random, 22))
     };
     (1..count).map(child).collect()
 }

@@ -62,6 +62,15 @@ fn limits() {
 }
 
 #[test]
+fn grown_graphs_fit() {
+    for size in [16, 64, 256, MAX_NODES] {
+        let children = graphs::grown(size);
+        let bytes: usize = children.iter().map(|(_, path)| path.len()).sum();
+        assert!(children.len() == size - 1 && bytes / size >= 24 && bytes + 6 <= MAX_PATH_BYTES, "{size}: {bytes}");
+    }
+}
+
+#[test]
 fn damaged_snapshots() {
     let mut random = Random::new(2);
     let mut arena = vec![0; ARENA_BYTES];

@@ -1,0 +1,93 @@
+//! The proved check of an arena (document 01, question 2) against the plain one, on whole and damaged arenas.
+use plain::arena::holds_graph;
+use plain::layout::{HEADER_BYTES, MAX_NODES};
+use plain::random::Random;
+use plain::samples::arenas::Arena;
+use plain::samples::damaged_arenas::{KINDS, damage};
+
+use crate::proved;
+
+/// Arenas made of one graph: the whole one, and damaged ones.
+const OF_ONE_GRAPH: usize = 8;
+
+/// Compares the checks on `count` arenas, prints what was found, and answers whether they agree on all.
+pub fn compare(seed: u64, count: usize) -> bool {
+    let mut random = Random::new(seed);
+    let mut arena = Arena::any(&mut random);
+    let mut found = Found::default();
+    for at in 0..count {
+        if at % OF_ONE_GRAPH == 0 {
+            arena.fill(&mut random);
+        }
+        let nodes = arena.count();
+        let kinds = if at % OF_ONE_GRAPH == 0 { Vec::new() } else { damage(&mut arena, &mut random) };
+        found.take(&arena, nodes, &kinds);
+        arena.restore();
+    }
+    found.print();
+    found.smallest.is_none()
+}
+
+/// What the comparison has found so far.
+#[derive(Default)]
+struct Found {
+    agreed: usize,
+    differed: usize,
+    /// Of all arenas, and for each kind of damage of those that have it: how many hold no graph, and how many hold one.
+    all: [usize; 2],
+    kinds: [[usize; 2]; KINDS.len()],
+    smallest: Option<Difference>,
+}
+
+impl Found {
+    /// `nodes` is the count of the arena before it was damaged.
+    fn take(&mut self, arena: &Arena, nodes: usize, kinds: &[usize]) {
+        let holds = holds_graph(arena.bytes());
+        self.all[usize::from(holds)] += 1;
+        kinds.iter().for_each(|&kind| self.kinds[kind][usize::from(holds)] += 1);
+        let answered = proved::is_graph(arena.bytes());
+        if answered == u32::from(holds) {
+            self.agreed += 1;
+            return;
+        }
+        self.differed += 1;
+        let size = (nodes, kinds.len());
+        if self.smallest.as_ref().is_none_or(|smallest| size < smallest.size) {
+            self.smallest = Some(Difference { size, text: difference(arena, nodes, kinds, holds, answered) });
+        }
+    }
+
+    fn print(&self) {
+        println!("{:34} {:>9} {:>9}", "damage", "graph", "no graph");
+        for ((name, _), [not, held]) in KINDS.iter().zip(self.kinds) {
+            println!("{name:34} {held:9} {not:9}");
+        }
+        println!("{:34} {:9} {:9}", "all arenas", self.all[1], self.all[0]);
+        println!("arenas: {} agree, {} differ", self.agreed, self.differed);
+        if let Some(smallest) = &self.smallest {
+            println!("the smallest that differs:\n{}", smallest.text);
+        }
+    }
+}
+
+/// An arena on which the checks differ.
+struct Difference {
+    /// The nodes, and the places damaged.
+    size: (usize, usize),
+    text: String,
+}
+
+fn difference(arena: &Arena, nodes: usize, kinds: &[usize], holds: bool, answered: u32) -> String {
+    let names: Vec<&str> = kinds.iter().map(|&kind| KINDS[kind].0).collect();
+    let damage = if names.is_empty() { "none".into() } else { names.join("; ") };
+    let mut text = format!("damage: {damage}\nplain {}, proved {answered}\n", u32::from(holds));
+    text += &format!("header {}\n", hex(&arena.bytes()[..HEADER_BYTES]));
+    for node in 0..nodes.max(arena.count().min(MAX_NODES)) {
+        text += &format!("slot {node} {}\n", hex(arena.used(node)));
+    }
+    text
+}
+
+fn hex(bytes: &[u8]) -> String {
+    bytes.iter().map(|byte| format!("{byte:02x}")).collect()
+}
