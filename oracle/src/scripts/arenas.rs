@@ -1,6 +1,6 @@
 //! Lines that make graphs and look at them, and nothing else: `new`, `init`, `add`, `read`, `write`, `dump`, `chains`,
-//! `marks`, `using`, `below`, `intro` and `swap`. Graphs are grown as in `graphs.rs`, up to 40 nodes; a few scripts go to
-//! a limit and past it.
+//! `marks`, `using`, `below`, `intro` and `swap`. Graphs are grown as in `graphs.rs`, up to 40 nodes; a few scripts go
+//! to a limit and past it.
 
 use std::io::{self, Write};
 

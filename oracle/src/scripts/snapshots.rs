@@ -1,5 +1,5 @@
-//! Snapshots to read: a whole one, then a damaged copy of it, then what is held is written. A few are at a limit or just
-//! past it.
+//! Snapshots to read: a whole one, then a damaged copy of it, then what is held is written. A few are at a limit or
+//! just past it.
 
 use std::io::{self, Write};
 

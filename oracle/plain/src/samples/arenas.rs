@@ -40,7 +40,7 @@ impl Arena {
             4..=10 => random.between(20, 60),
             _ => random.between(1, 12),
         };
-        let nodes = if random.one_in(5_000) { graphs::crowded(random, 0) } else { graphs::nodes(random, count) };
+        let nodes = if random.one_in(200) { graphs::crowded(random, 0) } else { graphs::nodes(random, count) };
         snapshot::read(&graphs::snapshot(&nodes), &mut self.bytes).expect("a graph that a snapshot may have");
         self.changed.clear();
         if nodes.is_empty() {
@@ -48,30 +48,32 @@ impl Arena {
         }
         self.bytes[SHALLOW] |= u8::from(random.one_in(8));
         if random.one_in(2) {
-            (0..nodes.len()).for_each(|parent| self.shuffle_children(random, parent));
+            self.shuffle_children(random, nodes.len());
         }
         if random.one_in(2) {
             self.set_order(random, nodes.len());
         }
     }
 
-    /// Links the children of a node in another order.
-    fn shuffle_children(&mut self, random: &mut Random, parent: usize) {
-        let mut children = self.children(parent);
-        shuffle(random, &mut children);
-        let ends = [children.first(), children.last()].map(|end| end.copied().unwrap_or(INVALID));
-        put_u32(&mut self.bytes, slot_at(parent) + FIRST_CHILD, ends[0]);
-        put_u32(&mut self.bytes, slot_at(parent) + LAST_CHILD, ends[1]);
-        for (at, &child) in children.iter().enumerate() {
-            let next = children.get(at + 1).copied().unwrap_or(INVALID);
-            put_u32(&mut self.bytes, slot_at(child as usize) + NEXT_SIBLING, next);
+    /// Links the children of every node in another order.
+    fn shuffle_children(&mut self, random: &mut Random, count: usize) {
+        let mut lists = vec![Vec::new(); count];
+        for node in 1..count {
+            lists[self.number(slot_at(node) + RECORD + PARENT) as usize].push(node as u32);
+        }
+        for (parent, list) in lists.iter_mut().enumerate() {
+            shuffle(random, list);
+            self.link_children(parent, list);
         }
     }
 
-    /// The nodes that say that `parent` is their parent.
-    fn children(&self, parent: usize) -> Vec<u32> {
-        let parent_of = |node: &u32| self.number(slot_at(*node as usize) + RECORD + PARENT) as usize;
-        (1..self.count() as u32).filter(|node| parent_of(node) == parent).collect()
+    fn link_children(&mut self, parent: usize, children: &[u32]) {
+        let or_none = |child: Option<&u32>| child.copied().unwrap_or(INVALID);
+        put_u32(&mut self.bytes, slot_at(parent) + FIRST_CHILD, or_none(children.first()));
+        put_u32(&mut self.bytes, slot_at(parent) + LAST_CHILD, or_none(children.last()));
+        for (at, &child) in children.iter().enumerate() {
+            put_u32(&mut self.bytes, slot_at(child as usize) + NEXT_SIBLING, or_none(children.get(at + 1)));
+        }
     }
 
     /// Any order, marked; finalized in some, unless the graph is shallow.

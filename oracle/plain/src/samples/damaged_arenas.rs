@@ -4,14 +4,16 @@ use super::arenas::Arena;
 use super::damaged_snapshots::change_letter;
 use crate::layout::*;
 use crate::random::Random;
-use crate::record::{ARC, DEPTH, FIXED_BYTES, FLAGS, HAS_SPECS, ORIGIN, PARENT};
+use crate::record::{ARC, DEPTH, FIXED_BYTES, FLAGS, HAS_SPECS, ORIGIN, PARENT, ROOT};
 
-/// One way to damage an arena. It is given one whose header has a right count, at least 1.
+/// One way to damage an arena. It is given one whose count is 1 to 1,024.
 type Kind = fn(&mut Arena, &mut Random);
 
 /// Each kind, by what it changes.
-pub const KINDS: [(&str, Kind); 22] = [
-    ("any byte that is used", any_byte),
+pub const KINDS: [(&str, Kind); 24] = [
+    ("marks", marks),
+    ("any byte that is used", used_byte),
+    ("any byte that is not used", unused_byte),
     ("next sibling to another node", |arena, random| link(arena, random, NEXT_SIBLING)),
     ("first child to another node", |arena, random| link(arena, random, FIRST_CHILD)),
     ("last child to another node", |arena, random| link(arena, random, LAST_CHILD)),
@@ -24,35 +26,31 @@ pub const KINDS: [(&str, Kind); 22] = [
     ("origin", |arena, random| any_number(arena, random, RECORD + ORIGIN)),
     ("order entry", |arena, random| any_number(arena, random, ORDER_ENTRY)),
     ("two order entries exchanged", exchange_entries),
-    ("marks", marks),
     ("local root", |arena, random| arena.put_number(LOCAL_ROOT, node_or_not(arena, random))),
+    ("arc Root, told to the header", root_arc),
     ("prim count", prim_count),
     ("count", count),
-    ("count 0", |arena, random| (arena.put_number(COUNT, 0), marks(arena, random)).0),
+    ("count 0", empty),
     ("record length", record_length),
     ("path longer by a letter", lengthen_path),
     ("letter of a path", path_letter),
     ("arc, flags, has-specs or depth", small_field),
 ];
 
+/// The kind that an empty graph can have too.
+const MARKS: usize = 0;
+
 /// Damages up to three places, and answers the kinds: their places in [`KINDS`].
 pub fn damage(arena: &mut Arena, random: &mut Random) -> Vec<usize> {
     let wanted = random.pick(&[0, 1, 1, 1, 1, 1, 2, 2, 3]);
     let mut done = Vec::with_capacity(wanted);
-    while done.len() < wanted && (1..=MAX_NODES).contains(&arena.count()) {
-        let kind = random.below(KINDS.len());
+    while done.len() < wanted && arena.count() <= MAX_NODES {
+        let kind = if arena.count() == 0 { MARKS } else { random.below(KINDS.len()) };
         KINDS[kind].1(arena, random);
         done.push(kind);
     }
-    if arena.count() == 0 && random.one_in(3) {
-        KINDS[EMPTY_MARKS].1(arena, random);
-        done.push(EMPTY_MARKS);
-    }
     done
 }
-
-/// The kind that suits an empty graph too.
-const EMPTY_MARKS: usize = 13;
 
 /// Where the slot of some node begins.
 fn any_slot(arena: &Arena, random: &mut Random) -> usize {
@@ -81,7 +79,7 @@ fn node_or_not(arena: &Arena, random: &mut Random) -> u32 {
     }
 }
 
-fn any_byte(arena: &mut Arena, random: &mut Random) {
+fn used_byte(arena: &mut Arena, random: &mut Random) {
     let byte = random.byte();
     if random.one_in(8) {
         return arena.put(random.pick(&[0, 1, 2, 3, 4, 5, 6, 8, 9, 10, 11]), &[byte]);
@@ -89,6 +87,20 @@ fn any_byte(arena: &mut Arena, random: &mut Random) {
     let node = random.below(arena.count());
     let at = random.below(arena.used(node).len());
     arena.put(slot_at(node) + at, &[byte]);
+}
+
+/// A byte of the header, behind a record, or behind the last node.
+fn unused_byte(arena: &mut Arena, random: &mut Random) {
+    let node = random.below(arena.count());
+    let (end, next) = (slot_at(node) + arena.used(node).len(), slot_at(node + 1));
+    let (header, behind_nodes) = (random.between(12, HEADER_BYTES - 1), slot_at(arena.count()));
+    let at = match random.below(4) {
+        0 => random.pick(&[7, header]),
+        1 if behind_nodes < ARENA_BYTES => random.between(behind_nodes, ARENA_BYTES - 1),
+        _ if end < next => random.between(end, next - 1),
+        _ => header,
+    };
+    arena.put(at, &[random.byte()]);
 }
 
 fn link(arena: &mut Arena, random: &mut Random, which: usize) {
@@ -160,6 +172,13 @@ fn move_child(arena: &mut Arena, random: &mut Random) {
     arena.put_number(slot + RECORD + PARENT, number_of(to));
 }
 
+/// Makes some node the local root; there may be another, or its parent may not be node 0.
+fn root_arc(arena: &mut Arena, random: &mut Random) {
+    let slot = any_slot(arena, random);
+    arena.put(slot + RECORD + ARC, &[ROOT]);
+    arena.put_number(LOCAL_ROOT, number_of(slot));
+}
+
 fn exchange_entries(arena: &mut Arena, random: &mut Random) {
     let (one, other) = (any_slot(arena, random) + ORDER_ENTRY, any_slot(arena, random) + ORDER_ENTRY);
     let (first, second) = (arena.number(one), arena.number(other));
@@ -173,6 +192,15 @@ fn marks(arena: &mut Arena, random: &mut Random) {
         return arena.put(ORDERED, &[bits & 1, bits >> 1 & 1, bits >> 2]);
     }
     arena.put(random.pick(&[ORDERED, FINALIZED, SHALLOW]), &[random.pick(&[0, 1, 2, 255])]);
+}
+
+/// Of an empty graph, only the marks are used.
+fn empty(arena: &mut Arena, random: &mut Random) {
+    arena.put_number(COUNT, 0);
+    if random.one_in(2) {
+        return arena.put(ORDERED, &[0, 0, 0]);
+    }
+    marks(arena, random);
 }
 
 fn prim_count(arena: &mut Arena, random: &mut Random) {

@@ -74,20 +74,22 @@ pub fn set_length(bytes: &mut [u8]) {
     }
 }
 
-/// `count` nodes that a snapshot may have; the local root is left out of some.
+/// `count` nodes that a snapshot may have. The local root is mostly node 1; some graphs have none.
 pub fn nodes(random: &mut Random, count: usize) -> Vec<Node> {
     let mut nodes: Vec<Node> = Vec::with_capacity(count);
-    let (beyond, rootless) = (random.pick(&[6, 1_000, 1_000]), random.one_in(5));
+    let beyond = random.pick(&[6, 1_000, 1_000]);
+    let any = random.below(count);
+    let local_root = random.pick(&[0, 1, 1, 1, any]);
     for at in 0..count {
         let parent = if random.one_in(2) { random.below(at.min(3)) } else { random.below(at) };
         let mut node = fields(random);
         node.parent = parent as u32;
         node.origin = if random.one_in(2) { node.parent } else { random.below(at) as u32 };
         node.depth = nodes.get(parent).map_or(0, |parent| depth_below(random, parent, beyond));
-        match at {
-            0 => make_root(&mut node),
-            _ if rootless || at != 1 => (),
-            _ => make_local_root(&mut node),
+        if at == 0 {
+            make_root(&mut node);
+        } else if at == local_root {
+            make_local_root(&mut node);
         }
         nodes.push(node);
     }
@@ -114,6 +116,7 @@ fn make_root(node: &mut Node) {
 fn make_local_root(node: &mut Node) {
     node.arc = ROOT;
     node.flags &= !CULLED;
+    node.parent = 0;
 }
 
 /// A node of any arc but Root, with any fields.
@@ -169,13 +172,20 @@ pub fn path_bytes(nodes: &[Node]) -> usize {
     nodes.iter().map(|node| node.path.len()).sum()
 }
 
-/// A graph at a limit: as many nodes as there may be, or as many bytes of paths, and `more` beyond that.
+/// A graph at a limit: as many nodes as there may be, or as many bytes of paths, and `more` beyond that. It is flat, or
+/// one long line, or any tree.
 pub fn crowded(random: &mut Random, more: usize) -> Vec<Node> {
-    let mut nodes = nodes(random, 4);
+    const FIRST: usize = 4;
+    let mut nodes = nodes(random, FIRST);
     match random.below(3) {
         0 => fill_path_bytes(&mut nodes, MAX_PATH_BYTES + more),
         1 => fill_nodes(&mut nodes, MAX_NODES + more),
         _ => fill_both(&mut nodes, more),
+    }
+    let shape = random.below(3);
+    for (at, node) in nodes.iter_mut().enumerate().skip(FIRST) {
+        let parent = [0, at - 1, random.below(at)][shape];
+        (node.parent, node.origin) = (parent as u32, random.below(at) as u32);
     }
     nodes
 }
