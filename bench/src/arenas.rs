@@ -21,7 +21,7 @@ pub fn compare(seed: u64, count: usize) -> bool {
         }
         let nodes = arena.count();
         let kinds = if at % OF_ONE_GRAPH == 0 { Vec::new() } else { damage(&mut arena, &mut random) };
-        found.take(&arena, nodes, &kinds);
+        found.take(at, &arena, nodes, &kinds);
         arena.restore();
     }
     found.print();
@@ -41,7 +41,7 @@ struct Found {
 
 impl Found {
     /// `nodes` is the count of the arena before it was damaged.
-    fn take(&mut self, arena: &Arena, nodes: usize, kinds: &[usize]) {
+    fn take(&mut self, at: usize, arena: &Arena, nodes: usize, kinds: &[usize]) {
         let holds = holds_graph(arena.bytes());
         self.all[usize::from(holds)] += 1;
         kinds.iter().for_each(|&kind| self.kinds[kind][usize::from(holds)] += 1);
@@ -53,7 +53,9 @@ impl Found {
         self.differed += 1;
         let size = (nodes, kinds.len());
         if self.smallest.as_ref().is_none_or(|smallest| size < smallest.size) {
-            self.smallest = Some(Difference { size, text: difference(arena, nodes, kinds, holds, answered) });
+            let text =
+                format!("arena {at}: plain {}, proved {answered}\n{}", u32::from(holds), shown(arena, nodes, kinds));
+            self.smallest = Some(Difference { size, text });
         }
     }
 
@@ -77,10 +79,10 @@ struct Difference {
     text: String,
 }
 
-fn difference(arena: &Arena, nodes: usize, kinds: &[usize], holds: bool, answered: u32) -> String {
+/// The damage and the bytes.
+fn shown(arena: &Arena, nodes: usize, kinds: &[usize]) -> String {
     let names: Vec<&str> = kinds.iter().map(|&kind| KINDS[kind].0).collect();
-    let damage = if names.is_empty() { "none".into() } else { names.join("; ") };
-    let mut text = format!("damage: {damage}\nplain {}, proved {answered}\n", u32::from(holds));
+    let mut text = format!("damage: {}\n", if names.is_empty() { "none".into() } else { names.join("; ") });
     text += &format!("header {}\n", hex(&arena.bytes()[..HEADER_BYTES]));
     for node in 0..nodes.max(arena.count().min(MAX_NODES)) {
         text += &format!("slot {node} {}\n", hex(arena.used(node)));
