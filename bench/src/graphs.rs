@@ -46,14 +46,15 @@ impl Graph {
         Self { size, children, snapshot, arena }
     }
 
-    /// Nanoseconds for each node.
-    fn time(&self, run: impl FnMut()) -> f64 {
-        time::least(200, 8_192 / self.size, run) / self.size as f64
+    /// Nanoseconds for each node, of two ways to do a thing.
+    fn time(&self, one: impl FnMut(), other: impl FnMut()) -> (f64, f64) {
+        let (one, other) = time::least(200, 8_192 / self.size, one, other);
+        (one / self.size as f64, other / self.size as f64)
     }
 
-    fn copying(&self, out: &mut [u8]) -> f64 {
-        let length = self.snapshot.len();
-        self.time(|| black_box(&mut out[..length]).copy_from_slice(black_box(&self.snapshot)))
+    /// Copies the snapshot.
+    fn copy(&self, out: &mut [u8]) {
+        black_box(&mut out[..self.snapshot.len()]).copy_from_slice(black_box(&self.snapshot));
     }
 }
 
@@ -70,8 +71,10 @@ fn nodes(children: &[(u32, Vec<u8>)]) -> Vec<Node> {
 
 fn check(graph: &Graph) {
     assert!(holds_graph(&graph.arena) && proved::is_graph(&graph.arena) == 1);
-    let plain = graph.time(|| _ = black_box(holds_graph(black_box(&graph.arena))));
-    let ours = graph.time(|| _ = black_box(proved::is_graph(black_box(&graph.arena))));
+    let (plain, ours) = graph.time(
+        || _ = black_box(holds_graph(black_box(&graph.arena))),
+        || _ = black_box(proved::is_graph(black_box(&graph.arena))),
+    );
     println!("{:5} {plain:9.1} {ours:9.1} {:9.2}", graph.size, ours / plain);
 }
 
@@ -80,18 +83,20 @@ fn read(graph: &Graph) {
     let mut out = vec![0; SNAPSHOT_BYTES];
     assert_eq!(proved::read_snapshot(&mut arena, &graph.snapshot), Ok(graph.size as u32));
     assert!(arena == graph.arena, "the proved reader and the plain one fill an arena alike");
-    let copying = graph.copying(&mut out);
-    let plain = graph.time(|| _ = black_box(plain::snapshot::read(black_box(&graph.snapshot), &mut plain_arena)));
-    let ours = graph.time(|| _ = black_box(proved::read_snapshot(&mut arena, black_box(&graph.snapshot))));
+    let (copying, _) = graph.time(|| graph.copy(&mut out), || ());
+    let (plain, ours) = graph.time(
+        || _ = black_box(plain::snapshot::read(black_box(&graph.snapshot), &mut plain_arena)),
+        || _ = black_box(proved::read_snapshot(&mut arena, black_box(&graph.snapshot))),
+    );
     println!("{:5} {copying:9.1} {plain:9.1} {ours:9.1} {:9.2}", graph.size, ours / plain);
 }
 
 fn write(graph: &Graph) {
-    let mut out = vec![0; SNAPSHOT_BYTES];
+    let (mut copied, mut out) = (vec![0; SNAPSHOT_BYTES], vec![0; SNAPSHOT_BYTES]);
     assert_eq!(proved::write_snapshot(&graph.arena, &mut out), Ok(graph.snapshot.len() as u32));
     assert!(out.starts_with(&graph.snapshot), "the snapshot is written as it was read");
-    let copying = graph.copying(&mut out);
-    let ours = graph.time(|| _ = black_box(proved::write_snapshot(black_box(&graph.arena), &mut out)));
+    let (copying, ours) = graph
+        .time(|| graph.copy(&mut copied), || _ = black_box(proved::write_snapshot(black_box(&graph.arena), &mut out)));
     println!("{:5} {copying:9.1} {ours:9.1} {:9.2}", graph.size, ours / copying);
 }
 
@@ -99,7 +104,8 @@ fn add(graph: &Graph) {
     let mut arena = vec![0; ARENA_BYTES];
     grow(&mut arena, graph);
     assert!(holds_graph(&arena) && arena[..4] == graph.arena[..4], "the nodes have been added");
-    let ours = time::least(20, 1, || grow(&mut arena, graph)) / graph.size as f64;
+    let (ours, _) = time::least(20, 1, || grow(&mut arena, graph), || ());
+    let ours = ours / graph.size as f64;
     match time_of_the_rust(graph.size) {
         Some(rust) => println!("{:5} {rust:9.1} {ours:9.1} {:9.2}", graph.size, ours / rust),
         None => println!("{:5} {:>9} {ours:9.1} {:>9} (build oracle/ for the Rust's time)", graph.size, "-", "-"),

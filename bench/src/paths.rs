@@ -14,14 +14,11 @@ fn plainly(path: &[u8]) -> u32 {
     prim_count(path).map_or(MALFORMED, u32::from)
 }
 
-/// Nanoseconds for each string.
-fn time(strings: &[Vec<u8>], read: impl Fn(&[u8]) -> u32) -> f64 {
-    let all = || {
-        for string in strings {
-            black_box(read(black_box(string)));
-        }
-    };
-    time::least(200, 1, all) / strings.len() as f64
+/// Reads all strings.
+fn read_all(strings: &[Vec<u8>], read: impl Fn(&[u8]) -> u32) {
+    for string in strings {
+        black_box(read(black_box(string)));
+    }
 }
 
 pub fn measure() -> bool {
@@ -33,8 +30,9 @@ pub fn measure() -> bool {
             assert_eq!(plainly(string), proved::prim_count(string));
         }
         let bytes = strings.iter().map(Vec::len).sum::<usize>() / strings.len();
-        let rust = time(&strings, plainly);
-        let ours = time(&strings, proved::prim_count);
+        let (rust, ours) =
+            time::least(200, 1, || read_all(&strings, plainly), || read_all(&strings, proved::prim_count));
+        let (rust, ours) = (rust / strings.len() as f64, ours / strings.len() as f64);
         println!("{bytes:5} {rust:9.1} {ours:9.1} {:9.2}", ours / rust);
     }
     true

@@ -1,14 +1,31 @@
 //! The clock.
 use std::time::Instant;
 
-/// Nanoseconds for one run: the least of many turns, each of so many runs that the clock's own time does not count.
-pub fn least(turns: usize, runs: usize, mut run: impl FnMut()) -> f64 {
-    let turn = |_| {
-        let start = Instant::now();
-        for _ in 0..runs {
-            run();
-        }
-        start.elapsed().as_nanos() as f64 / runs as f64
-    };
-    (0..turns).map(turn).fold(f64::MAX, f64::min)
+/// Nanoseconds for one of so many runs; there must be enough of them that the clock's own time does not count.
+fn turn(runs: usize, run: &mut impl FnMut()) -> f64 {
+    let start = Instant::now();
+    for _ in 0..runs {
+        run();
+    }
+    start.elapsed().as_nanos() as f64 / runs as f64
+}
+
+/// Nanoseconds for one run of each of two: the least of many turns, turn and turn about, so that both meet the same
+/// machine.
+pub fn least(turns: usize, runs: usize, mut one: impl FnMut(), mut other: impl FnMut()) -> (f64, f64) {
+    let both = (0..turns).map(|_| (turn(runs, &mut one), turn(runs, &mut other)));
+    both.fold((f64::MAX, f64::MAX), |least, both| (least.0.min(both.0), least.1.min(both.1)))
+}
+
+#[cfg(test)]
+mod tests {
+    use std::cell::Cell;
+
+    #[test]
+    fn turns_and_runs() {
+        let (one, other) = (Cell::new(0), Cell::new(0));
+        let (first, second) = super::least(7, 2, || one.set(one.get() + 1), || other.set(other.get() + 1));
+        assert!(first < f64::MAX && second < f64::MAX);
+        assert_eq!((one.get(), other.get()), (14, 14));
+    }
 }
