@@ -1,4 +1,4 @@
-//! `holdsGraph` and `readSnapshot` as crates/model/specs defines them, in the same words and as slow as these are.
+//! `holdsGraph` and `readSnapshot` as crates/model/specs defines them, line by line, and as slow as that is.
 
 const INVALID: u64 = 4_294_967_295;
 
