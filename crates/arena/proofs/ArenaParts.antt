@@ -25,13 +25,13 @@ use Rattle.arena.proofs.Encodable.{Encodable, fit-at, order-below}
 abbrev pub Apart : ℕ → ℕ → ℕ → ℕ → Type 0
 Apart a w b v = (a + w ≤ b) ⊎ (b + v ≤ a)
 
-apart-kept : (at : ℕ) (bs s : List ℕ) (a w : ℕ) → at + length bs ≤ length s → Apart a w at (length bs)
+pub apart-kept : (at : ℕ) (bs s : List ℕ) (a w : ℕ) → at + length bs ≤ length s → Apart a w at (length bs)
     → take w (drop a (stored at bs s)) ≡ take w (drop a s)
 apart-kept at bs s a w fits (inl h) = part-before-stored at bs s fits a w h
 apart-kept at bs s a w fits (inr h) = part-after-stored at bs s fits a w h
 
 -- parts of two slots, which may be the same
-apart-slots : (n a w m b v : ℕ) → slotAt n ≤ a → a + w ≤ slotAt n + 320 → slotAt m ≤ b → b + v ≤ slotAt m + 320 → (m ≡ n → Apart a w b v)
+pub apart-slots : (n a w m b v : ℕ) → slotAt n ≤ a → a + w ≤ slotAt n + 320 → slotAt m ≤ b → b + v ≤ slotAt m + 320 → (m ≡ n → Apart a w b v)
     → Apart a w b v
 apart-slots n a w m b v la ha lb hb same = go (ltb m n) refl (ltb n m) refl
   where
@@ -78,7 +78,7 @@ site-length : (g : Graph) (n : ℕ) → length (siteBytes g n) ≡ 30 + length (
 site-length g n = omega (arith, record-length (nodeAt (g .nodes) n))
 
 module _ (g : Graph) (ok : Encodable g) where
-  site-short : (n : ℕ) → n < size g → length (siteBytes g n) ≤ 285
+  pub site-short : (n : ℕ) → n < size g → length (siteBytes g n) ≤ 285
   site-short n h = omega (arith, site-length g n, fit-at (g .nodes) (ok .fit) n h .path-short)
 
   module _ (n : ℕ) (s : List ℕ) (here : n < size g) (whole : length s ≡ arenaBytes) where

@@ -39,6 +39,7 @@ pub mod SnapshotReadLaws
 pub mod SnapshotExamples
 pub mod LegalGraphs
 pub mod AcceptedQuestions
+pub mod ArenaCallLaws
 pub mod LegalAdded
 pub mod LegalAlike
 pub mod LegalErased

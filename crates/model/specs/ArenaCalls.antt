@@ -1,7 +1,7 @@
 -- Each call on an arena: questions 1 and 2, then the call's own, and what it leaves of the bytes. One lifting for the calls that write a graph, one for
 -- those that only read; the functions of prim_graph promise no more and no less.
 use mathlib.Core.Path.{_≡_}
-use mathlib.Core.Bool.{Bool, cond}
+use mathlib.Core.Bool.{Bool, true, cond}
 use mathlib.Core.List.{List, _∷_}
 use Prim.Native.Nat.{ℕ, zero, suc}
 use lib.Dec.{eqb}
@@ -16,6 +16,11 @@ use Rattle.model.specs.declared.Numbered.{Numbered}
 -- question 1: "Has each lent buffer the size docs/ gives its use"
 abbrev pub isArena : List ℕ → Bool
 isArena bs = eqb (length bs) arenaBytes
+
+-- questions 1 and 2 pass
+pub record Opened (bs : List ℕ) : Type 0 where
+  pub whole : length bs ≡ arenaBytes
+  pub holds : holdsGraph bs ≡ true
 
 -- ---- The calls that write a graph
 
