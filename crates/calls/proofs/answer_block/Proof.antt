@@ -1,4 +1,4 @@
--- `calls::answer_block` is safe and ends. The invariant of its loop: the two lent buffers keep their lengths.
+-- `calls::answer_block` is safe and ends. The invariant of its loop: the four lent buffers keep their lengths.
 -- The measure is what is left of the block. Assumes nothing.
 use Prim.Native.Nat.{_-_}
 use mathlib.Core.Path.{_≡_}
@@ -8,10 +8,10 @@ use Rattle.calls.proofs.answer_block.Statement.{statement}
 use Rattle.calls.proofs.answer_block.Tie as tie
 
 abbrev Inv-loop : tie.InvT-loop
-Inv-loop block line₀ held out₀ begun₀ used₀ at₀ line out begun used at = (length line ≡ length line₀) × (length out ≡ length out₀)
+Inv-loop block line₀ first₀ second₀ out₀ begun₀ swapped₀ used₀ at₀ line first second out begun swapped used at = (length line ≡ length line₀) × (length first ≡ length first₀) × (length second ≡ length second₀) × (length out ≡ length out₀)
 
 abbrev μ-loop : tie.MeasureT-loop
-μ-loop block line₀ held out₀ begun₀ used₀ at₀ line out begun used at = length block - at
+μ-loop block line₀ first₀ second₀ out₀ begun₀ swapped₀ used₀ at₀ line first second out begun swapped used at = length block - at
 
 loop-holds : tie.Need-loop-holds Inv-loop μ-loop
 loop-holds c = search needs
@@ -58,6 +58,12 @@ same-length c = search needs
 same-length-2 : tie.Need-same-length-2 Inv-loop μ-loop
 same-length-2 c = search needs
 
+same-length-3 : tie.Need-same-length-3 Inv-loop μ-loop
+same-length-3 c = search needs
+
+same-length-4 : tie.Need-same-length-4 Inv-loop μ-loop
+same-length-4 c = search needs
+
 returns : tie.Need-returns Inv-loop μ-loop
 returns c = search needs
 
@@ -82,4 +88,6 @@ answer-block-spec =
     flush-requires
     same-length
     same-length-2
+    same-length-3
+    same-length-4
     returns)

@@ -1,4 +1,4 @@
--- `calls::answer_blocks` is safe and ends. The invariant of its loop: the three buffers keep their lengths.
+-- `calls::answer_blocks` is safe and ends. The invariant of its loop: the five lent buffers keep their lengths.
 -- The measure is the number of turns that are left. Assumes nothing.
 use mathlib.Core.Path.{_≡_}
 use borrow.Author.Needs.{needs}
@@ -7,10 +7,10 @@ use Rattle.calls.proofs.answer_blocks.Statement.{statement}
 use Rattle.calls.proofs.answer_blocks.Tie as tie
 
 abbrev Inv-loop : tie.InvT-loop
-Inv-loop block₀ line₀ out₀ held₀ turns₀ block line out held turns = (length block ≡ length block₀) × (length line ≡ length line₀) × (length out ≡ length out₀)
+Inv-loop block₀ line₀ first₀ second₀ out₀ held₀ swapped₀ turns₀ block line first second out held swapped turns = (length block ≡ length block₀) × (length line ≡ length line₀) × (length first ≡ length first₀) × (length second ≡ length second₀) × (length out ≡ length out₀)
 
 abbrev μ-loop : tie.MeasureT-loop
-μ-loop block₀ line₀ out₀ held₀ turns₀ block line out held turns = turns
+μ-loop block₀ line₀ first₀ second₀ out₀ held₀ swapped₀ turns₀ block line first second out held swapped turns = turns
 
 loop-holds : tie.Need-loop-holds Inv-loop μ-loop
 loop-holds c = search needs
@@ -29,6 +29,12 @@ same-length-2 c = search needs
 
 same-length-3 : tie.Need-same-length-3 Inv-loop μ-loop
 same-length-3 c = search needs
+
+same-length-4 : tie.Need-same-length-4 Inv-loop μ-loop
+same-length-4 c = search needs
+
+same-length-5 : tie.Need-same-length-5 Inv-loop μ-loop
+same-length-5 c = search needs
 
 returns : tie.Need-returns Inv-loop μ-loop
 returns c = search needs
@@ -54,14 +60,20 @@ loop-less c = search needs
 loop-again : tie.Need-loop-again Inv-loop μ-loop
 loop-again c = search needs
 
-same-length-4 : tie.Need-same-length-4 Inv-loop μ-loop
-same-length-4 c = search needs
-
-same-length-5 : tie.Need-same-length-5 Inv-loop μ-loop
-same-length-5 c = search needs
-
 same-length-6 : tie.Need-same-length-6 Inv-loop μ-loop
 same-length-6 c = search needs
+
+same-length-7 : tie.Need-same-length-7 Inv-loop μ-loop
+same-length-7 c = search needs
+
+same-length-8 : tie.Need-same-length-8 Inv-loop μ-loop
+same-length-8 c = search needs
+
+same-length-9 : tie.Need-same-length-9 Inv-loop μ-loop
+same-length-9 c = search needs
+
+same-length-10 : tie.Need-same-length-10 Inv-loop μ-loop
+same-length-10 c = search needs
 
 returns-2 : tie.Need-returns-2 Inv-loop μ-loop
 returns-2 c = search needs
@@ -78,6 +90,8 @@ answer-blocks-spec =
     same-length
     same-length-2
     same-length-3
+    same-length-4
+    same-length-5
     returns
     sub-answer-block
     part-answer-block-start
@@ -86,7 +100,9 @@ answer-blocks-spec =
     sub-turns
     loop-less
     loop-again
-    same-length-4
-    same-length-5
     same-length-6
+    same-length-7
+    same-length-8
+    same-length-9
+    same-length-10
     returns-2)

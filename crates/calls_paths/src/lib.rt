@@ -1,42 +1,30 @@
-// The answers: one function for each kind of line, handed a line that has its name and its number of words. Each puts its answer, without a
-// newline, after the first `used` bytes of `out`, and answers how many are then used.
-use crate::text::put;
-use crate::text::put_number;
-use crate::words::ShortNumber;
-use crate::words::is_call;
-use crate::words::read_short_number;
-use crate::words::word;
+// The lines on paths, for the command `calls`. Each function is handed a line that has its name and its number of words, puts the answer,
+// without a newline, after the first `used` bytes of `out`, and answers how many are then used. None has a `requires`.
+use calls_text::Answered;
+use calls_text::ShortNumber;
+use calls_text::bad_line;
+use calls_text::is_call;
+use calls_text::put;
+use calls_text::put_number;
+use calls_text::put_refusal;
+use calls_text::read_short_number;
+use calls_text::word;
 use model::Appended;
 use model::PrimCount;
 use model::Refusal;
 
-// The answer to any line: none to an empty one. A further kind of line is a row here. What the check of this function takes grows with the
-// square of its rows: past six, the last row is the next function of rows.
-pub(crate) fn answer(line: &[u8], out: &mut [u8], used: usize) -> usize {
-    if line.len() == 0 {
-        return used;
-    }
+// The answer to a line on paths.
+pub fn answer(line: &[u8], out: &mut [u8], used: usize) -> Answered {
     if is_call(line, b"path", 2) {
-        return path_line(line, out, used);
+        return Answered::Used(path_line(line, out, used));
     }
     if is_call(line, b"back", 3) {
-        return back_line(line, out, used);
+        return Answered::Used(back_line(line, out, used));
     }
     if is_call(line, b"join", 3) {
-        return join_line(line, out, used);
+        return Answered::Used(join_line(line, out, used));
     }
-    bad_line(out, used)
-}
-
-// The answer to a line that names no call.
-pub(crate) fn bad_line(out: &mut [u8], used: usize) -> usize {
-    put(out, used, b"bad line")
-}
-
-// The answer to a call that was refused.
-fn put_refusal(out: &mut [u8], used: usize, refusal: Refusal) -> usize {
-    let next = put(out, used, b"refused ");
-    put_number(out, next, refusal.number() as u64)
+    Answered::Unknown
 }
 
 // A space, and then the bytes, or `-` where there are none.
@@ -85,15 +73,7 @@ fn join_line(line: &[u8], out: &mut [u8], used: usize) -> usize {
     let mut joined = [0u8; 255];
     let appended = path::append_child_name(word(line, 1), word(line, 2), &mut joined);
     match appended {
-        Appended::Length(length) => put_front(out, used, &joined, length),
+        Appended::Length(length) => put(out, used, calls_text::front(&joined, length)),
         Appended::Refused(refusal) => put_refusal(out, used, refusal),
     }
-}
-
-// The first `length` bytes; none where there are fewer.
-fn put_front(out: &mut [u8], used: usize, bytes: &[u8], length: usize) -> usize {
-    if bytes.len() < length {
-        return used;
-    }
-    put(out, used, &bytes[0..length])
 }

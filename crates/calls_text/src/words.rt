@@ -3,13 +3,13 @@ ghost use Prim.Native.Nat.{_≤_};
 ghost use lib.ListN.{length};
 
 // A number that fits 32 bits, or a word that is none.
-pub(crate) enum Number {
+pub enum Number {
     Value(u32),
     Bad,
 }
 
 // A number that fits 16 bits, or a word that is none.
-pub(crate) enum ShortNumber {
+pub enum ShortNumber {
     Value(u16),
     Bad,
 }
@@ -48,7 +48,7 @@ fn count(line: &[u8]) -> usize {
 }
 
 // Whether the line's first word is `name`, and it has `words` words, none of them empty.
-pub(crate) fn is_call(line: &[u8], name: &[u8], words: usize) -> bool {
+pub fn is_call(line: &[u8], name: &[u8], words: usize) -> bool {
     if !begins(line, name) {
         return false;
     }
@@ -73,7 +73,7 @@ fn start(line: &[u8], before: usize) -> usize
 }
 
 // The word with `before` words before it: no bytes where there are fewer.
-pub(crate) fn word(line: &[u8], before: usize) -> &[u8] {
+pub fn word(line: &[u8], before: usize) -> &[u8] {
     let at = start(line, before);
     let end = bytes::scan::find(line, at, line.len(), b' ');
     &line[at..end]
@@ -95,7 +95,7 @@ fn with_digit(value: u32, digit: u8) -> Number {
 }
 
 // The number that a word of decimal digits spells, with zeros in front or without.
-pub(crate) fn read_number(word: &[u8]) -> Number {
+pub fn read_number(word: &[u8]) -> Number {
     if word.len() == 0 {
         return Number::Bad;
     }
@@ -113,7 +113,7 @@ pub(crate) fn read_number(word: &[u8]) -> Number {
 }
 
 // As `read_number`, of 16 bits.
-pub(crate) fn read_short_number(word: &[u8]) -> ShortNumber {
+pub fn read_short_number(word: &[u8]) -> ShortNumber {
     let n = read_number(word);
     match n {
         Number::Value(value) => {

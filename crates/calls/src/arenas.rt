@@ -1,0 +1,83 @@
+// The two arenas that the lines work on, and the lines that are about both.
+use calls_text::Answered;
+use calls_text::bad_line;
+use calls_text::is_call;
+use calls_text::put;
+ghost use mathlib.Core.Path.{_≡_};
+ghost use lib.ListN.{length};
+
+// What goes on from line to line: how many bytes of the output are used, and whether the second arena is the current one.
+pub(crate) struct State {
+    pub(crate) used: usize,
+    pub(crate) swapped: bool,
+}
+
+// The bytes of an empty graph. The `ensures` gives only the length, so that no proof holds them.
+pub(crate) fn empty() -> [u8; 327744]
+    ensures { λ r. ⌜ 327744 ≡ length r ⌝ }
+{
+    [0; 327744]
+}
+
+fn clear(arena: &mut [u8]) {
+    let mut i: usize = 0;
+    while i < arena.len() {
+        arena[i] = 0;
+        i += 1;
+    }
+}
+
+// Puts the answer to a line, without a newline.
+pub(crate) fn answer(
+    line: &[u8],
+    first: &mut [u8],
+    second: &mut [u8],
+    swapped: bool,
+    out: &mut [u8],
+    used: usize,
+) -> State {
+    if is_call(line, b"new", 1) {
+        clear(first);
+        clear(second);
+        return State {
+            used: put(out, used, b"ok"),
+            swapped: false,
+        };
+    }
+    if is_call(line, b"swap", 1) {
+        return State {
+            used: put(out, used, b"ok"),
+            swapped: !swapped,
+        };
+    }
+    if swapped {
+        return State {
+            used: answer_on(line, second, out, used),
+            swapped: true,
+        };
+    }
+    State {
+        used: answer_on(line, first, out, used),
+        swapped: false,
+    }
+}
+
+// The answer to a line on one arena: none to an empty one. A further kind of line is a row in the crate that answers its like.
+fn answer_on(line: &[u8], arena: &mut [u8], out: &mut [u8], used: usize) -> usize {
+    if line.len() == 0 {
+        return used;
+    }
+    let made = calls_make::answer(line, arena, out, used);
+    if let Answered::Used(end) = made {
+        return end;
+    }
+    let seen = calls_look::answer(line, arena, out, used);
+    if let Answered::Used(end) = seen {
+        return end;
+    }
+    let path = calls_paths::answer(line, out, used);
+    if let Answered::Used(end) = path {
+        return end;
+    }
+    bad_line(out, used)
+}
