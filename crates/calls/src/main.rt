@@ -1,13 +1,9 @@
-// Answers the calls that standard input names, one a line, with a line for each on standard output. This program reads the lines and holds the
-// two arenas; the crates `calls_paths`, `calls_make` and `calls_look` make the calls, and `calls_text` has what lines and answers are made of.
-// Nothing is proved of what is printed, only that every function is safe and ends: none has a `requires`, and each does nothing with a number
-// that does not fit the buffer beside it.
-mod arenas;
-
-use arenas::State;
+// Answers the calls that standard input names, one a line, with a line for each on standard output. This program parts the input into lines;
+// `calls_lines` answers them. Nothing is proved of what is printed, only that every function is safe and ends: none has a `requires`, and each
+// does nothing with a number that does not fit the buffer beside it.
+use calls_lines::State;
 use libc::STDIN_FILENO;
-ghost use mathlib.Core.Path.{_≡_};
-ghost use lib.ListN.{length};
+ghost use Prim.Native.Nat.{_≤_};
 
 // What is left where a block ends: how many bytes there are of the line that goes on in the next one, and whether the arenas are swapped.
 struct Rest {
@@ -15,15 +11,11 @@ struct Rest {
     swapped: bool,
 }
 
-// 131,072 zeros, for the longest line that is answered. The `ensures` gives only the length, so that no proof holds the bytes.
-fn line_buffer() -> [u8; 131072]
-    ensures { λ r. ⌜ 131072 ≡ length r ⌝ }
-{
-    [0; 131072]
-}
+// The longest line that is answered has so many bytes.
+const LONGEST: usize = 131072;
 
-// Puts `more` after the first `held` bytes of `line`, and answers how many it then holds. For a line that is too long that is one more than
-// there is room for, whatever follows.
+// Puts `more` after the first `held` bytes of `line`, and answers how many it then holds. For a line without end that is one more than there is
+// room for, whatever follows.
 fn append(line: &mut [u8], held: usize, more: &[u8]) -> usize {
     if line.len() < held {
         return held;
@@ -45,14 +37,21 @@ fn answer_line(
     out: &mut [u8],
     used: usize,
 ) -> State {
-    if line.len() < held {
+    if LONGEST < held {
         let end = calls_text::bad_line(out, used);
         return State {
             used: calls_text::put(out, end, b"\n"),
             swapped,
         };
     }
-    let answer = arenas::answer(&line[0..held], first, second, swapped, out, used);
+    let answer = calls_lines::answer(
+        calls_text::front(line, held),
+        first,
+        second,
+        swapped,
+        out,
+        used,
+    );
     State {
         used: calls_text::put(out, answer.used, b"\n"),
         swapped: answer.swapped,
@@ -90,6 +89,16 @@ fn answer_block(
     }
 }
 
+// The turns that are left after a block of `count` bytes: none where the input has ended.
+fn turns_left(turns: u64, count: usize) -> u64
+    ensures { λ r. ⌜ r ≤ turns ⌝ }
+{
+    if count == 0 {
+        return 0;
+    }
+    turns
+}
+
 // Answers each line that ends in a newline, block by block, until the input ends or a read fails. A proved loop has to end, and nothing says
 // that the input does: so it counts its turns down, from a number that no run uses up.
 fn answer_blocks(
@@ -104,9 +113,6 @@ fn answer_blocks(
     let mut turns = u64::MAX;
     while 0 < turns {
         let count = io::count(libc::read(STDIN_FILENO, block), block);
-        if count == 0 {
-            return Rest { held, swapped };
-        }
         let rest = answer_block(
             &block[0..count],
             line,
@@ -117,7 +123,7 @@ fn answer_blocks(
         );
         held = rest.held;
         swapped = rest.swapped;
-        turns -= 1;
+        turns = turns_left(turns - 1, count);
     }
     Rest { held, swapped }
 }
@@ -130,11 +136,12 @@ fn answer_rest(line: &[u8], rest: Rest, first: &mut [u8], second: &mut [u8], out
     }
 }
 
+// The buffer for a line is as long as an arena, since every further length of a large array is dear to check.
 fn main() {
     let mut block = io::large_buffer();
-    let mut line = line_buffer();
-    let mut first = arenas::empty();
-    let mut second = arenas::empty();
+    let mut line = calls_lines::zeros();
+    let mut first = calls_lines::zeros();
+    let mut second = calls_lines::zeros();
     let mut out = io::large_buffer();
     let rest = answer_blocks(&mut block, &mut line, &mut first, &mut second, &mut out);
     answer_rest(&line, rest, &mut first, &mut second, &mut out);

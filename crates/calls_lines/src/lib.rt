@@ -1,4 +1,5 @@
-// The two arenas that the lines work on, and the lines that are about both.
+// The answer to any line of the command `calls`, and the two arenas that the lines work on. The lines about both arenas are here; the other lines
+// are answered by the crates `calls_make`, `calls_look` and `calls_paths`. No function has a `requires`.
 use calls_text::Answered;
 use calls_text::bad_line;
 use calls_text::is_call;
@@ -7,13 +8,13 @@ ghost use mathlib.Core.Path.{_≡_};
 ghost use lib.ListN.{length};
 
 // What goes on from line to line: how many bytes of the output are used, and whether the second arena is the current one.
-pub(crate) struct State {
-    pub(crate) used: usize,
-    pub(crate) swapped: bool,
+pub struct State {
+    pub used: usize,
+    pub swapped: bool,
 }
 
-// The bytes of an empty graph. The `ensures` gives only the length, so that no proof holds them.
-pub(crate) fn empty() -> [u8; 327744]
+// 327,744 zeros: an arena that holds the empty graph. The `ensures` gives only the length, so that no proof holds the bytes.
+pub fn zeros() -> [u8; 327744]
     ensures { λ r. ⌜ 327744 ≡ length r ⌝ }
 {
     [0; 327744]
@@ -28,7 +29,7 @@ fn clear(arena: &mut [u8]) {
 }
 
 // Puts the answer to a line, without a newline.
-pub(crate) fn answer(
+pub fn answer(
     line: &[u8],
     first: &mut [u8],
     second: &mut [u8],

@@ -1,11 +1,11 @@
--- `calls::arenas::clear` is safe and ends. The invariant of its loop: the arena keeps its length.
+-- `calls_lines::clear` is safe and ends. The invariant of its loop: the arena keeps its length.
 -- The measure is how many bytes are left. Assumes nothing.
 use Prim.Native.Nat.{_-_}
 use mathlib.Core.Path.{_≡_}
 use borrow.Author.Needs.{needs}
 use lib.ListN.{length}
-use Rattle.calls.proofs.arenas.clear.Statement.{statement}
-use Rattle.calls.proofs.arenas.clear.Tie as tie
+use Rattle.calls_lines.proofs.clear.Statement.{statement}
+use Rattle.calls_lines.proofs.clear.Tie as tie
 
 abbrev Inv-loop : tie.InvT-loop
 Inv-loop arena₀ i₀ arena i = length arena ≡ length arena₀
