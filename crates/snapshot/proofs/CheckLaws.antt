@@ -21,18 +21,18 @@ use Rattle.model.specs.Snapshot.{field, readRecord}
 use Rattle.model.specs.Refusals.{refusalNumber, refusal, mostNodes, mostPathBytes, pathBytes, recordQuestions}
 use Rattle.model.specs.Calls.{Outcome, readIf, readOn, readOr12, readInto}
 use Rattle.model.specs.declared.Refusal.{Refusal}
-use Rattle.model.specs.declared.Refusal.the-variants.{Size, NotAGraph, NodeZero, Node as NodeNumber, Path, Kind, Capacity, NotSiblings, NoOrder, NotOrdered, EraseSet, Snapshot}
 use Rattle.model.specs.declared.Finished.the-variants.{Done, Refused as FinishRefused}
 use Rattle.model.proofs.PathLemmas.{length-snoc}
 use Rattle.model.proofs.ListLaws.{any-below-cong}
 use Rattle.model.proofs.SnapshotReadLaws.{built, built-nodes, record-passes}
 use Rattle.model.proofs.LegalAdded.{path-bytes-append}
+use Rattle.model.proofs.ArenaCallLaws.{refusal-some}
 use Rattle.record_check.specs.declared.Checked.{Checked}
 use Rattle.record_check.specs.declared.Checked.the-variants.{Accepted, Refused}
 use Rattle.record_check.specs.RecordCheck.{questionsAt, checkedRefusal, checkedPrims, RecordChecked}
 use Rattle.record_check.proofs.RecordCheckLaws.{questions-at}
 use Rattle.snapshot.specs.Reading.{nodesRead, Exact, questionsOf, RecordsChecked}
-use Rattle.snapshot.proofs.RecordLaws.{recordPart, Reached, reached-none, record-here, part-long, node-here, reached-more}
+use Rattle.snapshot.proofs.RecordLaws.{recordPart, Reached, reached-none, node-lent, piece-long, reached-more}
 
 -- ---- The graph of the first records
 
@@ -41,6 +41,9 @@ pub built-more : (g : Graph) (xs : List Node) (n : ℕ) → n < length xs
 built-more g [] n h = absurd (omega arith)
 built-more g (x ∷ xs) zero h = refl
 built-more g (x ∷ xs) (suc n) h = built-more (withNode g x) xs n (omega arith)
+
+pub built-sized : (xs : List Node) (n : ℕ) → n ≤ length xs → length (built (take n xs) .nodes) ≡ n
+built-sized xs n h = ap length (built-nodes (take n xs)) ∙ length-take-le n xs h
 
 questions-here : (xs : List Node) (n : ℕ) (x : Node) → n ≤ length xs
     → recordQuestions (built (take n xs)) x ≡ questionsOf n (pathBytes (take n xs)) (hasLocalRoot (take n xs)) x
@@ -68,24 +71,10 @@ root-more xs n h =
     ap hasLocalRoot (take-suc xs n noNode h) ∙ root-snoc (take n xs) (nodeAt xs n)
     ∙ ap (λ (k : ℕ). (ltb 0 k && eqb (nodeAt xs n .arc) rootArc) || hasLocalRoot (take n xs)) (length-take-le n xs (omega arith))
 
--- ---- Refusals
+-- ---- A record that is refused, and its first byte
 
-pub some-refusal : (r : Refusal) → 0 < refusalNumber r
-some-refusal Size = omega arith
-some-refusal NotAGraph = omega arith
-some-refusal NodeZero = omega arith
-some-refusal NodeNumber = omega arith
-some-refusal Path = omega arith
-some-refusal Kind = omega arith
-some-refusal Capacity = omega arith
-some-refusal NotSiblings = omega arith
-some-refusal NoOrder = omega arith
-some-refusal NotOrdered = omega arith
-some-refusal EraseSet = omega arith
-some-refusal Snapshot = omega arith
-
-if-refused : (r : ℕ) (rest : Outcome) (old : Graph) → 0 < r → readIf r rest old .refused ≡ r
-if-refused zero rest old h = absurd (omega arith)
+if-refused : (r : ℕ) (rest : Outcome) (old : Graph) → (r ≡ 0 → ⊥) → readIf r rest old .refused ≡ r
+if-refused zero rest old h = absurd (h refl)
 if-refused (suc r) rest old h = refl
 
 first-byte : (s : List ℕ) → 0 < length s → getD s 0 0 ≡ field 0 1 s
@@ -156,12 +145,7 @@ module _ (bytes prims : List ℕ) (at paths : ℕ) (root : Bool) (n : ℕ) (to :
     x = nodeAt nodes n
 
     node : readRecord piece ≡ x
-    node = ap readRecord e ∙ sym (node-here bytes at n (to .reached) h)
-
-    pub piece-long : (length piece ≡ field at 2 bytes) × (28 ≤ length piece) × (length piece ≤ 282)
-    piece-long =
-        let fits = record-here bytes at n (to .reached) h in
-        omega (arith, ap length e, part-long bytes at n (to .reached) h)
+    node = node-lent bytes at n (to .reached) h piece e
 
     questions : questionsOf n paths root (readRecord piece) ≡ recordQuestions graph x
     questions =
@@ -183,9 +167,9 @@ module _ (bytes prims : List ℕ) (at paths : ℕ) (root : Bool) (n : ℕ) (to :
           let number : refusalNumber q ≡ refusal (recordQuestions graph x) = ap checkedRefusal (sym s) ∙ refused in
           record {
             refused =
-                number ∙ sym (if-refused (refusal (recordQuestions graph x)) _ emptyGraph (omega (arith, some-refusal q)))
+                number ∙ sym (if-refused (refusal (recordQuestions graph x)) _ emptyGraph (λ z. refusal-some q (number ∙ z)))
                 ∙ sym (ap (λ (o : Outcome). o .refused) next) ∙ to .same;
-            named = λ z. absurd (omega (arith, some-refusal q));
+            named = λ z. absurd (refusal-some q z);
           }
 
       module _ (p : ℕ) (s : r ≡ Accepted p) where
@@ -195,23 +179,20 @@ module _ (bytes prims : List ℕ) (at paths : ℕ) (root : Bool) (n : ℕ) (to :
         named-here : p ≡ primCount (x .path)
         named-here = sym (ap checkedPrims s) ∙ checked .prims (ap checkedRefusal s) ∙ ap (λ (y : Node). primCount (y .path)) node
 
-        sized : length (graph .nodes) ≡ n
-        sized = ap length (built-nodes (take n nodes)) ∙ length-take-le n nodes (omega arith)
-
         path-long : length (x .path) ≡ length piece - 27
         unfolding readRecord
         path-long = sym (ap (λ (y : Node). length (y .path)) node) ∙ length-drop 27 piece
 
-        room : (length (graph .nodes) < mostNodes) × (pathBytes (graph .nodes) + length (x .path) ≤ mostPathBytes)
-        room =
+        capacity : (length (graph .nodes) < mostNodes) × (pathBytes (graph .nodes) + length (x .path) ≤ mostPathBytes)
+        capacity =
             let both = and-eq-true-iff _ _ .0 (record-passes graph x accepted .room) in
             (ltb-true _ _ (both .0), leb-true _ _ (both .1))
 
         pub fits-prims : n < 1024
-        fits-prims = omega (arith, sized, room .0)
+        fits-prims = omega (arith, built-sized nodes n (to .reached .few), capacity .0)
 
         paths-fit : paths + (length piece - 27) ≤ mostPathBytes
-        paths-fit = omega (arith, to .path-bytes, ap pathBytes (built-nodes (take n nodes)), path-long, room .1)
+        paths-fit = omega (arith, to .path-bytes, ap pathBytes (built-nodes (take n nodes)), path-long, capacity .1)
 
         pub checked-more : CheckedTo bytes (set prims n p) (at + (2 + length piece)) (paths + (length piece - 27))
             ((ltb 0 n && eqb (getD piece 0 0) 0) || root) (n + 1)
@@ -233,7 +214,7 @@ module _ (bytes prims : List ℕ) (at paths : ℕ) (root : Bool) (n : ℕ) (to :
         }
           where
             first-arc : getD piece 0 0 ≡ x .arc
-            first-arc = first-byte piece (omega (arith, piece-long)) ∙ arc-read piece ∙ ap (λ (y : Node). y .arc) node
+            first-arc = first-byte piece (omega (arith, piece-long bytes at n (to .reached) h piece e)) ∙ arc-read piece ∙ ap (λ (y : Node). y .arc) node
 
             go : (k : ℕ) → (k ≡ n) ⊎ (k < n) → getD (set prims n p) k 0 ≡ primCount (nodeAt nodes k .path)
             go k (inl q) =

@@ -98,7 +98,18 @@ pub record Front (bytes : List ℕ) : Type 0 where
   pub counted : 4 + field 0 4 bytes ≡ length bytes
   pub version : field 4 1 bytes ≡ 1
 
+-- its tests
+abbrev pub frontRight : List ℕ → Bool
+frontRight bytes = leb 7 (length bytes) && (eqb (4 + field 0 4 bytes) (length bytes) && eqb (field 4 1 bytes) 1)
+
 module _ (bytes : List ℕ) where
+  pub front-tested : frontRight bytes ≡ true → Front bytes
+  front-tested e = record {
+    header = leb-true 7 (length bytes) (search and-first);
+    counted = eqb-true (4 + field 0 4 bytes) (length bytes) (search (and-first, and-second));
+    version = eqb-true (field 4 1 bytes) 1 (search (and-first, and-second));
+  }
+
   pub front-right : Front bytes → readSnapshot bytes ≡ readRecords (field 5 2 bytes) (drop 7 bytes)
   unfolding readSnapshot
   front-right front =
@@ -110,15 +121,10 @@ module _ (bytes : List ℕ) where
 
   pub front-wrong : (Front bytes → ⊥) → Refused Snapshot ≡ countedAs (readSnapshot bytes)
   unfolding readSnapshot
-  front-wrong wrong = go (leb 7 (length bytes) && (eqb (4 + field 0 4 bytes) (length bytes) && eqb (field 4 1 bytes) 1)) refl
+  front-wrong wrong = go (frontRight bytes) refl
     where
-      go : (t : Bool) → (leb 7 (length bytes) && (eqb (4 + field 0 4 bytes) (length bytes) && eqb (field 4 1 bytes) 1)) ≡ t
-          → Refused Snapshot ≡ countedAs (cond t (readRecords (field 5 2 bytes) (drop 7 bytes)) none)
-      go true e = absurd (wrong (record {
-        header = leb-true 7 (length bytes) (search (and-first, and-second));
-        counted = eqb-true (4 + field 0 4 bytes) (length bytes) (search (and-first, and-second));
-        version = eqb-true (field 4 1 bytes) 1 (search (and-first, and-second));
-      }))
+      go : (t : Bool) → frontRight bytes ≡ t → Refused Snapshot ≡ countedAs (cond t (readRecords (field 5 2 bytes) (drop 7 bytes)) none)
+      go true e = absurd (wrong (front-tested e))
       go false e = refl
 
 -- ---- The records

@@ -6,7 +6,7 @@ use Prim.Native.Nat.{ℕ, zero, suc, _+_, _-_, _≤_, _<_}
 use native.Mathlib.Numerals.{add-one}
 use native.Mathlib.Omega.{arith}
 use lib.ListN.{length, take, drop, length-drop}
-use lib.Seq.{take-all, length-take-le}
+use lib.Seq.{take-all}
 use Rattle.model.specs.Path.{primCount}
 use Rattle.model.specs.Node as model
 use Rattle.model.specs.Graph.{Graph, emptyGraph, nodeAt, withNode}
@@ -16,7 +16,7 @@ use Rattle.model.specs.Calls.{Outcome, readInto}
 use Rattle.model.specs.Arena.{arenaBytes, countIn, headerBytes, decode, encode, holdsGraph}
 use Rattle.model.proofs.BigEndianLaws.{Bytes}
 use Rattle.model.proofs.SnapshotLaws.{NodesFit, read-nodes-fit}
-use Rattle.model.proofs.SnapshotReadLaws.{built, built-nodes, GrowsFrom, Grows, accepted, accepted-read, grown-read}
+use Rattle.model.proofs.SnapshotReadLaws.{built, GrowsFrom, Grows, accepted, accepted-read, grown-read}
 use Rattle.arena.specs.declared.Node.{Node}
 use Rattle.arena.specs.Slot.{nodeOf}
 use Rattle.arena.proofs.Encodable.{Encodable, empty-encodable, fit-at}
@@ -26,11 +26,11 @@ use Rattle.arena.proofs.ArenaLaws.{decode-encode}
 use Rattle.arena.proofs.ArenaHolds.{holds-encoded}
 use Rattle.append.specs.Append.{CanAppend}
 use Rattle.append.proofs.AppendEncodable.{append-encodable}
-use Rattle.append.proofs.EncodeOver.{header-covered, absorbed, added-unordered, encode-over}
+use Rattle.append.proofs.EncodeOver.{header-covered, absorbed, added-unordered, encode-next}
 use Rattle.snapshot.specs.Reading.{nodesOr, nodesRead, Exact}
 use Rattle.snapshot.specs.Filling.{NodeRead, CanAppendRecord}
-use Rattle.snapshot.proofs.RecordLaws.{recordPart, Reached, reached-none, record-here, part-long, node-here, reached-more}
-use Rattle.snapshot.proofs.CheckLaws.{built-more}
+use Rattle.snapshot.proofs.RecordLaws.{recordPart, Reached, reached-none, node-lent, piece-long, reached-more}
+use Rattle.snapshot.proofs.CheckLaws.{built-more, built-sized}
 
 -- ---- A record's node
 
@@ -140,28 +140,24 @@ module _ (cleared bytes arena : List ℕ) (at n : ℕ) (filled : Filled cleared 
     x = nodeAt nodes n
 
     node : readRecord piece ≡ x
-    node = ap readRecord e ∙ sym (node-here bytes at n (filled .reached) h)
+    node = node-lent bytes at n (filled .reached) h piece e
 
     passes : refusal (recordQuestions graph x) ≡ 0
     passes = accepted-at emptyGraph nodes n grown h
 
-    sized : length (graph .nodes) ≡ n
-    sized = ap length (built-nodes (take n nodes)) ∙ length-take-le n nodes (omega arith)
-
     pub can-append-record : (prims : ℕ) → prims ≡ primCount (x .path) → CanAppendRecord arena n piece prims
     can-append-record prims named =
-        let fits = record-here bytes at n (filled .reached) h in
-        let long : length piece ≡ length (recordPart at bytes) = ap length e in
+        let long = piece-long bytes at n (filled .reached) h piece e in
         record {
           whole = filled-length;
           holds = ap holdsGraph (filled .arena-is) ∙ holds-encoded graph cleared (filled .encodable) (filled .whole);
-          counted = sym (ap countIn (filled .arena-is) ∙ count-encode graph cleared (filled .encodable) (filled .whole) ∙ sized);
+          counted = sym (ap countIn (filled .arena-is) ∙ count-encode graph cleared (filled .encodable) (filled .whole) ∙ built-sized nodes n (filled .reached .few));
           accepted =
               ap (λ (g : Graph). refusal (recordQuestions g (readRecord piece))) held
               ∙ ap (λ (y : model.Node). refusal (recordQuestions graph y)) node ∙ passes;
           named = named ∙ ap (λ (y : model.Node). primCount (y .path)) (sym node);
-          numbered = omega (arith, part-long bytes at n (filled .reached) h, fits .long);
-          short = omega (arith, part-long bytes at n (filled .reached) h, fits .short);
+          numbered = omega arith;
+          short = long .1;
         }
 
     pub filled-more : NodesFit nodes → (next : List ℕ) → next ≡ encode (withNode (decode arena) (readRecord piece)) arena
@@ -175,10 +171,8 @@ module _ (cleared bytes arena : List ℕ) (at n : ℕ) (filled : Filled cleared 
           encodable = subst Encodable same more;
           unordered = ap (λ (g : Graph). g .order) (sym same) ∙ added-unordered graph x;
           arena-is =
-              q ∙ ap (λ (g : Graph). encode (withNode g (readRecord piece)) arena) held
-              ∙ ap (λ (y : model.Node). encode (withNode graph y) arena) node
-              ∙ ap (encode (withNode graph x)) (filled .arena-is)
-              ∙ encode-over graph x cleared (filled .encodable) more (filled .whole) (filled .unordered)
+              q ∙ ap (λ (y : model.Node). encode (withNode (decode arena) y) arena) node
+              ∙ encode-next graph x cleared arena (filled .encodable) more (filled .whole) (filled .unordered) (filled .arena-is)
               ∙ ap (λ (g : Graph). encode g cleared) same;
           whole = filled .whole;
         }

@@ -1,12 +1,10 @@
 -- What the reader's proof cites: what each pass answers, as what reading comes to. Refused by any of them, the arena keeps its bytes. Assumes nothing.
 use mathlib.Core.Path.{_≡_, refl, sym, ap, _∙_}
-use mathlib.Core.Bool.{Bool, cond}
 use mathlib.Core.Option.{Option, none, some}
 use mathlib.Core.List.{List}
-use Prim.Native.Nat.{ℕ, _<_}
+use Prim.Native.Nat.{ℕ}
 use native.Mathlib.Omega.{arith}
 use lib.ListN.{length}
-use borrow.Author.Tests.{eq-eqb, ne-eqb}
 use Rattle.model.specs.Node.{Node}
 use Rattle.model.specs.Graph.{emptyGraph}
 use Rattle.model.specs.Snapshot.{readSnapshot}
@@ -18,8 +16,8 @@ use Rattle.model.specs.declared.Refusal.the-variants.{Snapshot}
 use Rattle.model.specs.declared.Numbered.the-variants.{Number, Refused}
 use Rattle.model.specs.declared.Finished.the-variants.{Refused as FinishRefused}
 use Rattle.model.proofs.SnapshotReadLaws.{built-nodes, refused-read-keeps}
+use Rattle.model.proofs.ArenaCallLaws.{refusal-some, wrote-refused, wrote-number}
 use Rattle.snapshot.specs.Reading.{countedAs, nodesOr, nodesRead, Exact, RecordsChecked}
-use Rattle.snapshot.proofs.CheckLaws.{some-refusal}
 use Rattle.snapshot.proofs.FillLaws.{graph-read}
 
 -- ---- Question 12
@@ -50,23 +48,13 @@ not-exact bytes arena r e = go (readSnapshot bytes) e
 pub refused-read : (bytes prims arena : List ℕ) (r : Refusal) → RecordsChecked bytes (FinishRefused r) prims
     → Wrote (readInto bytes emptyGraph) arena (Refused r) arena
 refused-read bytes prims arena r checked =
-    let outcome = readInto bytes emptyGraph in
-    let some-number : 0 < readInto bytes emptyGraph .refused = omega (arith, checked .refused, some-refusal r) in
-    let kept = refused-read-keeps bytes emptyGraph (λ z. omega arith) in
-    record {
-      refused = checked .refused;
-      value = sym (ap (λ (o : Outcome). o .value) kept);
-      arena = sym (ap (λ (t : Bool). cond t (encode (outcome .graph) arena) arena) (ne-eqb (outcome .refused) 0 (λ z. omega arith)));
-    }
+    wrote-refused arena (readInto bytes emptyGraph) r (checked .refused)
+    (ap (λ (o : Outcome). o .value) (refused-read-keeps bytes emptyGraph (λ z. refusal-some r (checked .refused ∙ z))))
 
 -- ---- None
 
 pub filled-read : (bytes before after : List ℕ) (count : ℕ) → Exact bytes count → readInto bytes emptyGraph .refused ≡ 0
     → after ≡ encode (readInto bytes emptyGraph .graph) before → Wrote (readInto bytes emptyGraph) before (Number count) after
 filled-read bytes before after count exact passed e =
-    let outcome = readInto bytes emptyGraph in
-    record {
-      refused = sym passed;
-      value = exact .counted ∙ sym (ap (λ (o : Outcome). o .value) (graph-read bytes count exact passed) ∙ ap length (built-nodes (nodesRead bytes)));
-      arena = e ∙ sym (ap (λ (t : Bool). cond t (encode (outcome .graph) before) before) (eq-eqb (outcome .refused) 0 passed));
-    }
+    wrote-number before after (readInto bytes emptyGraph) count passed
+    (exact .counted ∙ sym (ap (λ (o : Outcome). o .value) (graph-read bytes count exact passed) ∙ ap length (built-nodes (nodesRead bytes)))) e

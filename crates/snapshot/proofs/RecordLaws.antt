@@ -1,37 +1,29 @@
 -- Record by record over bytes that pass question 12: the place of the next record (`Reached`), that it is whole (`record-here`), the node that it is
 -- (`node-here`), and the place behind it (`reached-more`). Assumes nothing.
 use mathlib.Core.Path.{_≡_, refl, sym, ap, _∙_}
-use mathlib.Core.Bool.{Bool, true, false, _&&_, cond}
+use mathlib.Core.Bool.{Bool, true, false, cond}
 use mathlib.Core.Option.{Option, none, some}
 use mathlib.Core.List.{List, _∷_}
 use Prim.Native.Nat.{ℕ, suc, _+_, _-_, _≤_, _<_}
 use native.Mathlib.Numerals.{add-one}
 use native.Mathlib.Omega.{arith}
-use lib.Dec.{eqb, leb}
 use lib.ListN.{length, take, drop, length-drop}
 use lib.Seq.{drop-cons, drop-drop, length-take-le}
-use borrow.Author.Tests.{leb-true, eqb-true}
 use Rattle.model.specs.Node.{Node, noNode}
 use Rattle.model.specs.Graph.{nodeAt}
 use Rattle.model.specs.Snapshot.{field, readRecord, fitsRecord, before, readRecords, readSnapshot}
 use Rattle.model.specs.declared.Numbered.the-variants.{Number}
-use Rattle.model.proofs.SnapshotLaws.{and-first, and-second}
 use Rattle.snapshot.specs.Reading.{countedAs, nodesRead, Exact, RecordAt}
-use Rattle.snapshot.proofs.FieldLaws.{passes, length-here, fits-at, Front, front-right, passed-counted}
+use Rattle.snapshot.proofs.FieldLaws.{passes, length-here, fits-at, Front, frontRight, front-tested, front-right, passed-counted}
 
 -- ---- The front
 
 front-read : (bytes : List ℕ) (xs : List Node) → readSnapshot bytes ≡ some xs → Front bytes
 unfolding readSnapshot
-front-read bytes xs e = go (leb 7 (length bytes) && (eqb (4 + field 0 4 bytes) (length bytes) && eqb (field 4 1 bytes) 1)) refl e
+front-read bytes xs e = go (frontRight bytes) refl e
   where
-    go : (t : Bool) → (leb 7 (length bytes) && (eqb (4 + field 0 4 bytes) (length bytes) && eqb (field 4 1 bytes) 1)) ≡ t
-        → cond t (readRecords (field 5 2 bytes) (drop 7 bytes)) none ≡ some xs → Front bytes
-    go true q r = record {
-      header = leb-true 7 (length bytes) (search (and-first, and-second));
-      counted = eqb-true (4 + field 0 4 bytes) (length bytes) (search (and-first, and-second));
-      version = eqb-true (field 4 1 bytes) 1 (search (and-first, and-second));
-    }
+    go : (t : Bool) → frontRight bytes ≡ t → cond t (readRecords (field 5 2 bytes) (drop 7 bytes)) none ≡ some xs → Front bytes
+    go true q r = front-tested bytes q
     go false q r = let z : _≡_ {A = ℕ} 0 1 = cc in absurd (omega arith)
 
 -- so many records as the front says
@@ -91,15 +83,21 @@ module _ (bytes : List ℕ) (at n : ℕ) (reached : Reached bytes at n) (h : n <
   pub record-here : RecordAt bytes at
   record-here = fits-at at bytes (reached .within) (here .0)
 
-  pub part-long : length (recordPart at bytes) ≡ field at 2 bytes
+  part-long : length (recordPart at bytes) ≡ field at 2 bytes
   part-long = length-take-le (field at 2 bytes) (drop (at + 2) bytes) (rw length-drop (omega (arith, record-here .within)))
 
-  pub node-here : node ≡ readRecord (recordPart at bytes)
+  node-here : node ≡ readRecord (recordPart at bytes)
   node-here =
       here .1 ∙ ap (λ (k : ℕ). readRecord (take k (drop 2 (drop at bytes)))) (length-here at bytes (reached .within))
       ∙ ap (λ (l : List ℕ). readRecord (take (field at 2 bytes) l)) (drop-drop 2 at bytes)
 
   -- the record, lent as `piece`
+  pub node-lent : (piece : List ℕ) → piece ≡ recordPart at bytes → readRecord piece ≡ node
+  node-lent piece e = ap readRecord e ∙ sym node-here
+
+  pub piece-long : (piece : List ℕ) → piece ≡ recordPart at bytes → (28 ≤ length piece) × (length piece ≤ 282)
+  piece-long piece e = let fits = record-here in omega (arith, ap length e, part-long)
+
   pub reached-more : (piece : List ℕ) → piece ≡ recordPart at bytes → Reached bytes (at + (2 + length piece)) (n + 1)
   reached-more piece e =
       let long : length piece ≡ field at 2 bytes = ap length e ∙ part-long in

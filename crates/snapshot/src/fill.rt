@@ -62,7 +62,7 @@ pub(crate) fn fill(arena: &mut [u8], bytes: &[u8], count: u32, prims: &[u8])
     let mut at: usize = 7;
     let mut n: u32 = 0;
     while n < count {
-        let record = crate::check::record_at(bytes, at);
+        let record = crate::checks::record_at(bytes, at);
         append_record(arena, n, record, prims[n as usize]);
         at += 2 + record.len();
         n += 1;

@@ -8,8 +8,8 @@ use native.Mathlib.Omega.{arith}
 use Rattle.model.specs.Snapshot.{field}
 use Rattle.snapshot.specs.Reading.{RecordAt}
 use Rattle.snapshot.proofs.FieldLaws.{Asked, asked-none, asked-more, asked-missing, asked-all, asked-behind, length-taken}
-use Rattle.snapshot.proofs.check.check_record_lengths.Statement.{statement}
-use Rattle.snapshot.proofs.check.check_record_lengths.Tie as tie
+use Rattle.snapshot.proofs.checks.check_record_lengths.Statement.{statement}
+use Rattle.snapshot.proofs.checks.check_record_lengths.Tie as tie
 
 abbrev Inv-loop : tie.InvT-loop
 Inv-loop bytes count at₀ left₀ at left = Asked bytes count at left

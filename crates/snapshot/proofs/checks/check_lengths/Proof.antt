@@ -8,8 +8,8 @@ use lib.ListN.{length, drop}
 use Rattle.model.specs.Snapshot.{field, readRecords}
 use Rattle.snapshot.specs.Reading.{countedAs}
 use Rattle.snapshot.proofs.FieldLaws.{taken, not-taken, Front, front-right, front-wrong}
-use Rattle.snapshot.proofs.check.check_lengths.Statement.{statement}
-use Rattle.snapshot.proofs.check.check_lengths.Tie as tie
+use Rattle.snapshot.proofs.checks.check_lengths.Statement.{statement}
+use Rattle.snapshot.proofs.checks.check_lengths.Tie as tie
 
 -- the bytes, from each field on
 abbrev bytes : tie.After-known-told → List ℕ

@@ -2,8 +2,8 @@
 use borrow.Author.Needs.{needs}
 use native.Mathlib.Omega.{arith}
 use Rattle.snapshot.proofs.CheckLaws.{one-checked}
-use Rattle.snapshot.proofs.check.check_one.Statement.{statement}
-use Rattle.snapshot.proofs.check.check_one.Tie as tie
+use Rattle.snapshot.proofs.checks.check_one.Statement.{statement}
+use Rattle.snapshot.proofs.checks.check_one.Tie as tie
 
 sub-path : tie.Need-sub-path
 sub-path c = search needs

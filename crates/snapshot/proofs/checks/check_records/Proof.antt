@@ -6,10 +6,10 @@ use borrow.Author.Needs.{needs}
 use native.Mathlib.Omega.{arith}
 use lib.ListN.{length}
 use Rattle.snapshot.specs.Reading.{nodesRead}
-use Rattle.snapshot.proofs.RecordLaws.{record-here, reached-more}
-use Rattle.snapshot.proofs.CheckLaws.{CheckedTo, checked-none, checked-all, piece-long, refused-here, fits-prims, checked-more}
-use Rattle.snapshot.proofs.check.check_records.Statement.{statement}
-use Rattle.snapshot.proofs.check.check_records.Tie as tie
+use Rattle.snapshot.proofs.RecordLaws.{record-here, piece-long, reached-more}
+use Rattle.snapshot.proofs.CheckLaws.{CheckedTo, checked-none, checked-all, refused-here, fits-prims, checked-more}
+use Rattle.snapshot.proofs.checks.check_records.Statement.{statement}
+use Rattle.snapshot.proofs.checks.check_records.Tie as tie
 
 abbrev Inv-loop : tie.InvT-loop
 Inv-loop bytes count prims₀ at₀ path-bytes₀ has-root₀ n₀ prims at path-bytes has-root n = CheckedTo bytes prims at path-bytes has-root n
@@ -22,7 +22,7 @@ here : (c : tie.In-loop Inv-loop μ-loop) → c .before .loop .n < length (nodes
 here c = omega (arith, c .loop-test .taken, c .before .before .before .before .pre .0 .counted)
 
 long : (c : tie.After-record-at Inv-loop μ-loop) → (28 ≤ length (c .record-at .result .now)) × (length (c .record-at .result .now) ≤ 282)
-long c = omega (arith, piece-long _ _ _ _ _ _ (c .before .before .loop .inv) (here (c .before)) (c .record-at .result .now) (c .record-at .ensures))
+long c = piece-long _ _ _ (c .before .before .loop .inv .reached) (here (c .before)) (c .record-at .result .now) (c .record-at .ensures)
 
 -- an accepted record's number is below 1,024
 small : (c : tie.After-known-told2 Inv-loop μ-loop) → c .before .before .before .before .before .before .loop .n < 1024

@@ -1,8 +1,8 @@
 -- `with_root` meets its contract: node 0 is no local root. Assumes nothing.
 use native.Mathlib.Omega.{arith}
 use borrow.Author.Tests.{le-ltb, lt-ltb, eq-eqb, ne-eqb}
-use Rattle.snapshot.proofs.check.with_root.Statement.{statement}
-use Rattle.snapshot.proofs.check.with_root.Tie as tie
+use Rattle.snapshot.proofs.checks.with_root.Statement.{statement}
+use Rattle.snapshot.proofs.checks.with_root.Tie as tie
 
 returns : tie.Need-returns
 returns c = rw (le-ltb 0 (c .before .args .n) (omega arith))
