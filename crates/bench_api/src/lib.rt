@@ -5,8 +5,11 @@ use model::PrimCount;
 use prim_graph::Depth;
 use prim_graph::NodeDesc;
 ghost use mathlib.Core.Path.{_≡_};
+ghost use Rattle.model.specs.ArenaCalls.{onArena, intoArena};
+ghost use Rattle.model.specs.Calls.{initRoot, addChild, readInto};
+ghost use Rattle.model.specs.Graph.{emptyGraph};
 ghost use Rattle.model.specs.Path.{countPrims};
-ghost use Rattle.bench_api.specs.Numbers.{countNumber, answerNumber, graphNumber};
+ghost use Rattle.bench_api.specs.Numbers.{countNumber, answerNumber, graphNumber, referenceDesc, WroteNumber, WrittenNumber};
 
 // The prim count, or 65,536 where the bytes are no path.
 #[no_mangle]
@@ -43,13 +46,17 @@ pub extern "C" fn bench_is_graph(arena: &[u8]) -> u32
 
 // `init_root`.
 #[no_mangle]
-pub extern "C" fn bench_init_root(arena: &mut [u8], stack: u32, layer: u32, path: &[u8]) -> u32 {
+pub extern "C" fn bench_init_root(arena: &mut [u8], stack: u32, layer: u32, path: &[u8]) -> u32
+    ensures { λ r. ⌜ WroteNumber (onArena (initRoot stack layer (now (path .entry))) (now (arena .entry))) (now (arena .entry)) r (now (arena .exit)) ⌝ }
+{
     number(prim_graph::init_root(arena, stack, layer, path))
 }
 
 // `add_child` of a Reference whose origin and depth are missing, other fields 0.
 #[no_mangle]
-pub extern "C" fn bench_add_child(arena: &mut [u8], parent: u32, path: &[u8]) -> u32 {
+pub extern "C" fn bench_add_child(arena: &mut [u8], parent: u32, path: &[u8]) -> u32
+    ensures { λ r. ⌜ WroteNumber (onArena (addChild (referenceDesc parent (now (path .entry)))) (now (arena .entry))) (now (arena .entry)) r (now (arena .exit)) ⌝ }
+{
     let desc = NodeDesc {
         arc: 4,
         flags: 0,
@@ -68,12 +75,16 @@ pub extern "C" fn bench_add_child(arena: &mut [u8], parent: u32, path: &[u8]) ->
 
 // `read_snapshot`.
 #[no_mangle]
-pub extern "C" fn bench_read_snapshot(arena: &mut [u8], bytes: &[u8]) -> u32 {
+pub extern "C" fn bench_read_snapshot(arena: &mut [u8], bytes: &[u8]) -> u32
+    ensures { λ r. ⌜ WroteNumber (intoArena (readInto (now (bytes .entry)) emptyGraph) (now (arena .entry))) (now (arena .entry)) r (now (arena .exit)) ⌝ }
+{
     number(prim_graph::read_snapshot(arena, bytes))
 }
 
 // `write_snapshot`.
 #[no_mangle]
-pub extern "C" fn bench_write_snapshot(arena: &[u8], out: &mut [u8]) -> u32 {
+pub extern "C" fn bench_write_snapshot(arena: &[u8], out: &mut [u8]) -> u32
+    ensures { λ r. ⌜ WrittenNumber (now (arena .entry)) (now (out .entry)) r (now (out .exit)) ⌝ }
+{
     number(prim_graph::write_snapshot(arena, out))
 }
