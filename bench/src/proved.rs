@@ -2,6 +2,11 @@
 
 unsafe extern "C" {
     fn bench_prim_count(path: *const u8, length: usize) -> u32;
+    fn bench_is_graph(arena: *const u8, length: usize) -> u32;
+    fn bench_read_snapshot(arena: *mut u8, alen: usize, bytes: *const u8, blen: usize) -> u32;
+    fn bench_write_snapshot(arena: *const u8, alen: usize, out: *mut u8, olen: usize) -> u32;
+    fn bench_init_root(arena: *mut u8, alen: usize, stack: u32, layer: u32, path: *const u8, plen: usize) -> u32;
+    fn bench_add_child(arena: *mut u8, alen: usize, parent: u32, path: *const u8, plen: usize) -> u32;
 }
 
 /// The prim count, or 65,536 where the bytes are no path.
@@ -9,50 +14,36 @@ pub fn prim_count(path: &[u8]) -> u32 {
     unsafe { bench_prim_count(path.as_ptr(), path.len()) }
 }
 
-#[cfg(feature = "graphs")]
-pub use on_graphs::*;
+/// Added to a refusal's number.
+const REFUSED: u32 = 1_000_000;
 
-#[cfg(feature = "graphs")]
-mod on_graphs {
-    unsafe extern "C" {
-        fn bench_is_graph(arena: *const u8, length: usize) -> u32;
-        fn bench_read_snapshot(arena: *mut u8, alen: usize, bytes: *const u8, blen: usize) -> u32;
-        fn bench_write_snapshot(arena: *const u8, alen: usize, out: *mut u8, olen: usize) -> u32;
-        fn bench_init_root(arena: *mut u8, alen: usize, stack: u32, layer: u32, path: *const u8, plen: usize) -> u32;
-        fn bench_add_child(arena: *mut u8, alen: usize, parent: u32, path: *const u8, plen: usize) -> u32;
-    }
+/// The answer, or the refusal.
+fn answer(number: u32) -> Result<u32, u32> {
+    if number < REFUSED { Ok(number) } else { Err(number - REFUSED) }
+}
 
-    /// Added to a refusal's number.
-    const REFUSED: u32 = 1_000_000;
+/// Whether the arena holds a graph: 1 or 0.
+pub fn is_graph(arena: &[u8]) -> u32 {
+    unsafe { bench_is_graph(arena.as_ptr(), arena.len()) }
+}
 
-    /// The answer, or the refusal.
-    fn answer(number: u32) -> Result<u32, u32> {
-        if number < REFUSED { Ok(number) } else { Err(number - REFUSED) }
-    }
+/// The count.
+pub fn read_snapshot(arena: &mut [u8], bytes: &[u8]) -> Result<u32, u32> {
+    answer(unsafe { bench_read_snapshot(arena.as_mut_ptr(), arena.len(), bytes.as_ptr(), bytes.len()) })
+}
 
-    /// Whether the arena holds a graph: 1 or 0.
-    pub fn is_graph(arena: &[u8]) -> u32 {
-        unsafe { bench_is_graph(arena.as_ptr(), arena.len()) }
-    }
+/// The length.
+pub fn write_snapshot(arena: &[u8], out: &mut [u8]) -> Result<u32, u32> {
+    answer(unsafe { bench_write_snapshot(arena.as_ptr(), arena.len(), out.as_mut_ptr(), out.len()) })
+}
 
-    /// The count.
-    pub fn read_snapshot(arena: &mut [u8], bytes: &[u8]) -> Result<u32, u32> {
-        answer(unsafe { bench_read_snapshot(arena.as_mut_ptr(), arena.len(), bytes.as_ptr(), bytes.len()) })
-    }
+/// The node's number, 0.
+pub fn init_root(arena: &mut [u8], stack: u32, layer: u32, path: &[u8]) -> Result<u32, u32> {
+    let (start, length) = (arena.as_mut_ptr(), arena.len());
+    answer(unsafe { bench_init_root(start, length, stack, layer, path.as_ptr(), path.len()) })
+}
 
-    /// The length.
-    pub fn write_snapshot(arena: &[u8], out: &mut [u8]) -> Result<u32, u32> {
-        answer(unsafe { bench_write_snapshot(arena.as_ptr(), arena.len(), out.as_mut_ptr(), out.len()) })
-    }
-
-    /// The node's number, 0.
-    pub fn init_root(arena: &mut [u8], stack: u32, layer: u32, path: &[u8]) -> Result<u32, u32> {
-        let (start, length) = (arena.as_mut_ptr(), arena.len());
-        answer(unsafe { bench_init_root(start, length, stack, layer, path.as_ptr(), path.len()) })
-    }
-
-    /// The node's number.
-    pub fn add_child(arena: &mut [u8], parent: u32, path: &[u8]) -> Result<u32, u32> {
-        answer(unsafe { bench_add_child(arena.as_mut_ptr(), arena.len(), parent, path.as_ptr(), path.len()) })
-    }
+/// The node's number.
+pub fn add_child(arena: &mut [u8], parent: u32, path: &[u8]) -> Result<u32, u32> {
+    answer(unsafe { bench_add_child(arena.as_mut_ptr(), arena.len(), parent, path.as_ptr(), path.len()) })
 }

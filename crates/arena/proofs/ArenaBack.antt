@@ -94,7 +94,7 @@ module _ (bs : List ℕ) (held : Held bs) where
   pub root-parent : 0 < countIn bs → nodeAt (decode bs .nodes) 0 .parent ≡ invalid
   root-parent h = rw fresh-nodes at (fresh-legal .node-0 (omega (arith, ap length fresh-nodes, size-decode)) .no-parent)
 
-  next-decode : (n : ℕ) → n < countIn bs → afterIn n (childrenOf (decode bs) (nodeAt (decode bs .nodes) n .parent)) ≡ nextSiblingIn bs n
+  pub next-decode : (n : ℕ) → n < countIn bs → afterIn n (childrenOf (decode bs) (nodeAt (decode bs .nodes) n .parent)) ≡ nextSiblingIn bs n
   next-decode n h = go (eqb n 0) refl
     where
       go : (t : Bool) → eqb n 0 ≡ t → afterIn n (childrenOf (decode bs) (nodeAt (decode bs .nodes) n .parent)) ≡ nextSiblingIn bs n
@@ -147,7 +147,7 @@ module _ (bs : List ℕ) (bytes : Bytes bs) (whole : length bs ≡ arenaBytes) (
         let node = held .node n h in
         read-record-fits body body-bytes (omega (arith, body-length)) (omega (arith, body-length))
 
-    body-written : recordBody (nodeAt (decode bs .nodes) n) ≡ body
+    pub body-written : recordBody (nodeAt (decode bs .nodes) n) ≡ body
     body-written =
         ap recordBody (node-decode bs held n h)
         ∙ read-record-written body body-bytes (omega (arith, body-length, held .node n h .record-named))

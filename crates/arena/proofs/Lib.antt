@@ -14,3 +14,4 @@ pub mod ArenaExact
 pub mod ArenaExamples
 mod StoreLaws
 pub mod SlotLaws
+pub mod ReadNodes

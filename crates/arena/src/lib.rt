@@ -29,6 +29,7 @@ pub use slot::origin;
 pub use slot::parent;
 pub use slot::path;
 pub use slot::prim_count;
+pub use slot::record;
 pub use slot::record_length;
 pub use slot::restriction;
 pub use slot::sibling;

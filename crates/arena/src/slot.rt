@@ -1,6 +1,7 @@
 // A slot's fields, one load or store each, and the path. The record's fields are read where they lie, whatever length the record says it has.
 ghost use mathlib.Core.Path.{_≡_};
 ghost use Prim.Native.Nat.{_+_, _≤_};
+ghost use lib.ListN.{take, drop};
 ghost use Rattle.model.specs.Arena.{slotAt, firstChildIn, lastChildIn, nextSiblingIn, orderEntryIn, primCountIn, recordLengthIn, nodeIn};
 ghost use Rattle.model.specs.Snapshot.{field};
 ghost use Rattle.arena.specs.Slot.{HasSlot, HasPath, arcIn, flagsIn, stackIn, layerIn, parentIn, originIn, depthIn, siblingIn, restrictionIn, specFromIn, hasSpecsIn, orderEntryStored, flagsStored};
@@ -179,6 +180,16 @@ pub fn path(arena: &[u8], n: u32) -> &[u8]
     let body = HEADER + (n as usize) * SLOT + 19;
     let start = body + 27;
     let end = body + (record_length(arena, n) as usize);
+    &arena[start..end]
+}
+
+// The record of node n as a snapshot has it, its length first: a part of the arena.
+pub fn record(arena: &[u8], n: u32) -> &[u8]
+    requires { ⌜ HasPath (now arena) n ⌝ }
+    ensures { λ r. ⌜ now r ≡ take (2 + recordLengthIn (now (arena .entry)) n) (drop (slotAt n + 17) (now (arena .entry))) ⌝ }
+{
+    let start = HEADER + (n as usize) * SLOT + 17;
+    let end = start + 2 + (record_length(arena, n) as usize);
     &arena[start..end]
 }
 

@@ -1,8 +1,60 @@
--- An answer as one number, for the benchmark.
-use Prim.Native.Nat.{ℕ}
+-- An answer as one number, for the programs in bench/.
+use mathlib.Core.Path.{_≡_}
+use mathlib.Core.Bool.{_&&_}
+use mathlib.Core.Option.{none}
+use mathlib.Core.List.{List}
+use Prim.Native.Nat.{ℕ, _+_}
+use Rattle.model.specs.Lists.{bit}
+use Rattle.model.specs.Refusals.{refusalNumber}
+use Rattle.model.specs.Arena.{holdsGraph}
+use Rattle.model.specs.ArenaCalls.{isArena, Wrote}
+use Rattle.model.specs.Calls as calls
+use Rattle.model.specs.Calls.{Outcome}
+use Rattle.model.specs.Node.{invalid}
+use Rattle.prim_graph.specs.Snapshots.{SnapshotWritten}
 use Rattle.model.specs.declared.PrimCount.{PrimCount}
 use Rattle.model.specs.declared.PrimCount.the-variants.{Names, Malformed}
+use Rattle.model.specs.declared.Numbered.{Numbered}
+use Rattle.model.specs.declared.Numbered.the-variants.{Number, Refused}
 
 abbrev pub countNumber : PrimCount → ℕ
 countNumber (Names n) = n
 countNumber Malformed = 65536
+
+abbrev pub answerNumber : Numbered → ℕ
+answerNumber (Number n) = n
+answerNumber (Refused r) = 1000000 + refusalNumber r
+
+abbrev pub graphNumber : List ℕ → ℕ
+graphNumber bs = bit (isArena bs && holdsGraph bs)
+
+-- the answer of a call that came to o, as a number, and the arena after it
+pub record WroteNumber (o : Outcome) (before : List ℕ) (r : ℕ) (after : List ℕ) : Type 0 where
+  pub answer : Numbered
+  pub wrote : Wrote o before answer after
+  pub number : r ≡ answerNumber answer
+
+pub record WrittenNumber (arena out : List ℕ) (r : ℕ) (after : List ℕ) : Type 0 where
+  pub answer : Numbered
+  pub written : SnapshotWritten arena out answer after
+  pub number : r ≡ answerNumber answer
+
+-- a Reference under `parent`, its origin and depth missing, other fields 0
+abbrev pub referenceDesc : ℕ → List ℕ → calls.NodeDesc
+referenceDesc parent path = record {
+  fields = record {
+    arc = 4;
+    flags = 0;
+    stack = 0;
+    layer = 0;
+    parent = parent;
+    origin = invalid;
+    depth = 0;
+    sibling = 0;
+    restriction = 0;
+    specFrom = 0;
+    hasSpecs = 0;
+    path = path;
+  };
+  depth = none;
+}

@@ -1,8 +1,15 @@
-// C functions for the benchmark in bench/, and for nothing else: each is one call of the library below it, with its answer as a number.
+// C functions for the programs in bench/, and for nothing else: each is one call of the library below it, with its answer as a number.
+use model::NodeId;
+use model::Numbered;
 use model::PrimCount;
+use prim_graph::Depth;
+use prim_graph::NodeDesc;
 ghost use mathlib.Core.Path.{_≡_};
+ghost use Rattle.model.specs.ArenaCalls.{onArena, intoArena};
+ghost use Rattle.model.specs.Calls.{initRoot, addChild, readInto};
+ghost use Rattle.model.specs.Graph.{emptyGraph};
 ghost use Rattle.model.specs.Path.{countPrims};
-ghost use Rattle.bench_api.specs.Numbers.{countNumber};
+ghost use Rattle.bench_api.specs.Numbers.{countNumber, answerNumber, graphNumber, referenceDesc, WroteNumber, WrittenNumber};
 
 // The prim count, or 65,536 where the bytes are no path.
 #[no_mangle]
@@ -14,4 +21,70 @@ pub extern "C" fn bench_prim_count(path: &[u8]) -> u32
         PrimCount::Names(names) => names as u32,
         PrimCount::Malformed => 65536,
     }
+}
+
+// A number that a call answers, or 1,000,000 and its refusal's number.
+fn number(answer: Numbered) -> u32
+    ensures { λ r. ⌜ r ≡ answerNumber answer ⌝ }
+{
+    match answer {
+        Numbered::Number(n) => n,
+        Numbered::Refused(refusal) => 1000000 + (refusal.number() as u32),
+    }
+}
+
+// 1 where the bytes are an arena that holds a graph, else 0.
+#[no_mangle]
+pub extern "C" fn bench_is_graph(arena: &[u8]) -> u32
+    ensures { λ r. ⌜ r ≡ graphNumber (now (arena .entry)) ⌝ }
+{
+    if arena.len() != 327744 {
+        return 0;
+    }
+    validate::is_graph(arena) as u32
+}
+
+// `init_root`.
+#[no_mangle]
+pub extern "C" fn bench_init_root(arena: &mut [u8], stack: u32, layer: u32, path: &[u8]) -> u32
+    ensures { λ r. ⌜ WroteNumber (onArena (initRoot stack layer (now (path .entry))) (now (arena .entry))) (now (arena .entry)) r (now (arena .exit)) ⌝ }
+{
+    number(prim_graph::init_root(arena, stack, layer, path))
+}
+
+// `add_child` of a Reference whose origin and depth are missing, other fields 0.
+#[no_mangle]
+pub extern "C" fn bench_add_child(arena: &mut [u8], parent: u32, path: &[u8]) -> u32
+    ensures { λ r. ⌜ WroteNumber (onArena (addChild (referenceDesc parent (now (path .entry)))) (now (arena .entry))) (now (arena .entry)) r (now (arena .exit)) ⌝ }
+{
+    let desc = NodeDesc {
+        arc: 4,
+        flags: 0,
+        stack: 0,
+        layer: 0,
+        parent: NodeId(parent),
+        origin: NodeId::INVALID,
+        depth: Depth::Missing,
+        sibling: 0,
+        restriction: 0,
+        spec_from: 0,
+        has_specs: 0,
+    };
+    number(prim_graph::add_child(arena, desc, path))
+}
+
+// `read_snapshot`.
+#[no_mangle]
+pub extern "C" fn bench_read_snapshot(arena: &mut [u8], bytes: &[u8]) -> u32
+    ensures { λ r. ⌜ WroteNumber (intoArena (readInto (now (bytes .entry)) emptyGraph) (now (arena .entry))) (now (arena .entry)) r (now (arena .exit)) ⌝ }
+{
+    number(prim_graph::read_snapshot(arena, bytes))
+}
+
+// `write_snapshot`.
+#[no_mangle]
+pub extern "C" fn bench_write_snapshot(arena: &[u8], out: &mut [u8]) -> u32
+    ensures { λ r. ⌜ WrittenNumber (now (arena .entry)) (now (out .entry)) r (now (out .exit)) ⌝ }
+{
+    number(prim_graph::write_snapshot(arena, out))
 }

@@ -3,13 +3,13 @@
 use mathlib.Core.Path.{_≡_}
 use mathlib.Core.Bool.{Bool, true, cond}
 use mathlib.Core.List.{List, _∷_}
-use Prim.Native.Nat.{ℕ, zero, suc}
+use Prim.Native.Nat.{ℕ, zero, suc, _<_}
 use lib.Dec.{eqb}
 use lib.ListN.{length}
 use Rattle.model.specs.Graph.{Graph, emptyGraph}
 use Rattle.model.specs.Refusals.{Question, ask, refusal}
 use Rattle.model.specs.Calls.{Outcome, unchanged}
-use Rattle.model.specs.Arena.{arenaBytes, decode, encode, holdsGraph}
+use Rattle.model.specs.Arena.{arenaBytes, countIn, decode, encode, holdsGraph}
 use Rattle.model.specs.Answers.{numberedRefusal, numberedValue}
 use Rattle.model.specs.declared.Numbered.{Numbered}
 
@@ -21,6 +21,11 @@ isArena bs = eqb (length bs) arenaBytes
 pub record Opened (bs : List ℕ) : Type 0 where
   pub whole : length bs ≡ arenaBytes
   pub holds : holdsGraph bs ≡ true
+
+-- and n is one of the nodes
+pub record Readable (bs : List ℕ) (n : ℕ) : Type 0 where
+  pub opened : Opened bs
+  pub below : n < countIn bs
 
 -- ---- The calls that write a graph
 

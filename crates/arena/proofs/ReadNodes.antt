@@ -1,0 +1,95 @@
+-- What the fields of a node say of the graph that an arena holds, where questions 1 to 4 pass: `node-read`, `fields-read`, `path-length`;
+-- and of its local root: `root-found`, `root-held`. Assumes nothing.
+use mathlib.Core.Path.{_≡_, refl, ap, _∙_}
+use mathlib.Core.Bool.{Bool, true, false, not, _||_, cond}
+use mathlib.Core.List.{List, [], _∷_}
+use Prim.Native.Nat.{ℕ, zero, suc, _+_, _-_, _<_}
+use native.Mathlib.Omega.{arith}
+use lib.Dec.{eqb, ltb}
+use lib.ListN.{length, length-drop}
+use lib.Seq.{length-take-le}
+use borrow.Author.Tests.{eqb-true, ne-eqb, ltb-true}
+use Rattle.model.specs.Lists.{anyBelow}
+use Rattle.model.specs.Node.{Node}
+use Rattle.model.specs.Graph.{size, nodeAt, isLocalRoot}
+use Rattle.model.specs.Refusals.{ask, refusal}
+use Rattle.model.specs.Snapshot.{readRecord}
+use Rattle.model.specs.Calls.{readsNode}
+use Rattle.model.specs.Arena.{arenaBytes, slotAt, countIn, recordLengthIn, nodeIn, localRootBelow, localRootOf, localRootIn, decode, holdsGraph}
+use Rattle.model.specs.ArenaCalls.{isArena, Opened, Readable, askArena}
+use Rattle.arena.specs.Slot.{HasSlot, HasPath, parentIn}
+use Rattle.arena.proofs.SlotLaws.{rest-of-part, SameFields, same-fields}
+use Rattle.arena.proofs.HeldArenas.{Held, held}
+use Rattle.arena.proofs.ArenaBack.{size-decode, node-decode, parent-lower}
+
+pub sizes : (bs : List ℕ) → Opened bs → size (decode bs) ≡ countIn bs
+sizes bs o = size-decode bs (held bs (o .holds))
+
+-- where questions 1 to 4 pass, the node can be read
+pub readable : (bs : List ℕ) (n : ℕ) → refusal (askArena bs (readsNode (decode bs) n)) ≡ 0 → Readable bs n
+readable bs n e = go (isArena bs) refl (holdsGraph bs) refl (ltb 0 (size (decode bs))) (ltb n (size (decode bs))) refl e
+  where
+    go : (s : Bool) → isArena bs ≡ s → (h : Bool) → holdsGraph bs ≡ h → (z t : Bool) → ltb n (size (decode bs)) ≡ t
+        → refusal (ask 1 s ∷ ask 2 h ∷ ask 3 z ∷ ask 4 t ∷ []) ≡ 0 → Readable bs n
+    go true s true h true true t e =
+        let o : Opened bs = record { whole = eqb-true (length bs) arenaBytes s; holds = h } in
+        record { opened = o; below = omega (arith, ltb-true n (size (decode bs)) t, sizes bs o) }
+    go true s true h true false t e = absurd (omega arith)
+    go true s true h false t q e = absurd (omega arith)
+    go true s false h z t q e = absurd (omega arith)
+    go false s h q z t r e = absurd (omega arith)
+
+module _ (bs : List ℕ) (n : ℕ) (r : Readable bs n) where
+  pub all : Held bs
+  all = held bs (r .opened .holds)
+
+  pub has-slot : HasSlot bs n
+  has-slot = record { whole = r .opened .whole; within = omega (arith, all .few, r .below) }
+
+  pub has-path : HasPath bs n
+  has-path =
+      let node = all .node n (r .below) in
+      record { slot = has-slot; numbered = omega (arith, node .record-named); short = node .record-short }
+
+  pub node-read : nodeAt (decode bs .nodes) n ≡ nodeIn bs n
+  node-read = node-decode bs all n (r .below)
+
+  pub fields-read : SameFields bs n
+  fields-read = same-fields bs n (has-path .numbered)
+
+  pub path-length : recordLengthIn bs n ≡ 27 + length (nodeIn bs n .path)
+  unfolding readRecord
+  path-length =
+      let long = has-path .numbered in
+      let short = has-path .short in
+      let within = has-slot .within in
+      let rest : length (nodeIn bs n .path) ≡ recordLengthIn bs n - 27 =
+      ap length (rest-of-part (slotAt n + 19) (recordLengthIn bs n) 27 bs long)
+      ∙ length-take-le (recordLengthIn bs n - 27) _ (rw length-drop (omega (arith, r .opened .whole))) in
+      omega arith
+
+  pub parent-read : 0 < n → Readable bs (parentIn bs n)
+  parent-read h =
+      let lower = parent-lower bs all n h (r .below) in
+      record { opened = r .opened; below = omega (arith, r .below, fields-read .parent) }
+
+-- ---- The local root
+
+root-above : (ns : List Node) (k : ℕ) → isLocalRoot ns k ≡ true → k ≡ 0 → ⊥
+unfolding isLocalRoot
+root-above ns zero e z = let q : _≡_ {A = ℕ} 0 1 = cc in omega arith
+root-above ns (suc k) e z = omega arith
+
+-- there is one where its number is not 0
+pub root-found : (ns : List Node) (k : ℕ) → not (eqb (localRootBelow ns k) 0) ≡ anyBelow (isLocalRoot ns) k
+root-found ns zero = refl
+root-found ns (suc k) = go (isLocalRoot ns k) refl (root-found ns k)
+  where
+    go : (t : Bool) → isLocalRoot ns k ≡ t → not (eqb (localRootBelow ns k) 0) ≡ anyBelow (isLocalRoot ns) k
+        → not (eqb (cond t k (localRootBelow ns k)) 0) ≡ (t || anyBelow (isLocalRoot ns) k)
+    go true e below = rw (ne-eqb k 0 (root-above ns k e))
+    go false e below = below
+
+pub root-held : (bs : List ℕ) → Opened bs → 0 < countIn bs → localRootIn bs ≡ localRootOf (decode bs .nodes)
+unfolding decode
+root-held bs o h = held bs (o .holds) .local-root h

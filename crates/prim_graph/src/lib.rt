@@ -1,0 +1,52 @@
+// The public library: each call of document 01 on an arena that the caller lends (docs/LAYOUT.md), 327,744 bytes. No call has a `requires`: any bytes
+// may be lent, any numbers and paths given. Each puts its questions in document 01's order; the first whose answer is no is the refusal, and then
+// every lent byte is as it was. What a call answers and leaves is its one function of model/specs/Calls.antt, made a call on bytes by
+// model/specs/ArenaCalls.antt.
+// Starting and adding are in crates/adding, the calls that only read in crates/queries; here are the two that take or give a snapshot.
+pub use adding::Depth;
+pub use adding::NodeDesc;
+pub use adding::add_child;
+pub use adding::init_root;
+use model::Numbered;
+use model::Refusal;
+pub use queries::GraphInfo;
+pub use queries::GraphRead;
+pub use queries::NodeRead;
+pub use queries::count;
+pub use queries::depth_below_introduction;
+pub use queries::graph_info;
+pub use queries::node;
+pub use queries::node_using_site;
+pub use queries::path;
+pub use queries::path_at_introduction;
+ghost use Rattle.model.specs.ArenaCalls.{intoArena, Wrote};
+ghost use Rattle.model.specs.Calls.{readInto};
+ghost use Rattle.model.specs.Graph.{emptyGraph};
+ghost use Rattle.prim_graph.specs.Snapshots.{SnapshotWritten};
+
+// Reads a snapshot into the arena, whatever it held, and answers how many nodes it has: child lists in node order, not ordered, shallow found anew.
+// Refused 1, 12, then 4 to 7 record by record.
+pub fn read_snapshot(arena: &mut [u8], bytes: &[u8]) -> Numbered
+    ensures { λ r. ⌜ Wrote (intoArena (readInto (now (bytes .entry)) emptyGraph) (now (arena .entry))) (now (arena .entry)) r (now (arena .exit)) ⌝ }
+{
+    if arena.len() != 327744 {
+        return Numbered::Refused(Refusal::Size);
+    }
+    snapshot::read_snapshot(arena, bytes)
+}
+
+// Writes the graph as a snapshot to the front of `out`, which has 65,536 bytes, and answers how many it took. Refused 1 or 2.
+pub fn write_snapshot(arena: &[u8], out: &mut [u8]) -> Numbered
+    ensures { λ r. ⌜ SnapshotWritten (now (arena .entry)) (now (out .entry)) r (now (out .exit)) ⌝ }
+{
+    if arena.len() != 327744 {
+        return Numbered::Refused(Refusal::Size);
+    }
+    if out.len() != 65536 {
+        return Numbered::Refused(Refusal::Size);
+    }
+    if !validate::is_graph(arena) {
+        return Numbered::Refused(Refusal::NotAGraph);
+    }
+    Numbered::Number(snapshot::write_snapshot(arena, out))
+}

@@ -1,0 +1,117 @@
+-- What the fields of an arena that holds a graph say of it: of one node (`shown`, `depth-read`), of the header (`graph-shown`) and of all nodes one after
+-- the other (`lowest-starts`, `lowest-steps`, `lowest-ends`). Assumes nothing.
+use mathlib.Core.Path.{_≡_, refl, sym, ap, _∙_}
+use mathlib.Core.Bool.{Bool, true, false, not, cond}
+use mathlib.Core.List.{List}
+use Prim.Native.Nat.{ℕ, zero, suc, _+_, _-_, _≤_, _<_}
+use native.Mathlib.Omega.{arith}
+use native.Mathlib.Numerals.{add-one}
+use lib.Dec.{eqb}
+use lib.ListN.{length}
+use borrow.Author.Tests.{eq-eqb, ne-eqb, eqb-true, eqb-false}
+use Rattle.model.specs.Lists.{anyBelow}
+use Rattle.model.specs.Path.{primCount}
+use Rattle.model.specs.Node as model
+use Rattle.model.specs.Node.{invalid}
+use Rattle.model.specs.Graph.{nodeAt, isLocalRoot, depthBelowIntroduction, usesSite, siteFrom, nodeUsingSite}
+use Rattle.model.specs.Arena.{countIn, primCountIn, nodeIn, tabulate, localRootBelow, localRootOf, localRootIn, orderedIn, finalizedIn, shallowIn, decode}
+use Rattle.model.specs.ArenaCalls.{Opened, Readable}
+use Rattle.arena.specs.declared.Node.{Node}
+use Rattle.arena.specs.Slot.{Loaded, parentIn, depthIn}
+use Rattle.arena.proofs.SlotLaws.{loaded-node}
+use Rattle.arena.proofs.HeldArenas.{held, held-chain}
+use Rattle.arena.proofs.ArenaBack.{children-decode, next-decode}
+use Rattle.arena.proofs.ReadNodes.{sizes, all, has-path, node-read, fields-read, path-length, parent-read, root-found, root-held}
+use Rattle.queries.specs.declared.GraphInfo.{GraphInfo}
+use Rattle.queries.specs.Queries.{NodeShown, localRootOr, GraphShown}
+
+-- ---- One node
+
+pub shown : (bs : List ℕ) (n : ℕ) (r : Readable bs n) (x : Node) → Loaded bs n x → NodeShown (decode bs) n x
+shown bs n r x l =
+    let every = all bs n r in
+    let node = every .node n (r .below) in
+    let chain = held-chain bs every n (r .below) in
+    let children = children-decode bs every n (r .below) in
+    record {
+      fields = rw (node-read bs n r) (loaded-node bs n (has-path bs n r .numbered) x l);
+      «first-child» = rw children (l .«first_child» ∙ sym (chain .first));
+      «last-child» = rw children (l .«last_child» ∙ node .last-child);
+      «next-sibling» = l .«next_sibling» ∙ sym (next-decode bs every n (r .below));
+      «prim-count» = rw (node-read bs n r) (l .«prim_count» ∙ node .prim-count);
+      «record-length» = rw (node-read bs n r) (l .«record_length» ∙ path-length bs n r);
+    }
+
+-- the depth below introduction by the fields that are read
+pub depth-read : (bs : List ℕ) (n : ℕ) → Readable bs n → 0 < n
+    → depthBelowIntroduction (decode bs .nodes) n ≡ primCountIn bs (parentIn bs n) - depthIn bs n
+unfolding depthBelowIntroduction
+depth-read bs n r h =
+    let parent : nodeAt (decode bs .nodes) n .parent ≡ parentIn bs n = ap (λ (x : model.Node). x .parent) (node-read bs n r) ∙ fields-read bs n r .parent in
+    let depth : nodeAt (decode bs .nodes) n .depth ≡ depthIn bs n = ap (λ (x : model.Node). x .depth) (node-read bs n r) ∙ fields-read bs n r .depth in
+    let above = parent-read bs n r h in
+    let prims : primCount (nodeAt (decode bs .nodes) (parentIn bs n) .path) ≡ primCountIn bs (parentIn bs n) =
+    ap (λ (x : model.Node). primCount (x .path)) (node-read bs (parentIn bs n) above)
+    ∙ sym (held bs (r .opened .holds) .node (parentIn bs n) (above .below) .prim-count) in
+    rw (ne-eqb n 0 (λ z. omega arith), parent, depth, prims)
+
+pub depth-of-0 : (bs : List ℕ) (n : ℕ) → n ≡ 0 → depthBelowIntroduction (decode bs .nodes) n ≡ 0
+unfolding depthBelowIntroduction
+depth-of-0 bs n e = rw (eq-eqb n 0 e)
+
+-- ---- The header
+
+-- 0 is the number of no local root
+none-or-found : (ns : List model.Node) (k : ℕ)
+    → cond (eqb (localRootBelow ns k) 0) invalid (localRootBelow ns k) ≡ cond (anyBelow (isLocalRoot ns) k) (localRootBelow ns k) invalid
+none-or-found ns k = rw (sym (root-found ns k)) (turned (eqb (localRootBelow ns k) 0))
+  where
+    turned : (t : Bool) → cond t invalid (localRootBelow ns k) ≡ cond (not t) (localRootBelow ns k) invalid
+    turned true = refl
+    turned false = refl
+
+module _ (bs : List ℕ) (o : Opened bs) where
+  pub root-read : (root : ℕ) → root ≡ cond (eqb (countIn bs) 0) 0 (localRootIn bs) → cond (eqb root 0) invalid root ≡ localRootOr (decode bs)
+  root-read root e = go (eqb (countIn bs) 0) refl e
+    where
+      nodes : length (decode bs .nodes) ≡ countIn bs
+      nodes = sizes bs o
+
+      same : root ≡ localRootOf (decode bs .nodes) → cond (eqb root 0) invalid root ≡ localRootOr (decode bs)
+      same r = rw r (none-or-found (decode bs .nodes) (length (decode bs .nodes)))
+
+      go : (t : Bool) → eqb (countIn bs) 0 ≡ t → root ≡ cond t 0 (localRootIn bs) → cond (eqb root 0) invalid root ≡ localRootOr (decode bs)
+      go true c r =
+          let none : length (decode bs .nodes) ≡ 0 = nodes ∙ eqb-true (countIn bs) 0 c in
+          same (r ∙ sym (ap (localRootBelow (decode bs .nodes)) none))
+      go false c r = same (r ∙ root-held bs o (omega (arith, eqb-false (countIn bs) 0 c)))
+
+  pub graph-shown : (x : GraphInfo) → x .count ≡ countIn bs → x .ordered ≡ eqb (orderedIn bs) 1 → x .finalized ≡ eqb (finalizedIn bs) 1
+      → x .shallow ≡ eqb (shallowIn bs) 1 → x .«local_root» .0 ≡ localRootOr (decode bs) → GraphShown (decode bs) x
+  unfolding decode
+  graph-shown x count ordered finalized shallow root =
+      record { count = count ∙ sym (sizes bs o); ordered = ordered; finalized = finalized; shallow = shallow; «local-root» = root }
+
+-- ---- The nodes one after the other
+
+module _ (bs : List ℕ) (stack : ℕ) (path : List ℕ) where
+  -- the lowest node from n on that uses the site
+  abbrev pub lowestFrom : ℕ → ℕ
+  lowestFrom n = siteFrom n stack path (tabulate (nodeIn bs) n (countIn bs - n))
+
+  pub lowest-starts : lowestFrom 0 ≡ nodeUsingSite stack path (decode bs)
+  unfolding nodeUsingSite decode
+  lowest-starts =
+      let whole : countIn bs - 0 ≡ countIn bs = omega arith in
+      ap (λ (k : ℕ). siteFrom 0 stack path (tabulate (nodeIn bs) 0 k)) whole
+
+  pub lowest-steps : (n : ℕ) → n < countIn bs → lowestFrom n ≡ cond (usesSite stack path (nodeIn bs n)) n (lowestFrom (n + 1))
+  lowest-steps n h =
+      let more : countIn bs - n ≡ suc (countIn bs - (n + 1)) = omega arith in
+      ap (λ (k : ℕ). siteFrom n stack path (tabulate (nodeIn bs) n k)) more
+      ∙ ap (λ (m : ℕ). cond (usesSite stack path (nodeIn bs n)) n (siteFrom m stack path (tabulate (nodeIn bs) m (countIn bs - (n + 1))))) (sym (add-one n))
+
+  pub lowest-ends : (n : ℕ) → countIn bs ≤ n → lowestFrom n ≡ invalid
+  lowest-ends n h =
+      let none : countIn bs - n ≡ 0 = omega arith in
+      ap (λ (k : ℕ). siteFrom n stack path (tabulate (nodeIn bs) n k)) none

@@ -1,0 +1,4 @@
+-- The names that this crate's contracts cite.
+pub mod Reading
+pub mod Filling
+pub mod Writing

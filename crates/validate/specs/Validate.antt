@@ -1,0 +1,75 @@
+-- Question 2 of document 01, "Does the room hold a graph", as the tests that are put to an arena one after the other: its marks, its records from the
+-- first on, its child lists (crates/child_lists) and its order. proofs/HoldsTests.antt shows that together they are model/specs/Arena.antt's
+-- `holdsGraph`. A record is read by its fields, and put to what the records before it come to: how many bytes of paths, and which local root.
+use mathlib.Core.Bool.{Bool, not, _||_, _&&_, cond}
+use mathlib.Core.List.{List}
+use Prim.Native.Nat.{ℕ, zero, suc, _+_, _-_}
+use lib.Dec.{eqb, ltb, leb}
+use Rattle.model.specs.Lists.{count, allBelow}
+use Rattle.model.specs.Path.{primCount}
+use Rattle.model.specs.Node.{rootArc}
+use Rattle.model.specs.Refusals.{Question, refusal}
+use Rattle.model.specs.Arena.{countIn, orderedIn, shallowIn, localRootIn, orderEntryIn, primCountIn, recordLengthIn, nodeIn, tabulate, recordFits}
+use Rattle.arena.specs.Slot.{arcIn, flagsIn, parentIn, originIn, depthIn, hasSpecsIn}
+use Rattle.record_check.specs.RecordCheck.{questionsAt}
+
+-- ---- The marks, by their bytes
+
+unfoldable pub marksAt : ℕ → ℕ → ℕ → ℕ → Bool
+marksAt count ordered finalized shallow =
+    leb ordered 1
+    && (leb finalized 1
+    && (leb shallow 1
+    && ((eqb finalized 0 || (eqb ordered 1 && eqb shallow 0)) && (not (eqb count 0) || (eqb ordered 0 && eqb shallow 0)))))
+
+-- ---- The records
+
+-- the bytes of the paths below n
+abbrev pub pathBytesBelow : List ℕ → ℕ → ℕ
+pathBytesBelow bs zero = 0
+pathBytesBelow bs (suc n) = pathBytesBelow bs n + (recordLengthIn bs n - 27)
+
+-- the local root where node n comes after those that have the local root `root`; 0 for none
+abbrev pub rootWith : ℕ → ℕ → ℕ → ℕ
+rootWith n arc root = cond (ltb 0 n && eqb arc rootArc) n root
+
+abbrev pub rootBelow : List ℕ → ℕ → ℕ
+rootBelow bs zero = 0
+rootBelow bs (suc n) = rootWith n (arcIn bs n) (rootBelow bs n)
+
+abbrev pub questionsIn : List ℕ → ℕ → ℕ → ℕ → List Question
+questionsIn bs n pathBytes root =
+    questionsAt n pathBytes (not (eqb root 0)) (arcIn bs n) (flagsIn bs n) (parentIn bs n) (originIn bs n) (hasSpecsIn bs n) (nodeIn bs n .path)
+
+-- "shallow set where a parent is": node n's depth is at most the prim count of its parent, unless the arena is marked
+abbrev pub depthRight : List ℕ → ℕ → Bool
+depthRight bs n = eqb n 0 || (leb (depthIn bs n) (primCountIn bs (parentIn bs n)) || eqb (shallowIn bs) 1)
+
+-- the record of node n, after records with `pathBytes` bytes of paths and the local root `root`
+unfoldable pub recordRightAfter : List ℕ → ℕ → ℕ → ℕ → Bool
+recordRightAfter bs n pathBytes root =
+    recordFits bs n
+    && (eqb (refusal (questionsIn bs n pathBytes root)) 0 && (eqb (primCountIn bs n) (primCount (nodeIn bs n .path)) && depthRight bs n))
+
+abbrev pub recordRight : List ℕ → ℕ → Bool
+recordRight bs n = recordRightAfter bs n (pathBytesBelow bs n) (rootBelow bs n)
+
+-- each record is right, and the header has their local root
+unfoldable pub recordsRight : List ℕ → Bool
+recordsRight bs =
+    allBelow (recordRight bs) (countIn bs) && (eqb (countIn bs) 0 || eqb (localRootIn bs) (rootBelow bs (countIn bs)))
+
+-- ---- The order
+
+abbrev pub entriesIn : List ℕ → ℕ → List ℕ
+entriesIn bs k = tabulate (orderEntryIn bs) 0 k
+
+abbrev pub enteredOnce : List ℕ → ℕ → Bool
+enteredOnce bs n = eqb (count n (entriesIn bs (countIn bs))) 1
+
+-- "a marked order each node once"
+unfoldable pub entriesRight : List ℕ → Bool
+entriesRight bs = allBelow (enteredOnce bs) (countIn bs)
+
+unfoldable pub orderRight : List ℕ → Bool
+orderRight bs = eqb (orderedIn bs) 0 || entriesRight bs
