@@ -3,15 +3,15 @@
 use mathlib.Core.Path.{_≡_, refl, sym, ap, _∙_}
 use mathlib.Core.Bool.{Bool, true, false, not, _||_, _&&_, cond, and-eq-true-iff}
 use mathlib.Core.List.{List, [], _∷_}
-use Prim.Native.Nat.{ℕ, zero, suc, _+_, _-_, _≤_, _<_}
+use Prim.Native.Nat.{ℕ, suc, _+_, _-_, _≤_, _<_}
 use native.Mathlib.Omega.{arith}
 use native.Mathlib.Numerals.{add-one}
 use lib.Dec.{eqb, ltb, leb}
 use lib.ListN.{length}
-use borrow.Author.Tests.{eq-eqb, ne-eqb, eqb-true, eqb-false, lt-ltb, ltb-true, le-leb, leb-true, le-ltb}
+use borrow.Author.Tests.{eq-eqb, ne-eqb, eqb-false, lt-ltb, ltb-true, le-leb, le-ltb}
 use Rattle.model.specs.Path.{wellFormed, primCount}
 use Rattle.model.specs.Node as model
-use Rattle.model.specs.Node.{invalid, rootArc, culledFlag, hasFlag, isCulled}
+use Rattle.model.specs.Node.{invalid, rootArc, isCulled}
 use Rattle.model.specs.Graph.{Graph, size, nodeAt, hasLocalRoot, withNode}
 use Rattle.model.specs.Refusals.{refusalNumber, Question, ask, refusal, pathBytes, hasRoom, arcAllowed, linksAllowed, recordQuestions}
 use Rattle.model.specs.Calls as calls

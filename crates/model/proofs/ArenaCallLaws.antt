@@ -1,18 +1,17 @@
 -- What questions 1 and 2 leave of a call's questions, and the answers that are right: one law for each way a call can end, whatever its questions are.
 -- Assumes nothing.
 use mathlib.Core.Path.{_≡_, refl, sym, ap, _∙_}
-use mathlib.Core.Bool.{Bool, true, false, cond}
+use mathlib.Core.Bool.{Bool, true, false}
 use mathlib.Core.List.{List, [], _∷_}
 use Prim.Native.Nat.{ℕ, zero, suc}
 use native.Mathlib.Omega.{arith}
-use lib.Dec.{eqb}
 use lib.ListN.{length}
 use borrow.Author.Tests.{eq-eqb, ne-eqb, eqb-true}
-use Rattle.model.specs.Graph.{Graph, emptyGraph}
+use Rattle.model.specs.Graph.{Graph}
 use Rattle.model.specs.Refusals.{refusalNumber, Question, ask, refusal}
 use Rattle.model.specs.Calls.{Outcome, unchanged, settled, decided}
 use Rattle.model.specs.Arena.{arenaBytes, decode, encode, holdsGraph}
-use Rattle.model.specs.ArenaCalls.{isArena, Opened, onArena, intoArena, left, Wrote, askArena, valueUnless, Answered}
+use Rattle.model.specs.ArenaCalls.{isArena, Opened, onArena, Wrote, askArena, valueUnless, Answered}
 use Rattle.model.specs.declared.Refusal.{Refusal}
 use Rattle.model.specs.declared.Refusal.the-variants.{Size, NotAGraph, NodeZero, Node as NodeNumber, Path, Kind, Capacity, NotSiblings, NoOrder, NotOrdered, EraseSet, Snapshot}
 use Rattle.model.specs.declared.Numbered.{Numbered}

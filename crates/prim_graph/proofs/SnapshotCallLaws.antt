@@ -1,17 +1,15 @@
 -- The ways that the two calls on snapshots end: `read-not-arena`, `read-into`, and those of writing. Assumes nothing.
-use mathlib.Core.Path.{_≡_, refl}
-use mathlib.Core.Bool.{Bool, true, false, _&&_, cond}
+use mathlib.Core.Path.{_≡_}
+use mathlib.Core.Bool.{true, false}
 use mathlib.Core.List.{List}
 use Prim.Native.Nat.{ℕ}
-use lib.Dec.{eqb}
 use lib.ListN.{length}
 use borrow.Author.Tests.{eq-eqb, ne-eqb}
 use Rattle.model.specs.Bytes.{stored}
 use Rattle.model.specs.Snapshot.{writeSnapshot}
-use Rattle.model.specs.Refusals.{refusal}
 use Rattle.model.specs.Calls.{Outcome}
 use Rattle.model.specs.Arena.{arenaBytes, decode, holdsGraph}
-use Rattle.model.specs.ArenaCalls.{isArena, intoArena, Wrote}
+use Rattle.model.specs.ArenaCalls.{intoArena, Wrote}
 use Rattle.model.specs.declared.Refusal.the-variants.{Size, NotAGraph}
 use Rattle.model.specs.declared.Numbered.{Numbered}
 use Rattle.model.specs.declared.Numbered.the-variants.{Number, Refused}

@@ -1,9 +1,6 @@
 -- `added_record` meets its contract: what was missing is put in. Assumes nothing.
 use borrow.Author.Needs.{needs}
-use mathlib.Core.Path.{_≡_, ap, _∙_}
-use Prim.Native.Nat.{ℕ, _+_}
-use Rattle.model.specs.declared.NodeId.{NodeId}
-use Rattle.arena.specs.declared.Node.{Node}
+use mathlib.Core.Path.{ap, _∙_}
 use Rattle.adding.specs.Adding.{numberOr, depthGiven, addedRecord}
 use Rattle.adding.proofs.describing.added_record.Statement.{statement}
 use Rattle.adding.proofs.describing.added_record.Tie as tie

@@ -3,7 +3,7 @@
 use borrow.Author.Needs.{needs}
 use native.Mathlib.Omega.{arith}
 use Prim.Native.Nat.{_+_, _-_, _≤_}
-use mathlib.Core.Path.{_≡_, _∙_}
+use mathlib.Core.Path.{_≡_}
 use Rattle.model.specs.Arena.{decode}
 use Rattle.model.specs.Refusals.{pathBytes}
 use Rattle.model.specs.ArenaCalls.{Readable}

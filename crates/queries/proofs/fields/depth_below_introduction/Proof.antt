@@ -1,6 +1,6 @@
 -- `depth_below_introduction` meets its contract. Assumes nothing.
 use borrow.Author.Needs.{needs}
-use mathlib.Core.Path.{sym, _∙_}
+use mathlib.Core.Path.{sym}
 use Rattle.model.specs.ArenaCalls.{Readable}
 use Rattle.model.proofs.ArenaCallLaws.{answered-refused, answered-number}
 use Rattle.arena.proofs.ReadNodes.{readable}

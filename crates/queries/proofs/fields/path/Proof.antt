@@ -1,6 +1,6 @@
 -- `path` meets its contract. Assumes nothing.
 use borrow.Author.Needs.{needs}
-use mathlib.Core.Path.{_≡_, sym, ap, _∙_}
+use mathlib.Core.Path.{sym, ap, _∙_}
 use Rattle.model.specs.Graph.{nodeAt}
 use Rattle.model.specs.Arena.{decode}
 use Rattle.model.specs.ArenaCalls.{askArena}

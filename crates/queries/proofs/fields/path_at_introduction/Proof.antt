@@ -1,7 +1,6 @@
 -- `path_at_introduction` meets its contract: the front part of the node's path. Assumes nothing.
 use borrow.Author.Needs.{needs}
-use mathlib.Core.Path.{_≡_, sym, ap, _∙_}
-use mathlib.Core.List.{List}
+use mathlib.Core.Path.{sym, ap, _∙_}
 use Prim.Native.Nat.{ℕ}
 use Rattle.model.specs.Path.{pathAtIntroDepth}
 use Rattle.model.specs.Node.{Node}

@@ -1,9 +1,6 @@
 -- `contributes` meets its contract: a number divided by 1 is itself. Assumes nothing.
-use mathlib.Core.Path.{_≡_, sym, ap, _∙_}
-use mathlib.Core.Bool.{Bool, not, _||_}
-use Prim.Native.Nat.{ℕ, _/_, _%_}
+use Prim.Native.Nat.{_/_, _%_}
 use native.Mathlib.Omega.{arith}
-use lib.Dec.{eqb}
 use borrow.Author.Tests.{eq-eqb, ne-eqb}
 use Rattle.queries.proofs.sites.contributes.Statement.{statement}
 use Rattle.queries.proofs.sites.contributes.Tie as tie

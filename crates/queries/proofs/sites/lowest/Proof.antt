@@ -3,8 +3,8 @@
 use borrow.Author.Needs.{needs}
 use native.Mathlib.Omega.{arith}
 use Prim.Native.Nat.{_-_, _≤_}
-use mathlib.Core.Path.{_≡_, sym, ap, _∙_}
-use Rattle.model.specs.Arena.{countIn, decode}
+use mathlib.Core.Path.{_≡_, sym, _∙_}
+use Rattle.model.specs.Arena.{decode}
 use Rattle.model.specs.Graph.{nodeUsingSite}
 use Rattle.queries.proofs.ReadableLaws.{lowestFrom, lowest-starts, lowest-steps, lowest-ends}
 use Rattle.queries.proofs.sites.lowest.Statement.{statement}

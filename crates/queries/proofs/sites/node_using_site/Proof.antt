@@ -1,6 +1,6 @@
 -- `node_using_site` meets its contract: where the arena holds a graph, questions 3 and 5 are left. Assumes nothing.
 use borrow.Author.Needs.{needs}
-use mathlib.Core.Path.{_≡_, sym, _∙_}
+use mathlib.Core.Path.{_≡_}
 use Rattle.model.specs.Arena.{countIn, decode}
 use Rattle.model.specs.Calls.{usesSite}
 use Rattle.model.specs.ArenaCalls.{Opened}
