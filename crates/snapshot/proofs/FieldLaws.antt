@@ -16,33 +16,35 @@ use Rattle.model.specs.Snapshot.{value, field, readRecord, fitsRecord, before, 
 use Rattle.model.specs.declared.Numbered.the-variants.{Number, Refused}
 use Rattle.model.specs.declared.Refusal.the-variants.{Snapshot}
 use Rattle.model.proofs.SnapshotLaws.{and-first, and-second}
-use Rattle.snapshot.specs.declared.fields.Field.the-variants.{Value, Missing}
-use Rattle.snapshot.specs.Reading.{pickField, fieldAt, lengthAt, countedAs, RecordAt}
+use Rattle.snapshot.specs.Reading.{fieldAt, lengthAt, countedAs, RecordAt}
 
 -- ---- One field
 
-picked : (t : Bool) (n v : ℕ) → pickField t n ≡ Value v → (t ≡ true) × (v ≡ n)
+picked : (t : Bool) (n v : ℕ) → cond t (some n) none ≡ some v → (t ≡ true) × (v ≡ n)
 picked true n v e = (refl, cc)
 picked false n v e = let z : _≡_ {A = ℕ} 0 1 = cc in absurd (omega arith)
 
-not-picked : (t : Bool) (n : ℕ) → pickField t n ≡ Missing → t ≡ false
+not-picked : (t : Bool) (n : ℕ) → cond t (some n) none ≡ none → t ≡ false
 not-picked true n e = let z : _≡_ {A = ℕ} 0 1 = cc in absurd (omega arith)
 not-picked false n e = refl
 
 module _ (at w : ℕ) (bytes : List ℕ) where
-  pub field-there : at + w ≤ length bytes → Value (field at w bytes) ≡ fieldAt at w bytes
+  pub field-there : at + w ≤ length bytes → some (field at w bytes) ≡ fieldAt at w bytes
   field-there h = rw (le-leb (at + w) (length bytes) h)
 
-  pub field-missing : length bytes < at + w → Missing ≡ fieldAt at w bytes
+  pub field-missing : length bytes < at + w → none ≡ fieldAt at w bytes
   field-missing h = rw (lt-leb (at + w) (length bytes) h)
 
-  pub taken : (v : ℕ) → fieldAt at w bytes ≡ Value v → (at + w ≤ length bytes) × (v ≡ field at w bytes)
+  pub taken : (v : ℕ) → fieldAt at w bytes ≡ some v → (at + w ≤ length bytes) × (v ≡ field at w bytes)
   taken v e =
       let both = picked (leb (at + w) (length bytes)) (field at w bytes) v e in
       (leb-true (at + w) (length bytes) (both .0), both .1)
 
-  pub not-taken : fieldAt at w bytes ≡ Missing → length bytes < at + w
+  pub not-taken : fieldAt at w bytes ≡ none → length bytes < at + w
   not-taken e = leb-false (at + w) (length bytes) (not-picked (leb (at + w) (length bytes)) (field at w bytes) e)
+
+  pub never-missing : at + w ≤ length bytes → fieldAt at w bytes ≡ none → ⊥
+  never-missing h e = omega (arith, not-taken e)
 
 field-drop : (at a w : ℕ) (bytes : List ℕ) → field a w (drop at bytes) ≡ field (at + a) w bytes
 field-drop at a w bytes = ap (λ (l : List ℕ). value (take w l)) (drop-drop a at bytes)
@@ -76,17 +78,17 @@ module _ (at : ℕ) (bytes : List ℕ) (h : at ≤ length bytes) where
         within = omega (arith, rest-length, leb-true (2 + field at 2 bytes) (length (drop at bytes)) (search (and-first, and-second)));
       }
 
-  pub length-there : RecordAt bytes at → Value (field at 2 bytes) ≡ lengthAt at bytes
+  pub length-there : RecordAt bytes at → some (field at 2 bytes) ≡ lengthAt at bytes
   length-there fits = rw (fits-record fits)
 
-  pub length-missing : (RecordAt bytes at → ⊥) → Missing ≡ lengthAt at bytes
+  pub length-missing : (RecordAt bytes at → ⊥) → none ≡ lengthAt at bytes
   length-missing no-fit = go (fitsRecord (drop at bytes)) refl
     where
-      go : (t : Bool) → fitsRecord (drop at bytes) ≡ t → Missing ≡ pickField t (field at 2 bytes)
+      go : (t : Bool) → fitsRecord (drop at bytes) ≡ t → none ≡ cond t (some (field at 2 bytes)) none
       go true e = absurd (no-fit (fits-at e))
       go false e = refl
 
-  pub length-taken : (v : ℕ) → lengthAt at bytes ≡ Value v → RecordAt bytes at × (v ≡ field at 2 bytes)
+  pub length-taken : (v : ℕ) → lengthAt at bytes ≡ some v → RecordAt bytes at × (v ≡ field at 2 bytes)
   length-taken v e =
       let both = picked (fitsRecord (drop at bytes)) (field at 2 bytes) v e in
       (fits-at (both .0), both .1)
@@ -201,7 +203,7 @@ module _ (bytes : List ℕ) (count at left : ℕ) (asked : Asked bytes count at 
               ∙ ap (λ (m : ℕ). drop (2 + m) (drop at bytes)) (sym (length-here at bytes (asked .within)))
 
   -- a record that does not fit
-  pub asked-missing : 0 < left → lengthAt at bytes ≡ Missing → Refused Snapshot ≡ countedAs (readRecords count (drop 7 bytes))
+  pub asked-missing : 0 < left → lengthAt at bytes ≡ none → Refused Snapshot ≡ countedAs (readRecords count (drop 7 bytes))
   unfolding readRecords
   asked-missing some-left e = failed-refused (readRecords count (drop 7 bytes)) (sym (asked .same) ∙ go left some-left)
     where

@@ -10,7 +10,7 @@ use lib.Seq.{take-all}
 use Rattle.model.specs.Path.{primCount}
 use Rattle.model.specs.Node as model
 use Rattle.model.specs.Graph.{Graph, emptyGraph, nodeAt, withNode}
-use Rattle.model.specs.Snapshot.{readRecord}
+use Rattle.model.specs.Snapshot.{field, readRecord}
 use Rattle.model.specs.Refusals.{refusal, recordQuestions}
 use Rattle.model.specs.Calls.{Outcome, readInto}
 use Rattle.model.specs.Arena.{arenaBytes, countIn, headerBytes, decode, encode, holdsGraph}
@@ -28,11 +28,42 @@ use Rattle.append.specs.Append.{CanAppend}
 use Rattle.append.proofs.AppendEncodable.{append-encodable}
 use Rattle.append.proofs.EncodeOver.{header-covered, absorbed, added-unordered, encode-next}
 use Rattle.snapshot.specs.Reading.{nodesOr, nodesRead, Exact}
-use Rattle.snapshot.specs.Filling.{NodeRead, CanAppendRecord}
+use Rattle.snapshot.specs.declared.fill.Ids.the-variants as Ids
+use Rattle.snapshot.specs.declared.fill.Tail.the-variants as Tail
+use Rattle.snapshot.specs.Filling.{idsOf, tailOf, NodeRead, CanAppendRecord}
 use Rattle.snapshot.proofs.RecordLaws.{recordPart, Reached, reached-none, node-lent, piece-long, reached-more}
 use Rattle.snapshot.proofs.CheckLaws.{built-more, built-sized}
 
 -- ---- A record's node
+
+-- no number is missing
+module _ (body : List ℕ) where
+  pub ids-there : idsOf body ≡ Ids.Missing → ⊥
+  ids-there e = let z : _≡_ {A = ℕ} 0 1 = cc in omega arith
+
+  pub tail-there : tailOf body ≡ Tail.Missing → ⊥
+  tail-there e = let z : _≡_ {A = ℕ} 0 1 = cc in omega arith
+
+-- and those taken are the record's
+pub numbers-read : (body : List ℕ) (x : Node) → x .«record_length» ≡ length body → x .arc ≡ field 0 1 body → x .flags ≡ field 1 1 body
+    → Ids.Values (x .stack) (x .layer) (x .parent .0) (x .origin .0) ≡ idsOf body
+    → Tail.Values (x .depth) (x .sibling) (x .restriction) (x .«spec_from») (x .«has_specs») ≡ tailOf body
+    → NodeRead body (x .«prim_count») x
+numbers-read body x long a f ids tail = record {
+  «prim_count» = refl;
+  «record_length» = long;
+  arc = a;
+  flags = f;
+  stack = cc;
+  layer = cc;
+  parent = cc;
+  origin = cc;
+  depth = cc;
+  sibling = cc;
+  restriction = cc;
+  «spec_from» = cc;
+  «has_specs» = cc;
+}
 
 node-read : (body : List ℕ) (prims : ℕ) (x : Node) → NodeRead body prims x → nodeOf x (drop 27 body) ≡ readRecord body
 unfolding readRecord

@@ -11,7 +11,20 @@ use Rattle.model.specs.Refusals.{refusal, recordQuestions}
 use Rattle.model.specs.Calls.{readInto}
 use Rattle.model.specs.Arena.{arenaBytes, countIn, decode, holdsGraph}
 use Rattle.arena.specs.declared.Node.{Node}
+use Rattle.snapshot.specs.declared.fill.Ids.{Ids}
+use Rattle.snapshot.specs.declared.fill.Ids.the-variants as Ids
+use Rattle.snapshot.specs.declared.fill.Tail.{Tail}
+use Rattle.snapshot.specs.declared.fill.Tail.the-variants as Tail
+use Rattle.snapshot.specs.declared.fill.Taken.{Taken}
+use Rattle.snapshot.specs.declared.fill.Taken.the-variants as Taken
 use Rattle.snapshot.specs.Reading.{nodesRead, Exact, Named}
+
+-- the numbers between the flags and the path, all of them there
+abbrev pub idsOf : List ℕ → Ids
+idsOf body = Ids.Values (field 2 4 body) (field 6 4 body) (field 10 4 body) (field 14 4 body)
+
+abbrev pub tailOf : List ℕ → Tail
+tailOf body = Tail.Values (field 18 2 body) (field 20 2 body) (field 22 2 body) (field 24 2 body) (field 26 1 body)
 
 -- x has the prim count, the record's length and its numbers
 pub record NodeRead (body : List ℕ) (prims : ℕ) (x : Node) : Type 0 where
@@ -28,6 +41,11 @@ pub record NodeRead (body : List ℕ) (prims : ℕ) (x : Node) : Type 0 where
   pub restriction : x .restriction ≡ field 22 2 body
   pub «spec_from» : x .«spec_from» ≡ field 24 2 body
   pub «has_specs» : x .«has_specs» ≡ field 26 1 body
+
+-- no field was missing
+abbrev pub NodeTaken : List ℕ → ℕ → Taken → Type 0
+NodeTaken body prims (Taken.Node x) = NodeRead body prims x
+NodeTaken body prims Taken.Missing = ⊥
 
 -- the arena holds n nodes, and the record passes the questions after them
 pub record CanAppendRecord (arena : List ℕ) (n : ℕ) (body : List ℕ) (prims : ℕ) : Type 0 where

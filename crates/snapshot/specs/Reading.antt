@@ -1,7 +1,7 @@
 -- What the passes of the reader promise each other: a field or that it is missing; question 12 over all of the bytes; the nodes of bytes that pass it;
 -- and the questions of the records. What reading comes to in the end is model/specs/Calls.antt's `readInto`.
 use mathlib.Core.Path.{_≡_}
-use mathlib.Core.Bool.{Bool, true, false}
+use mathlib.Core.Bool.{Bool, cond}
 use mathlib.Core.Option.{Option, none, some}
 use mathlib.Core.List.{List, []}
 use Prim.Native.Nat.{ℕ, _+_, _≤_, _<_}
@@ -19,22 +19,35 @@ use Rattle.model.specs.declared.Numbered.{Numbered}
 use Rattle.model.specs.declared.Numbered.the-variants.{Number, Refused}
 use Rattle.model.specs.declared.Refusal.the-variants.{Snapshot}
 use Rattle.record_check.specs.RecordCheck.{questionsAt}
+use Rattle.snapshot.specs.declared.fields.Byte.{Byte}
+use Rattle.snapshot.specs.declared.fields.Byte.the-variants.{Value as ByteValue, Missing as ByteMissing}
+use Rattle.snapshot.specs.declared.fields.Short.{Short}
+use Rattle.snapshot.specs.declared.fields.Short.the-variants.{Value as ShortValue, Missing as ShortMissing}
 use Rattle.snapshot.specs.declared.fields.Field.{Field}
-use Rattle.snapshot.specs.declared.fields.Field.the-variants.{Value, Missing}
+use Rattle.snapshot.specs.declared.fields.Field.the-variants.{Value as FieldValue, Missing as FieldMissing}
 
 -- ---- Fields: "The reader takes each field or stops at the first that is missing"
 
-abbrev pub pickField : Bool → ℕ → Field
-pickField true n = Value n
-pickField false n = Missing
+-- the value of each answer
+abbrev pub byteValue : Byte → Option ℕ
+byteValue (ByteValue n) = some n
+byteValue ByteMissing = none
+
+abbrev pub shortValue : Short → Option ℕ
+shortValue (ShortValue n) = some n
+shortValue ShortMissing = none
+
+abbrev pub fieldValue : Field → Option ℕ
+fieldValue (FieldValue n) = some n
+fieldValue FieldMissing = none
 
 -- w bytes from `at` on
-abbrev pub fieldAt : ℕ → ℕ → List ℕ → Field
-fieldAt at w bytes = pickField (leb (at + w) (length bytes)) (field at w bytes)
+abbrev pub fieldAt : ℕ → ℕ → List ℕ → Option ℕ
+fieldAt at w bytes = cond (leb (at + w) (length bytes)) (some (field at w bytes)) none
 
 -- "2 bytes with the length of the rest of its record (28 to 282, else question 12 fails)"
-abbrev pub lengthAt : ℕ → List ℕ → Field
-lengthAt at bytes = pickField (fitsRecord (drop at bytes)) (field at 2 bytes)
+abbrev pub lengthAt : ℕ → List ℕ → Option ℕ
+lengthAt at bytes = cond (fitsRecord (drop at bytes)) (some (field at 2 bytes)) none
 
 -- ---- Question 12
 

@@ -1,6 +1,8 @@
 // The reader's first two passes: question 12 over all of the bytes, and questions 4 to 7 record by record. They write nothing.
 use crate::fields;
+use crate::fields::Byte;
 use crate::fields::Field;
+use crate::fields::Short;
 use model::Finished;
 use model::Numbered;
 use model::Refusal;
@@ -22,7 +24,7 @@ fn check_record_lengths(bytes: &[u8], count: u32) -> Numbered
     let mut at: usize = 7;
     let mut left = count;
     while 0 < left {
-        let Field::Value(length) = fields::take_length(bytes, at) else {
+        let Short::Value(length) = fields::take_length(bytes, at) else {
             return Numbered::Refused(Refusal::Snapshot);
         };
         at += 2 + (length as usize);
@@ -44,16 +46,16 @@ pub(crate) fn check_lengths(bytes: &[u8]) -> Numbered
     if 4 + (following as usize) != bytes.len() {
         return Numbered::Refused(Refusal::Snapshot);
     }
-    let Field::Value(version) = fields::take_u8(bytes, 4) else {
+    let Byte::Value(version) = fields::take_u8(bytes, 4) else {
         return Numbered::Refused(Refusal::Snapshot);
     };
     if version != 1 {
         return Numbered::Refused(Refusal::Snapshot);
     }
-    let Field::Value(count) = fields::take_u16(bytes, 5) else {
+    let Short::Value(count) = fields::take_u16(bytes, 5) else {
         return Numbered::Refused(Refusal::Snapshot);
     };
-    check_record_lengths(bytes, count)
+    check_record_lengths(bytes, count as u32)
 }
 
 // The record at `at`, behind its length.
@@ -79,22 +81,36 @@ fn with_root(has_root: bool, n: u32, arc: u8) -> bool
     has_root
 }
 
-// Questions 4 to 7 of a record, where n nodes with `path_bytes` bytes of paths come before it.
+// Questions 4 to 7 of a record, where n nodes with `path_bytes` bytes of paths come before it. A field that is missing, which none is, refuses 12.
 fn check_one(body: &[u8], n: u32, path_bytes: u32, has_root: bool) -> Checked
     requires { ⌜ (28 ≤ length (now body)) × («path_bytes» ≤ 32768) ⌝ }
     ensures { λ r. ⌜ RecordChecked (questionsOf n «path_bytes» «has_root» (readRecord (now (body .entry)))) (readRecord (now (body .entry)) .path) r ⌝ }
 {
-    let path = &body[27..];
+    let Byte::Value(arc) = fields::take_u8(body, 0) else {
+        return Checked::Refused(Refusal::Snapshot);
+    };
+    let Byte::Value(flags) = fields::take_u8(body, 1) else {
+        return Checked::Refused(Refusal::Snapshot);
+    };
+    let Field::Value(parent) = fields::take_u32(body, 10) else {
+        return Checked::Refused(Refusal::Snapshot);
+    };
+    let Field::Value(origin) = fields::take_u32(body, 14) else {
+        return Checked::Refused(Refusal::Snapshot);
+    };
+    let Byte::Value(has_specs) = fields::take_u8(body, 26) else {
+        return Checked::Refused(Refusal::Snapshot);
+    };
     record_check::check_record(
         n,
         path_bytes,
         has_root,
-        big_endian::read_u8(body, 0),
-        big_endian::read_u8(body, 1),
-        big_endian::read_u32(body, 10),
-        big_endian::read_u32(body, 14),
-        big_endian::read_u8(body, 26),
-        path,
+        arc,
+        flags,
+        parent,
+        origin,
+        has_specs,
+        &body[27..],
     )
 }
 

@@ -1,41 +1,53 @@
-// The fields of a snapshot that tell how long it is. Each read answers an enum: the field, or that it is missing.
+// The fields of a snapshot, by their width. Each read answers an enum: the field, or that the bytes end before it does.
 ghost use mathlib.Core.Path.{_≡_};
 ghost use Prim.Native.Nat.{_≤_};
 ghost use lib.ListN.{length};
-ghost use Rattle.snapshot.specs.Reading.{fieldAt, lengthAt};
+ghost use Rattle.snapshot.specs.Reading.{byteValue, shortValue, fieldValue, fieldAt, lengthAt};
 
-// A field, or that the bytes end before it does.
+// A field of one byte.
+pub(crate) enum Byte {
+    Value(u8),
+    Missing,
+}
+
+// A field of two bytes.
+pub(crate) enum Short {
+    Value(u16),
+    Missing,
+}
+
+// A field of four bytes.
 pub(crate) enum Field {
     Value(u32),
     Missing,
 }
 
 // The byte at `at`.
-pub(crate) fn take_u8(bytes: &[u8], at: usize) -> Field
+pub(crate) fn take_u8(bytes: &[u8], at: usize) -> Byte
     requires { ⌜ at ≤ length (now bytes) ⌝ }
-    ensures { λ r. ⌜ r ≡ fieldAt at 1 (now (bytes .entry)) ⌝ }
+    ensures { λ r. ⌜ byteValue r ≡ fieldAt at 1 (now (bytes .entry)) ⌝ }
 {
     if bytes.len() - at < 1 {
-        return Field::Missing;
+        return Byte::Missing;
     }
-    Field::Value(big_endian::read_u8(bytes, at) as u32)
+    Byte::Value(big_endian::read_u8(bytes, at))
 }
 
 // The number in the two bytes from `at` on.
-pub(crate) fn take_u16(bytes: &[u8], at: usize) -> Field
+pub(crate) fn take_u16(bytes: &[u8], at: usize) -> Short
     requires { ⌜ at ≤ length (now bytes) ⌝ }
-    ensures { λ r. ⌜ r ≡ fieldAt at 2 (now (bytes .entry)) ⌝ }
+    ensures { λ r. ⌜ shortValue r ≡ fieldAt at 2 (now (bytes .entry)) ⌝ }
 {
     if bytes.len() - at < 2 {
-        return Field::Missing;
+        return Short::Missing;
     }
-    Field::Value(big_endian::read_u16(bytes, at) as u32)
+    Short::Value(big_endian::read_u16(bytes, at))
 }
 
 // The number in the four bytes from `at` on.
 pub(crate) fn take_u32(bytes: &[u8], at: usize) -> Field
     requires { ⌜ at ≤ length (now bytes) ⌝ }
-    ensures { λ r. ⌜ r ≡ fieldAt at 4 (now (bytes .entry)) ⌝ }
+    ensures { λ r. ⌜ fieldValue r ≡ fieldAt at 4 (now (bytes .entry)) ⌝ }
 {
     if bytes.len() - at < 4 {
         return Field::Missing;
@@ -44,21 +56,21 @@ pub(crate) fn take_u32(bytes: &[u8], at: usize) -> Field
 }
 
 // The length of the record at `at`, 28 to 282, with all of that record behind it.
-pub(crate) fn take_length(bytes: &[u8], at: usize) -> Field
+pub(crate) fn take_length(bytes: &[u8], at: usize) -> Short
     requires { ⌜ at ≤ length (now bytes) ⌝ }
-    ensures { λ r. ⌜ r ≡ lengthAt at (now (bytes .entry)) ⌝ }
+    ensures { λ r. ⌜ shortValue r ≡ lengthAt at (now (bytes .entry)) ⌝ }
 {
-    let Field::Value(length) = take_u16(bytes, at) else {
-        return Field::Missing;
+    let Short::Value(length) = take_u16(bytes, at) else {
+        return Short::Missing;
     };
     if length < 28 {
-        return Field::Missing;
+        return Short::Missing;
     }
     if 282 < length {
-        return Field::Missing;
+        return Short::Missing;
     }
     if bytes.len() - at < 2 + (length as usize) {
-        return Field::Missing;
+        return Short::Missing;
     }
-    Field::Value(length)
+    Short::Value(length)
 }

@@ -1,4 +1,8 @@
 // The reader's last pass: an arena is filled with the nodes of a snapshot that passed every question. It decides nothing.
+use crate::fields;
+use crate::fields::Byte;
+use crate::fields::Field;
+use crate::fields::Short;
 use arena::Node;
 use model::NodeId;
 ghost use mathlib.Core.Path.{_≡_};
@@ -8,39 +12,114 @@ ghost use Rattle.model.specs.Graph.{emptyGraph, withNode};
 ghost use Rattle.model.specs.Snapshot.{readRecord};
 ghost use Rattle.model.specs.Arena.{arenaBytes, decode, encode};
 ghost use Rattle.model.specs.Calls.{readInto};
-ghost use Rattle.snapshot.specs.Filling.{NodeRead, CanAppendRecord, CanFill};
+ghost use Rattle.snapshot.specs.Filling.{idsOf, tailOf, NodeTaken, CanAppendRecord, CanFill};
+
+// The stack, layer, parent and origin of a record, or that one is missing.
+enum Ids {
+    Values(u32, u32, u32, u32),
+    Missing,
+}
+
+// The depth, sibling number, restriction, spec_from and has-specs of a record, or that one is missing.
+enum Tail {
+    Values(u16, u16, u16, u16, u8),
+    Missing,
+}
+
+// A record's node, or that one of its fields is missing.
+enum Taken {
+    Node(Node),
+    Missing,
+}
+
+// The fields from byte 2 on, none of them missing.
+fn take_ids(body: &[u8]) -> Ids
+    requires { ⌜ 27 ≤ length (now body) ⌝ }
+    ensures { λ r. ⌜ r ≡ idsOf (now (body .entry)) ⌝ }
+{
+    let Field::Value(stack) = fields::take_u32(body, 2) else {
+        return Ids::Missing;
+    };
+    let Field::Value(layer) = fields::take_u32(body, 6) else {
+        return Ids::Missing;
+    };
+    let Field::Value(parent) = fields::take_u32(body, 10) else {
+        return Ids::Missing;
+    };
+    let Field::Value(origin) = fields::take_u32(body, 14) else {
+        return Ids::Missing;
+    };
+    Ids::Values(stack, layer, parent, origin)
+}
+
+// The fields from byte 18 on, none of them missing.
+fn take_tail(body: &[u8]) -> Tail
+    requires { ⌜ 27 ≤ length (now body) ⌝ }
+    ensures { λ r. ⌜ r ≡ tailOf (now (body .entry)) ⌝ }
+{
+    let Short::Value(depth) = fields::take_u16(body, 18) else {
+        return Tail::Missing;
+    };
+    let Short::Value(sibling) = fields::take_u16(body, 20) else {
+        return Tail::Missing;
+    };
+    let Short::Value(restriction) = fields::take_u16(body, 22) else {
+        return Tail::Missing;
+    };
+    let Short::Value(spec_from) = fields::take_u16(body, 24) else {
+        return Tail::Missing;
+    };
+    let Byte::Value(has_specs) = fields::take_u8(body, 26) else {
+        return Tail::Missing;
+    };
+    Tail::Values(depth, sibling, restriction, spec_from, has_specs)
+}
 
 // The node of a record, with the prim count of its path and no links.
-fn read_node(body: &[u8], prim_count: u8) -> Node
+fn read_node(body: &[u8], prim_count: u8) -> Taken
     requires { ⌜ (27 ≤ length (now body)) × (length (now body) ≤ 282) ⌝ }
-    ensures { λ r. ⌜ NodeRead (now (body .entry)) «prim_count» r ⌝ }
+    ensures { λ r. ⌜ NodeTaken (now (body .entry)) «prim_count» r ⌝ }
 {
-    Node {
+    let Byte::Value(arc) = fields::take_u8(body, 0) else {
+        return Taken::Missing;
+    };
+    let Byte::Value(flags) = fields::take_u8(body, 1) else {
+        return Taken::Missing;
+    };
+    let Ids::Values(stack, layer, parent, origin) = take_ids(body) else {
+        return Taken::Missing;
+    };
+    let Tail::Values(depth, sibling, restriction, spec_from, has_specs) = take_tail(body) else {
+        return Taken::Missing;
+    };
+    Taken::Node(Node {
         first_child: NodeId::INVALID,
         last_child: NodeId::INVALID,
         next_sibling: NodeId::INVALID,
         prim_count: prim_count,
         record_length: body.len() as u16,
-        arc: big_endian::read_u8(body, 0),
-        flags: big_endian::read_u8(body, 1),
-        stack: big_endian::read_u32(body, 2),
-        layer: big_endian::read_u32(body, 6),
-        parent: NodeId(big_endian::read_u32(body, 10)),
-        origin: NodeId(big_endian::read_u32(body, 14)),
-        depth: big_endian::read_u16(body, 18),
-        sibling: big_endian::read_u16(body, 20),
-        restriction: big_endian::read_u16(body, 22),
-        spec_from: big_endian::read_u16(body, 24),
-        has_specs: big_endian::read_u8(body, 26),
-    }
+        arc: arc,
+        flags: flags,
+        stack: stack,
+        layer: layer,
+        parent: NodeId(parent),
+        origin: NodeId(origin),
+        depth: depth,
+        sibling: sibling,
+        restriction: restriction,
+        spec_from: spec_from,
+        has_specs: has_specs,
+    })
 }
 
-// Appends the node of a record as number n.
+// Appends the node of a record, which misses no field, as number n.
 fn append_record(arena: &mut [u8], n: u32, body: &[u8], prim_count: u8)
     requires { ⌜ CanAppendRecord (now arena) n (now body) «prim_count» ⌝ }
     ensures { λ _. ⌜ now (arena .exit) ≡ encode (withNode (decode (now (arena .entry))) (readRecord (now (body .entry)))) (now (arena .entry)) ⌝ }
 {
-    let node = read_node(body, prim_count);
+    let Taken::Node(node) = read_node(body, prim_count) else {
+        return;
+    };
     append::append_node(arena, n, node, &body[27..]);
 }
 

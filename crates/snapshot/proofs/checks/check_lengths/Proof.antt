@@ -6,7 +6,7 @@ use borrow.Author.Needs.{needs}
 use native.Mathlib.Omega.{arith}
 use lib.ListN.{length, drop}
 use Rattle.model.specs.Snapshot.{field, readRecords}
-use Rattle.snapshot.specs.Reading.{countedAs}
+use Rattle.snapshot.specs.Reading.{byteValue, shortValue, fieldValue, countedAs}
 use Rattle.snapshot.proofs.FieldLaws.{taken, not-taken, Front, front-right, front-wrong}
 use Rattle.snapshot.proofs.checks.check_lengths.Statement.{statement}
 use Rattle.snapshot.proofs.checks.check_lengths.Tie as tie
@@ -24,15 +24,15 @@ bytes3 c = bytes2 (c .before .before .before .before .before)
 -- the fields that were read
 following : (c : tie.After-known-told)
     → (0 + 4 ≤ length (bytes c)) × (c .before .following .given .0 .0 ≡ field 0 4 (bytes c))
-following c = taken 0 4 (bytes c) _ (sym (c .before .before .before .take-u32 .ensures) ∙ c .before .following .given .1)
+following c = taken 0 4 (bytes c) _ (sym (c .before .before .before .take-u32 .ensures) ∙ ap fieldValue (c .before .following .given .1))
 
 version : (c : tie.After-known-told2)
     → (4 + 1 ≤ length (bytes2 c)) × (c .before .version .given .0 .0 ≡ field 4 1 (bytes2 c))
-version c = taken 4 1 (bytes2 c) _ (sym (c .before .before .before .take-u8 .ensures) ∙ c .before .version .given .1)
+version c = taken 4 1 (bytes2 c) _ (sym (c .before .before .before .take-u8 .ensures) ∙ ap byteValue (c .before .version .given .1))
 
 count : (c : tie.After-known-told3)
     → (5 + 2 ≤ length (bytes3 c)) × (c .before .count .given .0 .0 ≡ field 5 2 (bytes3 c))
-count c = taken 5 2 (bytes3 c) _ (sym (c .before .before .before .take-u16 .ensures) ∙ c .before .count .given .1)
+count c = taken 5 2 (bytes3 c) _ (sym (c .before .before .before .take-u16 .ensures) ∙ ap shortValue (c .before .count .given .1))
 
 take-u32-requires : tie.Need-take-u32-requires
 take-u32-requires c κs = search needs
@@ -46,7 +46,7 @@ enum-told c = search needs
 returns : tie.Need-returns
 returns c =
     let snapshot = c .before .before .before .before .args .bytes .now in
-    let short = not-taken 0 4 snapshot (sym (c .before .before .take-u32 .ensures) ∙ c .enum-told .given .1) in
+    let short = not-taken 0 4 snapshot (sym (c .before .before .take-u32 .ensures) ∙ ap fieldValue (c .enum-told .given .1)) in
     front-wrong snapshot (λ front. omega (arith, front .header))
 
 cast-if1 : tie.Need-cast-if1
@@ -70,7 +70,7 @@ enum-told-2 c = search needs
 returns-3 : tie.Need-returns-3
 returns-3 c =
     let snapshot = bytes (c .before .before .before .before) in
-    let short = not-taken 4 1 snapshot (sym (c .before .before .take-u8 .ensures) ∙ c .enum-told2 .given .1) in
+    let short = not-taken 4 1 snapshot (sym (c .before .before .take-u8 .ensures) ∙ ap byteValue (c .enum-told2 .given .1)) in
     front-wrong snapshot (λ front. omega (arith, front .header))
 
 returns-4 : tie.Need-returns-4
@@ -88,8 +88,11 @@ enum-told-3 c = search needs
 returns-5 : tie.Need-returns-5
 returns-5 c =
     let snapshot = bytes2 (c .before .before .before .before) in
-    let short = not-taken 5 2 snapshot (sym (c .before .before .take-u16 .ensures) ∙ c .enum-told3 .given .1) in
+    let short = not-taken 5 2 snapshot (sym (c .before .before .take-u16 .ensures) ∙ ap shortValue (c .enum-told3 .given .1)) in
     front-wrong snapshot (λ front. omega (arith, front .header))
+
+cast-check-record-lengths : tie.Need-cast-check-record-lengths
+cast-check-record-lengths c = search needs
 
 check-record-lengths-requires : tie.Need-check-record-lengths-requires
 check-record-lengths-requires c κs = omega (arith, count c .0)
@@ -128,5 +131,6 @@ check-lengths-spec =
     enum-known-count
     enum-told-3
     returns-5
+    cast-check-record-lengths
     check-record-lengths-requires
     returns-6)

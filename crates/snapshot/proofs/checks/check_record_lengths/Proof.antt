@@ -1,12 +1,12 @@
 -- `check_record_lengths` meets its contract. The loop's invariant is `Asked`: what is left passes question 12 where all of it does.
 -- The measure is how many records are left. Assumes nothing.
-use mathlib.Core.Path.{_≡_, sym, _∙_}
+use mathlib.Core.Path.{_≡_, sym, ap, _∙_}
 use mathlib.Core.List.{List}
 use Prim.Native.Nat.{ℕ}
 use borrow.Author.Needs.{needs}
 use native.Mathlib.Omega.{arith}
 use Rattle.model.specs.Snapshot.{field}
-use Rattle.snapshot.specs.Reading.{RecordAt}
+use Rattle.snapshot.specs.Reading.{shortValue, RecordAt}
 use Rattle.snapshot.proofs.FieldLaws.{Asked, asked-none, asked-more, asked-missing, asked-all, asked-behind, length-taken}
 use Rattle.snapshot.proofs.checks.check_record_lengths.Statement.{statement}
 use Rattle.snapshot.proofs.checks.check_record_lengths.Tie as tie
@@ -28,7 +28,7 @@ found : (c : tie.After-known-told Inv-loop μ-loop)
     → RecordAt (bytes (turn c)) (turn c .loop .at) × (c .before .length .given .0 .0 ≡ field (turn c .loop .at) 2 (bytes (turn c)))
 found c =
     length-taken (turn c .loop .at) (bytes (turn c)) (turn c .loop .inv .within) _
-    (sym (c .before .before .before .take-length .ensures) ∙ c .before .length .given .1)
+    (sym (c .before .before .before .take-length .ensures) ∙ ap shortValue (c .before .length .given .1))
 
 loop-holds : tie.Need-loop-holds Inv-loop μ-loop
 loop-holds c = asked-none _ _ (c .before .pre)
@@ -45,7 +45,7 @@ enum-told c = search needs
 returns : tie.Need-returns Inv-loop μ-loop
 returns c =
     let asked = c .before .before in
-    asked-missing _ _ _ _ (asked .before .before .loop .inv) (asked .before .loop-test .taken) (sym (asked .take-length .ensures) ∙ c .enum-told .given .1)
+    asked-missing _ _ _ _ (asked .before .before .loop .inv) (asked .before .loop-test .taken) (sym (asked .take-length .ensures) ∙ ap shortValue (c .enum-told .given .1))
 
 cast-at : tie.Need-cast-at Inv-loop μ-loop
 cast-at c = search needs

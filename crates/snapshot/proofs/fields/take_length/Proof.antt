@@ -1,10 +1,11 @@
 -- `take_length` meets its contract: each of the record's tests that fails leaves the length missing. Assumes nothing.
-use mathlib.Core.Path.{_≡_, sym, _∙_}
+use mathlib.Core.Path.{_≡_, sym, ap, _∙_}
 use Prim.Native.Nat.{_+_, _≤_}
 use borrow.Author.Needs.{needs}
 use native.Mathlib.Omega.{arith}
 use lib.ListN.{length}
 use Rattle.model.specs.Snapshot.{field}
+use Rattle.snapshot.specs.Reading.{shortValue}
 use Rattle.snapshot.proofs.FieldLaws.{taken, not-taken, length-there, length-missing}
 use Rattle.snapshot.proofs.fields.take_length.Statement.{statement}
 use Rattle.snapshot.proofs.fields.take_length.Tie as tie
@@ -16,7 +17,7 @@ entry c = c .before .before .before .before .before
 read : (c : tie.After-known-told)
     → (entry c .args .at + 2 ≤ length (entry c .args .bytes .now))
     × (c .before .length .given .0 .0 ≡ field (entry c .args .at) 2 (entry c .args .bytes .now))
-read c = taken (entry c .args .at) 2 (entry c .args .bytes .now) _ (sym (c .before .before .before .take-u16 .ensures) ∙ c .before .length .given .1)
+read c = taken (entry c .args .at) 2 (entry c .args .bytes .now) _ (sym (c .before .before .before .take-u16 .ensures) ∙ ap shortValue (c .before .length .given .1))
 
 take-u16-requires : tie.Need-take-u16-requires
 take-u16-requires c κs = search needs
@@ -30,7 +31,7 @@ enum-told c = search needs
 returns : tie.Need-returns
 returns c =
     let s = c .before .before .before .before in
-    let short = not-taken (s .args .at) 2 (s .args .bytes .now) (sym (c .before .before .take-u16 .ensures) ∙ c .enum-told .given .1) in
+    let short = not-taken (s .args .at) 2 (s .args .bytes .now) (sym (c .before .before .take-u16 .ensures) ∙ ap shortValue (c .enum-told .given .1)) in
     length-missing (s .args .at) (s .args .bytes .now) (s .pre) (λ fits. omega (arith, fits .within))
 
 returns-2 : tie.Need-returns-2

@@ -14,13 +14,10 @@ returns c = let s = c .before .before in field-missing (s .args .at) 1 (s .args 
 read-u8-requires : tie.Need-read-u8-requires
 read-u8-requires c κs = search needs
 
-cast-t7 : tie.Need-cast-t7
-cast-t7 c = search needs
-
 returns-2 : tie.Need-returns-2
 returns-2 c =
     let s = c .before .before .before in
     rw (c .read-u8 .ensures) (field-there (s .args .at) 1 (s .args .bytes .now) (omega arith))
 
 pub take-u8-spec : {M : Type 1} → statement M
-take-u8-spec = tie.close (tie.spec sub-if1 returns read-u8-requires cast-t7 returns-2)
+take-u8-spec = tie.close (tie.spec sub-if1 returns read-u8-requires returns-2)
