@@ -45,7 +45,8 @@ enum-told c = search needs
 returns : tie.Need-returns Inv-loop μ-loop
 returns c =
     let asked = c .before .before in
-    asked-missing _ _ _ _ (asked .before .before .loop .inv) (asked .before .loop-test .taken) (sym (asked .take-length .ensures) ∙ ap shortValue (c .enum-told .given .1))
+    asked-missing _ _ _ _ (asked .before .before .loop .inv) (asked .before .loop-test .taken)
+    (sym (asked .take-length .ensures) ∙ ap shortValue (c .enum-told .given .1))
 
 cast-at : tie.Need-cast-at Inv-loop μ-loop
 cast-at c = search needs
