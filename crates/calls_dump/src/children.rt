@@ -6,7 +6,7 @@ use model::Numbered;
 use prim_graph::NodeRead;
 
 // `chains`: each node's children in their order, joined by `,`, the nodes joined by `;`.
-pub fn chains_line(arena: &[u8], out: &mut [u8], used: usize) -> usize {
+pub(crate) fn chains_line(arena: &[u8], out: &mut [u8], used: usize) -> usize {
     let read = prim_graph::count(arena);
     match read {
         Numbered::Number(count) => put_lists(arena, count, out, used),

@@ -3,5 +3,16 @@
 mod children;
 mod records;
 
-pub use children::chains_line;
-pub use records::dump_line;
+use calls_text::Answered;
+use calls_text::is_call;
+
+// The answer to a line that prints every node.
+pub fn answer(line: &[u8], arena: &[u8], out: &mut [u8], used: usize) -> Answered {
+    if is_call(line, b"dump", 1) {
+        return Answered::Used(records::dump_line(arena, out, used));
+    }
+    if is_call(line, b"chains", 1) {
+        return Answered::Used(children::chains_line(arena, out, used));
+    }
+    Answered::Unknown
+}

@@ -8,7 +8,7 @@ use model::Numbered;
 use prim_graph::NodeRead;
 
 // `dump`: `arc,flags,stack,layer,parent,origin,depth,sibling,restriction,specfrom,hasspecs,path` of each node, joined by `;`.
-pub fn dump_line(arena: &[u8], out: &mut [u8], used: usize) -> usize {
+pub(crate) fn dump_line(arena: &[u8], out: &mut [u8], used: usize) -> usize {
     let read = prim_graph::count(arena);
     match read {
         Numbered::Number(count) => put_nodes(arena, count, out, used),

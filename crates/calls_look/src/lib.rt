@@ -19,12 +19,6 @@ pub fn answer(line: &[u8], arena: &[u8], out: &mut [u8], used: usize) -> Answere
     if is_call(line, b"write", 1) {
         return Answered::Used(write_line(arena, out, used));
     }
-    if is_call(line, b"dump", 1) {
-        return Answered::Used(calls_dump::dump_line(arena, out, used));
-    }
-    if is_call(line, b"chains", 1) {
-        return Answered::Used(calls_dump::chains_line(arena, out, used));
-    }
     if is_call(line, b"marks", 1) {
         return Answered::Used(marks_line(arena, out, used));
     }
