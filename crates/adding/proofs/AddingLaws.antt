@@ -27,7 +27,8 @@ use Rattle.model.proofs.PathGrammar.{well-formed-length}
 use Rattle.arena.specs.Slot.{nodeOf}
 use Rattle.arena.proofs.HeldArenas.{held}
 use Rattle.arena.proofs.ArenaBack.{fresh-legal, fresh-nodes}
-use Rattle.arena.proofs.ReadNodes.{sizes, node-read, path-length, root-found, root-held}
+use Rattle.arena.proofs.SlotLaws.{path-length}
+use Rattle.arena.proofs.ReadNodes.{sizes, has-path, node-read, root-found, root-held}
 use Rattle.append.specs.Append.{CanAppend}
 use Rattle.record_check.specs.declared.Checked.{Checked}
 use Rattle.record_check.specs.RecordCheck.{linksAt, questionsAt, RecordChecked}
@@ -52,7 +53,7 @@ module _ (bs : List ℕ) where
   pub bytes-step : (n : ℕ) → Readable bs n → bytesFrom n ≡ (recordLengthIn bs n - 27) + bytesFrom (n + 1)
   bytes-step n r =
       let more : countIn bs - n ≡ suc (countIn bs - (n + 1)) = omega (arith, r .below) in
-      let long : recordLengthIn bs n - 27 ≡ length (nodeIn bs n .path) = omega (arith, path-length bs n r) in
+      let long : recordLengthIn bs n - 27 ≡ length (nodeIn bs n .path) = omega (arith, path-length bs n (has-path bs n r)) in
       ap (λ (k : ℕ). pathBytes (tabulate (nodeIn bs) n k)) more
       ∙ ap (λ (m : ℕ). length (nodeIn bs n .path) + pathBytes (tabulate (nodeIn bs) m (countIn bs - (n + 1)))) (sym (add-one n))
       ∙ ap (λ (l : ℕ). l + bytesFrom (n + 1)) (sym long)
@@ -235,8 +236,7 @@ module _ (bs : List ℕ) (o : Opened bs) (desc : NodeDesc) (path : List ℕ) (so
   pub can-add : (prims count : ℕ) → refusal (addQuestions g d) ≡ 0 → prims ≡ primCount path → count ≡ countIn bs
       → CanAppend bs count (addedRecord bs desc prims (length path)) path
   can-add prims count e p c = record {
-    whole = o .whole;
-    holds = o .holds;
+    opened = o;
     counted = c;
     accepted = ap (λ (y : model.Node). refusal (recordQuestions g y)) (added-node prims e p) ∙ add-accepted g d (omega (arith, sizes bs o)) e;
     named = p;
@@ -304,8 +304,7 @@ module _ (bs : List ℕ) (o : Opened bs) (stack layer : ℕ) (path : List ℕ) w
 
     pub can-start : (prims : ℕ) → wellFormed path ≡ true → prims ≡ primCount path → CanAppend bs 0 (startRecord stack layer prims (length path)) path
     can-start prims e p = record {
-      whole = o .whole;
-      holds = o .holds;
+      opened = o;
       counted = sym none;
       accepted = ap (λ (y : model.Node). refusal (recordQuestions (decode bs) y)) (start-node stack layer prims path p)
           ∙ start-accepted (decode bs) stack layer path empty (no-bytes (decode bs .nodes) empty) e;

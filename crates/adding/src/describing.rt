@@ -51,7 +51,7 @@ fn path_bytes(arena: &[u8], count: u32) -> u32
 fn specs_told(flags: u8, has_specs: u8) -> u8
     ensures { λ r. ⌜ r ≡ specsTold flags «has_specs» ⌝ }
 {
-    if flags / 2 % 2 == 1 {
+    if record_check::is_culled(flags) {
         return 2;
     }
     has_specs

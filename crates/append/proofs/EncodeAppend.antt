@@ -33,13 +33,13 @@ module _ (bs : List ℕ) (count : ℕ) (y : arena.Node) (path : List ℕ) (can :
   added = nodeOf y path
 
   counted : count ≡ size before
-  counted = can .counted ∙ sym (size-decode bs (held bs (can .holds)))
+  counted = can .counted ∙ sym (size-decode bs (held bs (can .opened .holds)))
 
   addable : Addable before added
   addable = accepted-addable before added (can .accepted)
 
   encodable : Encodable before
-  encodable = held-encodable bs bytes (can .whole) (can .holds)
+  encodable = held-encodable bs bytes (can .opened .whole) (can .opened .holds)
 
   encodable-after : Encodable (withNode before added)
   encodable-after =
@@ -49,7 +49,7 @@ module _ (bs : List ℕ) (count : ℕ) (y : arena.Node) (path : List ℕ) (can :
       ≡ recordStored count y path (threeLinks count invalid invalid invalid (childLinked (y .parent .0) count
       (headerStored count (y .arc) (shallowWith count (y .parent .0) (y .depth) bs) bs)))
   encode-append =
-      append-stores before added bs encodable encodable-after addable (can .whole) (encode-decode bs bytes (can .whole) (can .holds))
+      append-stores before added bs encodable encodable-after addable (can .opened .whole) (encode-decode bs bytes (can .opened .whole) (can .opened .holds))
       ∙ (λ i. stored (slotAt (sym counted i) + 16) (sym (can .named) i ∷ recordBytes added)
       (threeLinks (sym counted i) invalid invalid invalid (childLinked (y .parent .0) (sym counted i)
       (headerStored (sym counted i) (y .arc) (shallowWith (sym counted i) (y .parent .0) (y .depth) bs) bs))))
@@ -68,4 +68,4 @@ module _ (bs : List ℕ) (count : ℕ) (y : arena.Node) (path : List ℕ) (can :
   pub can-link : CanLink (headerStored count (y .arc) (shallowWith count (y .parent .0) (y .depth) bs) bs) (y .parent .0) count
   can-link =
       subst (λ (k : ℕ). CanLink (headerStored k (y .arc) (shallowWith k (y .parent .0) (y .depth) bs) bs) (y .parent .0) k) (sym counted)
-      (linkable before added bs encodable encodable-after addable (can .whole) (encode-decode bs bytes (can .whole) (can .holds)))
+      (linkable before added bs encodable encodable-after addable (can .opened .whole) (encode-decode bs bytes (can .opened .whole) (can .opened .holds)))

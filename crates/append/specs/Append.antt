@@ -1,11 +1,12 @@
 -- What `append_node` asks, and what each of its parts leaves in the arena. The graph with a node more is model/specs/Graph.antt's `withNode`.
 use mathlib.Core.Path.{_≡_}
-use mathlib.Core.Bool.{Bool, true, false, _||_, _&&_, cond}
+use mathlib.Core.Bool.{Bool, false, _||_, _&&_, cond}
 use mathlib.Core.List.{List, _++_}
 use Prim.Native.Nat.{ℕ, _+_, _<_}
 use lib.Dec.{eqb, ltb}
 use lib.ListN.{length}
-use Rattle.model.specs.Arena.{arenaBytes, slotAt, countIn, shallowIn, firstChildIn, lastChildIn, nextSiblingIn, primCountIn, decode, holdsGraph}
+use Rattle.model.specs.Arena.{arenaBytes, slotAt, countIn, shallowIn, firstChildIn, lastChildIn, nextSiblingIn, primCountIn, decode}
+use Rattle.model.specs.ArenaCalls.{Opened}
 use Rattle.model.specs.Bytes.{stored}
 use Rattle.model.specs.Node.{invalid, rootArc}
 use Rattle.model.specs.Path.{primCount}
@@ -17,8 +18,7 @@ use Rattle.arena.specs.declared.Node.{Node}
 
 -- a node that may come next: x with this path is what the questions of a record accept
 pub record CanAppend (bs : List ℕ) (count : ℕ) (x : Node) (path : List ℕ) : Type 0 where
-  pub whole : length bs ≡ arenaBytes
-  pub holds : holdsGraph bs ≡ true
+  pub opened : Opened bs
   pub counted : count ≡ countIn bs
   pub accepted : refusal (recordQuestions (decode bs) (nodeOf x path)) ≡ 0
   pub named : x .«prim_count» ≡ primCount path

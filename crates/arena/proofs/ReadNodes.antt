@@ -1,24 +1,22 @@
--- What the fields of a node say of the graph that an arena holds, where questions 1 to 4 pass: `node-read`, `fields-read`, `path-length`;
--- and of its local root: `root-found`, `root-held`. Assumes nothing.
-use mathlib.Core.Path.{_≡_, refl, ap, _∙_}
+-- What the fields of a node say of the graph that an arena holds, where questions 1 to 4 pass: `node-read`, `fields-read`; and of its
+-- local root: `root-found`, `root-held`. Assumes nothing.
+use mathlib.Core.Path.{_≡_, refl}
 use mathlib.Core.Bool.{Bool, true, false, not, _||_, cond}
 use mathlib.Core.List.{List, [], _∷_}
-use Prim.Native.Nat.{ℕ, zero, suc, _+_, _-_, _<_}
+use Prim.Native.Nat.{ℕ, zero, suc, _-_, _<_}
 use native.Mathlib.Omega.{arith}
 use lib.Dec.{eqb, ltb}
-use lib.ListN.{length, length-drop}
-use lib.Seq.{length-take-le}
+use lib.ListN.{length}
 use borrow.Author.Tests.{eqb-true, ne-eqb, ltb-true}
 use Rattle.model.specs.Lists.{anyBelow}
 use Rattle.model.specs.Node.{Node}
 use Rattle.model.specs.Graph.{size, nodeAt, isLocalRoot}
 use Rattle.model.specs.Refusals.{ask, refusal}
-use Rattle.model.specs.Snapshot.{readRecord}
 use Rattle.model.specs.Calls.{readsNode}
-use Rattle.model.specs.Arena.{arenaBytes, slotAt, countIn, recordLengthIn, nodeIn, localRootBelow, localRootOf, localRootIn, decode, holdsGraph}
+use Rattle.model.specs.Arena.{arenaBytes, countIn, nodeIn, localRootBelow, localRootOf, localRootIn, decode, holdsGraph}
 use Rattle.model.specs.ArenaCalls.{isArena, Opened, Readable, askArena}
 use Rattle.arena.specs.Slot.{HasSlot, HasPath, parentIn}
-use Rattle.arena.proofs.SlotLaws.{rest-of-part, SameFields, same-fields}
+use Rattle.arena.proofs.SlotLaws.{SameFields, same-fields}
 use Rattle.arena.proofs.HeldArenas.{Held, held}
 use Rattle.arena.proofs.ArenaBack.{size-decode, node-decode, parent-lower}
 
@@ -56,17 +54,6 @@ module _ (bs : List ℕ) (n : ℕ) (r : Readable bs n) where
 
   pub fields-read : SameFields bs n
   fields-read = same-fields bs n (has-path .numbered)
-
-  pub path-length : recordLengthIn bs n ≡ 27 + length (nodeIn bs n .path)
-  unfolding readRecord
-  path-length =
-      let long = has-path .numbered in
-      let short = has-path .short in
-      let within = has-slot .within in
-      let rest : length (nodeIn bs n .path) ≡ recordLengthIn bs n - 27 =
-      ap length (rest-of-part (slotAt n + 19) (recordLengthIn bs n) 27 bs long)
-      ∙ length-take-le (recordLengthIn bs n - 27) _ (rw length-drop (omega (arith, r .opened .whole))) in
-      omega arith
 
   pub parent-read : 0 < n → Readable bs (parentIn bs n)
   parent-read h =

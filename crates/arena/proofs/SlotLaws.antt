@@ -5,12 +5,12 @@ use mathlib.Core.List.{List, [], _∷_}
 use Prim.Native.Nat.{ℕ, zero, suc, _+_, _-_, _≤_}
 use native.Mathlib.Nat.{zero-add, suc-add}
 use native.Mathlib.Omega.{arith}
-use lib.ListN.{take, drop}
-use lib.Seq.{take-nil, take-take, drop-drop}
+use lib.ListN.{length, length-drop, take, drop}
+use lib.Seq.{take-nil, take-take, drop-drop, length-take-le}
 use Rattle.model.specs.Arena.{slotAt, recordLengthIn, nodeIn}
 use Rattle.model.specs.Snapshot.{value, field, readRecord}
 use Rattle.arena.specs.declared.Node.{Node}
-use Rattle.arena.specs.Slot.{arcIn, flagsIn, stackIn, layerIn, parentIn, originIn, depthIn, siblingIn, restrictionIn, specFromIn, hasSpecsIn, Loaded, nodeOf}
+use Rattle.arena.specs.Slot.{HasPath, arcIn, flagsIn, stackIn, layerIn, parentIn, originIn, depthIn, siblingIn, restrictionIn, specFromIn, hasSpecsIn, Loaded, nodeOf}
 
 -- ---- A part of a part
 
@@ -84,3 +84,12 @@ module _ (bs : List ℕ) (n : ℕ) (numbered : 27 ≤ recordLengthIn bs n) where
     hasSpecs = (l .«has_specs» ∙ sym (same-fields .hasSpecs)) i;
     path = nodeIn bs n .path;
   }
+
+-- the record's length counts its numbers and its path
+pub path-length : (bs : List ℕ) (n : ℕ) → HasPath bs n → recordLengthIn bs n ≡ 27 + length (nodeIn bs n .path)
+unfolding readRecord
+path-length bs n p =
+    let rest : length (nodeIn bs n .path) ≡ recordLengthIn bs n - 27 =
+    ap length (rest-of-part (slotAt n + 19) (recordLengthIn bs n) 27 bs (p .numbered))
+    ∙ length-take-le (recordLengthIn bs n - 27) _ (rw length-drop (omega (arith, p .slot .whole, p .slot .within, p .short))) in
+    omega (arith, p .numbered)

@@ -18,10 +18,10 @@ use Rattle.model.specs.Arena.{countIn, primCountIn, nodeIn, tabulate, localRoot
 use Rattle.model.specs.ArenaCalls.{Opened, Readable}
 use Rattle.arena.specs.declared.Node.{Node}
 use Rattle.arena.specs.Slot.{Loaded, parentIn, depthIn}
-use Rattle.arena.proofs.SlotLaws.{loaded-node}
+use Rattle.arena.proofs.SlotLaws.{loaded-node, path-length}
 use Rattle.arena.proofs.HeldArenas.{held, held-chain}
 use Rattle.arena.proofs.ArenaBack.{children-decode, next-decode}
-use Rattle.arena.proofs.ReadNodes.{sizes, all, has-path, node-read, fields-read, path-length, parent-read, root-found, root-held}
+use Rattle.arena.proofs.ReadNodes.{sizes, all, has-path, node-read, fields-read, parent-read, root-found, root-held}
 use Rattle.queries.specs.declared.GraphInfo.{GraphInfo}
 use Rattle.queries.specs.Queries.{NodeShown, localRootOr, GraphShown}
 
@@ -39,7 +39,7 @@ shown bs n r x l =
       «last-child» = rw children (l .«last_child» ∙ node .last-child);
       «next-sibling» = l .«next_sibling» ∙ sym (next-decode bs every n (r .below));
       «prim-count» = rw (node-read bs n r) (l .«prim_count» ∙ node .prim-count);
-      «record-length» = rw (node-read bs n r) (l .«record_length» ∙ path-length bs n r);
+      «record-length» = rw (node-read bs n r) (l .«record_length» ∙ path-length bs n (has-path bs n r));
     }
 
 -- the depth below introduction by the fields that are read

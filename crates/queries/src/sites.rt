@@ -13,10 +13,10 @@ ghost use Rattle.model.specs.Node.{hasFlag, inertFlag, culledFlag};
 fn contributes(flags: u8) -> bool
     ensures { λ r. ⌜ r ≡ not (hasFlag inertFlag flags || hasFlag culledFlag flags) ⌝ }
 {
-    if flags % 2 == 1 {
+    if record_check::is_inert(flags) {
         return false;
     }
-    flags / 2 % 2 != 1
+    !record_check::is_culled(flags)
 }
 
 // Whether node n, neither INERT nor CULLED, has that stack and path.

@@ -16,13 +16,15 @@ pub enum Checked {
     Refused(Refusal),
 }
 
-fn is_inert(flags: u8) -> bool
+// Whether the flag INERT is set.
+pub fn is_inert(flags: u8) -> bool
     ensures { λ r. ⌜ r ≡ hasFlag inertFlag flags ⌝ }
 {
     flags % 2 == 1
 }
 
-fn is_culled(flags: u8) -> bool
+// Whether the flag CULLED is set.
+pub fn is_culled(flags: u8) -> bool
     ensures { λ r. ⌜ r ≡ hasFlag culledFlag flags ⌝ }
 {
     flags / 2 % 2 == 1

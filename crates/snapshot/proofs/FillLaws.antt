@@ -95,8 +95,7 @@ module _ (arena : List ℕ) (n : ℕ) (body : List ℕ) (prims : ℕ) (can : Can
 
   pub can-append : CanAppend arena n x path
   can-append = record {
-    whole = can .whole;
-    holds = can .holds;
+    opened = can .opened;
     counted = can .counted;
     accepted = ap (λ (y : model.Node). refusal (recordQuestions (decode arena) y)) node-of-record ∙ can .accepted;
     named = r .«prim_count» ∙ can .named ∙ ap (λ (y : model.Node). primCount (y .path)) (sym node-of-record);
@@ -180,8 +179,10 @@ module _ (cleared bytes arena : List ℕ) (at n : ℕ) (filled : Filled cleared 
     can-append-record prims named =
         let long = piece-long bytes at n (filled .reached) h piece e in
         record {
-          whole = filled-length;
-          holds = ap holdsGraph (filled .arena-is) ∙ holds-encoded graph cleared (filled .encodable) (filled .whole);
+          opened = record {
+            whole = filled-length;
+            holds = ap holdsGraph (filled .arena-is) ∙ holds-encoded graph cleared (filled .encodable) (filled .whole);
+          };
           counted = sym (ap countIn (filled .arena-is) ∙ count-encode graph cleared (filled .encodable) (filled .whole) ∙ built-sized nodes n (filled .reached .few));
           accepted =
               ap (λ (g : Graph). refusal (recordQuestions g (readRecord piece))) held

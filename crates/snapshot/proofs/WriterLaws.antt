@@ -61,15 +61,15 @@ module _ (bs out : List ℕ) (bytes : Bytes bs) (can : CanWrite bs out) where
   nodes = decode bs .nodes
 
   pub counted : countIn bs ≡ length nodes
-  counted = sym (size-decode bs (held bs (can .holds)))
+  counted = sym (size-decode bs (held bs (can .opened .holds)))
 
   pub few : length nodes ≤ 1024
-  few = held-encodable bs bytes (can .whole) (can .holds) .legal .few-nodes
+  few = held-encodable bs bytes (can .opened .whole) (can .opened .holds) .legal .few-nodes
 
   -- at most 1,024 records with 32,768 bytes of paths
   records-short : (n : ℕ) → length (recordsBefore n nodes) ≤ 62464
   records-short n =
-      omega (arith, before-short n nodes, records-length nodes, few, held-encodable bs bytes (can .whole) (can .holds) .legal .few-path-bytes)
+      omega (arith, before-short n nodes, records-length nodes, few, held-encodable bs bytes (can .opened .whole) (can .opened .holds) .legal .few-path-bytes)
 
   all-before : recordsBefore (countIn bs) nodes ≡ recordsBytes nodes
   all-before = ap recordsBytes (take-all (countIn bs) nodes (omega (arith, counted)))
@@ -80,27 +80,27 @@ module _ (bs out : List ℕ) (bytes : Bytes bs) (can : CanWrite bs out) where
   module _ (n : ℕ) (h : n < countIn bs) where
     pub has-record : HasPath bs n
     has-record =
-        let node = held bs (can .holds) .node n h in
+        let node = held bs (can .opened .holds) .node n h in
         record {
-          slot = record { whole = can .whole; within = omega (arith, held bs (can .holds) .few) };
+          slot = record { whole = can .opened .whole; within = omega (arith, held bs (can .opened .holds) .few) };
           numbered = omega arith;
           short = node .record-short;
         }
 
     slot-record : recordBytes (nodeAt nodes n) ≡ slotRecord bs n
     slot-record =
-        let node = held bs (can .holds) .node n h in
+        let node = held bs (can .opened .holds) .node n h in
         let body = take (recordLengthIn bs n) (drop (slotAt n + 19) bs) in
-        let written : recordBody (nodeAt nodes n) ≡ body = body-written bs bytes (can .whole) (held bs (can .holds)) n h in
+        let written : recordBody (nodeAt nodes n) ≡ body = body-written bs bytes (can .opened .whole) (held bs (can .opened .holds)) n h in
         let long : length body ≡ recordLengthIn bs n =
         length-take-le (recordLengthIn bs n) (drop (slotAt n + 19) bs)
-        (rw length-drop (omega (arith, can .whole, held bs (can .holds) .few, node .record-short))) in
+        (rw length-drop (omega (arith, can .opened .whole, held bs (can .opened .holds) .few, node .record-short))) in
         let next : slotAt n + 19 ≡ slotAt n + 17 + 2 = omega arith in
         let behind : drop (slotAt n + 19) bs ≡ drop 2 (drop (slotAt n + 17) bs) =
         ap (λ (k : ℕ). drop k bs) next ∙ sym (drop-drop 2 (slotAt n + 17) bs) in
         ap (λ (b : List ℕ). bigEndian 2 (length b) ++ b) written
         ∙ ap (λ (k : ℕ). bigEndian 2 k ++ body) long
-        ∙ ap (λ (l : List ℕ). l ++ body) (field-written (slotAt n + 17) 2 bs bytes (omega (arith, can .whole, held bs (can .holds) .few)))
+        ∙ ap (λ (l : List ℕ). l ++ body) (field-written (slotAt n + 17) 2 bs bytes (omega (arith, can .opened .whole, held bs (can .opened .holds) .few)))
         ∙ ap (λ (l : List ℕ). take 2 (drop (slotAt n + 17) bs) ++ take (recordLengthIn bs n) l) behind
         ∙ sym (take-add 2 (recordLengthIn bs n) (drop (slotAt n + 17) bs))
 

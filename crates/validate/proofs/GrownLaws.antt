@@ -2,26 +2,24 @@
 -- number (`accepted-each`). Of that graph a record's questions read only what the sums below its number say: `questions-grown`. Assumes nothing.
 use mathlib.Core.Path.{_≡_, refl, sym, ap, subst, _∙_}
 use mathlib.Core.Logic.{_⊎_, inl, inr, _↔_}
-use mathlib.Core.Bool.{Bool, true, false, not, _||_, cond, and-eq-true-iff}
+use mathlib.Core.Bool.{true, not, and-eq-true-iff}
 use mathlib.Core.List.{List, [], _∷_, _++_}
 use Prim.Native.Nat.{ℕ, zero, suc, _+_, _-_, _≤_, _<_}
 use native.Mathlib.Nat.{add-zero, zero-add, eq-or-lt-of-le}
 use native.Mathlib.Omega.{arith}
-use lib.Dec.{eqb, ltb}
-use lib.ListN.{length, take, drop, length-drop}
-use lib.Seq.{length-take-le}
-use borrow.Author.Tests.{eqb-true, eq-eqb, ne-eqb, ltb-true}
+use lib.Dec.{eqb}
+use lib.ListN.{length}
+use borrow.Author.Tests.{eqb-true, eq-eqb}
 use Rattle.model.specs.Lists.{anyBelow}
-use Rattle.model.specs.Node.{rootArc, Node, noNode}
+use Rattle.model.specs.Node.{Node, noNode}
 use Rattle.model.specs.Graph.{Graph, emptyGraph, size, nodeAt, withNode, isLocalRoot, hasLocalRoot}
 use Rattle.model.specs.Refusals.{refusal, pathBytes, recordQuestions}
-use Rattle.model.specs.Snapshot.{readRecord}
-use Rattle.model.specs.Arena.{arenaBytes, slotAt, recordLengthIn, nodeIn, tabulate, localRootBelow, recordsAccepted}
-use Rattle.model.proofs.SnapshotLaws.{and-first}
+use Rattle.model.specs.Arena.{arenaBytes, recordLengthIn, nodeIn, tabulate, localRootBelow, recordsAccepted}
 use Rattle.model.proofs.LegalAdded.{path-bytes-append}
-use Rattle.arena.specs.Slot.{arcIn}
+use Rattle.arena.specs.Slot.{HasPath, arcIn}
 use Rattle.arena.proofs.TabulateLaws.{tabulate-length, tabulate-at}
-use Rattle.arena.proofs.SlotLaws.{same-fields}
+use Rattle.arena.proofs.ReadNodes.{root-found}
+use Rattle.arena.proofs.SlotLaws.{same-fields, path-length}
 use Rattle.record_check.specs.RecordCheck.{questionsAt}
 use Rattle.record_check.proofs.RecordCheckLaws.{questions-at}
 use Rattle.validate.specs.Validate.{pathBytesBelow, rootWith, rootBelow, questionsIn}
@@ -83,18 +81,6 @@ accepted-each f n = (
 abbrev pub Fit : List ℕ → ℕ → Type 0
 Fit bs k = (n : ℕ) → n < k → (28 ≤ recordLengthIn bs n) × (recordLengthIn bs n ≤ 282)
 
-any-root : (ns : List Node) (n : ℕ) → anyBelow (isLocalRoot ns) n ≡ not (eqb (localRootBelow ns n) 0)
-unfolding isLocalRoot
-any-root ns zero = refl
-any-root ns (suc n) = go (isLocalRoot ns n) refl (any-root ns n)
-  where
-    go : (t : Bool) → isLocalRoot ns n ≡ t → anyBelow (isLocalRoot ns) n ≡ not (eqb (localRootBelow ns n) 0)
-        → (t || anyBelow (isLocalRoot ns) n) ≡ not (eqb (cond t n (localRootBelow ns n)) 0)
-    go true e earlier =
-        let higher : 0 < n = ltb-true 0 n (and-first (ltb 0 n) (eqb (nodeAt ns n .arc) rootArc) e) in
-        rw (ne-eqb n 0 (λ z. omega arith))
-    go false e earlier = earlier
-
 module _ (bs : List ℕ) where
   pub root-tabulated : (m n : ℕ) → n ≤ m → Fit bs n → localRootBelow (tabulate (nodeIn bs) 0 m) n ≡ rootBelow bs n
   unfolding isLocalRoot
@@ -109,17 +95,11 @@ module _ (bs : List ℕ) where
   root-grown k fit =
       ap hasLocalRoot (grown-nodes (nodeIn bs) k)
       ∙ ap (anyBelow (isLocalRoot (tabulate (nodeIn bs) 0 k))) (tabulate-length (nodeIn bs) 0 k)
-      ∙ any-root (tabulate (nodeIn bs) 0 k) k ∙ ap (λ (r : ℕ). not (eqb r 0)) (root-tabulated k k (omega arith) fit)
+      ∙ sym (root-found (tabulate (nodeIn bs) 0 k) k) ∙ ap (λ (r : ℕ). not (eqb r 0)) (root-tabulated k k (omega arith) fit)
 
 module _ (bs : List ℕ) (whole : length bs ≡ arenaBytes) where
-  pub path-length : (n : ℕ) → n < 1024 → 28 ≤ recordLengthIn bs n → recordLengthIn bs n ≤ 282
-      → length (nodeIn bs n .path) ≡ recordLengthIn bs n - 27
-  unfolding readRecord
-  path-length n few named short =
-      let body = take (recordLengthIn bs n) (drop (slotAt n + 19) bs) in
-      let long : length body ≡ recordLengthIn bs n =
-      length-take-le (recordLengthIn bs n) (drop (slotAt n + 19) bs) (rw length-drop (omega arith)) in
-      length-drop 27 body ∙ ap (λ (k : ℕ). k - 27) long
+  pub has-path : (n : ℕ) → n < 1024 → 28 ≤ recordLengthIn bs n → recordLengthIn bs n ≤ 282 → HasPath bs n
+  has-path n few named short = record { slot = record { whole = whole; within = few }; numbered = omega arith; short = short }
 
   bytes-tabulated : (k : ℕ) → k ≤ 1024 → Fit bs k → pathBytes (tabulate (nodeIn bs) 0 k) ≡ pathBytesBelow bs k
   bytes-tabulated zero few fit = refl
@@ -127,7 +107,7 @@ module _ (bs : List ℕ) (whole : length bs ≡ arenaBytes) where
       let last = fit k (omega arith) in
       let front = bytes-tabulated k (omega arith) (λ n h. fit n (omega arith)) in
       ap pathBytes (tabulate-more (nodeIn bs) k)
-      ∙ omega (arith, path-bytes-append (tabulate (nodeIn bs) 0 k) (nodeIn bs k ∷ []), path-length k (omega arith) (last .0) (last .1))
+      ∙ omega (arith, path-bytes-append (tabulate (nodeIn bs) 0 k) (nodeIn bs k ∷ []), path-length bs k (has-path k (omega arith) (last .0) (last .1)))
 
   pub questions-grown : (k : ℕ) → k < 1024 → Fit bs (suc k)
       → recordQuestions (grown (nodeIn bs) k) (nodeIn bs k) ≡ questionsIn bs k (pathBytesBelow bs k) (rootBelow bs k)

@@ -20,10 +20,10 @@ use Rattle.model.proofs.ListLaws.{all-below, all-below-fails}
 use Rattle.model.proofs.SnapshotLaws.{and-first, and-second}
 use Rattle.arena.specs.Slot.{arcIn, parentIn, depthIn}
 use Rattle.arena.proofs.TabulateLaws.{tabulate-length, tabulate-at}
-use Rattle.arena.proofs.SlotLaws.{same-fields}
+use Rattle.arena.proofs.SlotLaws.{same-fields, path-length}
 use Rattle.child_lists.specs.ChildLists.{Parented}
 use Rattle.validate.specs.Validate.{pathBytesBelow, rootWith, rootBelow, questionsIn, depthRight, recordRightAfter, recordRight, recordsRight}
-use Rattle.validate.proofs.GrownLaws.{accepted-each, Fit, root-tabulated, path-length, questions-grown}
+use Rattle.validate.proofs.GrownLaws.{accepted-each, Fit, root-tabulated, has-path, questions-grown}
 use Rattle.validate.proofs.RecordLaws.{RightAfter, parent-lower, no-parent, path-fits, right-after, depth-left}
 
 -- what `holdsGraph` asks of the records
@@ -182,7 +182,7 @@ module _ (bs : List ℕ) (n pathBytes root : ℕ) (to : RecordsTo bs n pathBytes
         few-bytes = omega (
           arith,
           path-fits bs n pathBytes root (right .passes),
-          path-length bs whole n (omega arith) (right .named) (right .short),
+          path-length bs n (has-path bs whole n (omega arith) (right .named) (right .short)),
         );
         local-root = same-root ∙ (λ i. rootWith n (same-arc i) (to .local-root i));
       })

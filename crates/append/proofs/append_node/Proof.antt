@@ -52,14 +52,14 @@ is-shallow-requires c κs =
     let start = c .before in
     let s = start .before .before in
     let a = s .args in
-    (s .pre .whole, parent-below (a .arena .now) (a .count) (a .node) (a .path .now) (s .pre) (arena-bytes start) (numbers start))
+    (s .pre .opened .whole, parent-below (a .arena .now) (a .count) (a .node) (a .path .now) (s .pre) (arena-bytes start) (numbers start))
 
 store-header-requires : tie.Need-store-header-requires
 store-header-requires c κs =
     let start = c .before .before .before in
     let s = start .before .before in
     let a = s .args in
-    (s .pre .whole, count-below (a .arena .now) (a .count) (a .node) (a .path .now) (s .pre) (arena-bytes start) (numbers start))
+    (s .pre .opened .whole, count-below (a .arena .now) (a .count) (a .node) (a .path .now) (s .pre) (arena-bytes start) (numbers start))
 
 link-child-requires : tie.Need-link-child-requires
 link-child-requires c κs =
@@ -78,7 +78,7 @@ store-node-requires c κs =
     let s = start .before .before in
     let a = s .args in (
       record {
-        whole = link .link-child .kept .0 ∙ header .store-header .kept .0 ∙ s .pre .whole;
+        whole = link .link-child .kept .0 ∙ header .store-header .kept .0 ∙ s .pre .opened .whole;
         within = count-below (a .arena .now) (a .count) (a .node) (a .path .now) (s .pre) (arena-bytes start) (numbers start);
       },
       (s .pre .long, path-short (a .arena .now) (a .count) (a .node) (a .path .now) (s .pre) (arena-bytes start) (numbers start)),

@@ -21,8 +21,7 @@ returns-3 c = write-no-graph _ _ (c .before .before .before .if1 .left) (c .befo
 write-snapshot-requires : tie.Need-write-snapshot-requires
 write-snapshot-requires c κs =
     record {
-      whole = c .before .before .before .before .if1 .left;
-      holds = sym (c .before .before .is-graph .ensures) ∙ not-false _ (c .before .if3 .left);
+      opened = record { whole = c .before .before .before .before .if1 .left; holds = sym (c .before .before .is-graph .ensures) ∙ not-false _ (c .before .if3 .left) };
       large = c .before .before .before .if2 .left;
     }
 
