@@ -11,7 +11,7 @@ use Rattle.model.specs.Graph.{Graph}
 use Rattle.model.specs.Refusals.{refusalNumber, Question, ask, refusal}
 use Rattle.model.specs.Calls.{Outcome, unchanged, settled, decided}
 use Rattle.model.specs.Arena.{arenaBytes, decode, encode, holdsGraph}
-use Rattle.model.specs.ArenaCalls.{isArena, Opened, onArena, Wrote, askArena, valueUnless, Answered}
+use Rattle.model.specs.ArenaCalls.{isArena, Opened, onArena, Wrote, askArena, valueUnless, Answers, Answered}
 use Rattle.model.specs.declared.Refusal.{Refusal}
 use Rattle.model.specs.declared.Refusal.the-variants.{Size, NotAGraph, NodeZero, Node as NodeNumber, Path, Kind, Capacity, NotSiblings, NoOrder, NotOrdered, EraseSet, Snapshot}
 use Rattle.model.specs.declared.Numbered.{Numbered}
@@ -35,14 +35,14 @@ refusal-some EraseSet e = omega arith
 refusal-some Snapshot e = omega arith
 
 module _ (questions : List Question) (value : ℕ) where
-  pub answered-refused : (r : Refusal) → refusalNumber r ≡ refusal questions → Answered questions value (NumberRefused r)
+  pub answered-refused : (r : Refusal) → refusalNumber r ≡ refusal questions → Answers questions value (refusalNumber r) 0
   answered-refused r e = record { refused = e; value = go (refusal questions) e }
     where
       go : (k : ℕ) → refusalNumber r ≡ k → 0 ≡ valueUnless k value
       go zero z = absurd (refusal-some r z)
       go (suc k) z = refl
 
-  pub answered-number : (n : ℕ) → refusal questions ≡ 0 → n ≡ value → Answered questions value (Number n)
+  pub answered-number : (n : ℕ) → refusal questions ≡ 0 → n ≡ value → Answers questions value 0 n
   answered-number n e v = record { refused = sym e; value = v ∙ ap (λ (k : ℕ). valueUnless k value) (sym e) }
 
 -- ---- Questions 1 and 2
@@ -77,8 +77,9 @@ module _ (bs : List ℕ) where
       go false h e = e
 
 -- a call that puts its own questions to an arena that holds a graph puts them all
-pub answered-more : (bs : List ℕ) (qs : List Question) (value : ℕ) (r : Numbered) → Opened bs → Answered qs value r → Answered (askArena bs qs) value r
-answered-more bs qs value r o a =
+pub answered-more : (bs : List ℕ) (qs : List Question) (value : ℕ) {number given : ℕ} → Opened bs → Answers qs value number given
+    → Answers (askArena bs qs) value number given
+answered-more bs qs value o a =
     record {
       refused = a .refused ∙ sym (asked-on bs qs o);
       value = a .value ∙ ap (λ (k : ℕ). valueUnless k value) (sym (asked-on bs qs o));

@@ -7,8 +7,11 @@ use Rattle.model.specs.declared.Numbered.{Numbered}
 use Rattle.model.specs.declared.Numbered.the-variants.{Number, Refused as NumberRefused}
 use Rattle.model.specs.declared.Compared.{Compared}
 use Rattle.model.specs.declared.Compared.the-variants.{As, Refused as CompareRefused}
+use Rattle.model.specs.declared.Tested.{Tested}
+use Rattle.model.specs.declared.Tested.the-variants.{Is, Refused as TestRefused}
 use Rattle.model.specs.declared.Finished.{Finished}
 use Rattle.model.specs.declared.Finished.the-variants.{Done, Refused as FinishRefused}
+use Rattle.model.specs.Lists.{bit}
 use Rattle.model.specs.Refusals.{refusalNumber}
 
 abbrev pub numberedRefusal : Numbered → ℕ
@@ -32,6 +35,15 @@ comparedRefusal (CompareRefused r) = refusalNumber r
 abbrev pub comparedValue : Compared → ℕ
 comparedValue (As o) = orderingNumber o
 comparedValue (CompareRefused r) = 0
+
+abbrev pub testedRefusal : Tested → ℕ
+testedRefusal (Is b) = 0
+testedRefusal (TestRefused r) = refusalNumber r
+
+-- 1 for yes and 0 for no
+abbrev pub testedValue : Tested → ℕ
+testedValue (Is b) = bit b
+testedValue (TestRefused r) = 0
 
 abbrev pub finishedRefusal : Finished → ℕ
 finishedRefusal Done = 0

@@ -10,8 +10,12 @@ use Rattle.model.specs.Graph.{Graph, emptyGraph}
 use Rattle.model.specs.Refusals.{Question, ask, refusal}
 use Rattle.model.specs.Calls.{Outcome, unchanged}
 use Rattle.model.specs.Arena.{arenaBytes, countIn, decode, encode, holdsGraph}
-use Rattle.model.specs.Answers.{numberedRefusal, numberedValue}
+use Rattle.model.specs.Lists.{bit}
+use Rattle.model.specs.Answers.{numberedRefusal, numberedValue, orderingNumber, comparedRefusal, comparedValue, testedRefusal, testedValue}
+use Rattle.model.specs.declared.Ordering.{Ordering}
 use Rattle.model.specs.declared.Numbered.{Numbered}
+use Rattle.model.specs.declared.Compared.{Compared}
+use Rattle.model.specs.declared.Tested.{Tested}
 
 -- question 1: "Has each lent buffer the size docs/ gives its use"
 abbrev pub isArena : List ℕ → Bool
@@ -55,7 +59,16 @@ abbrev pub valueUnless : ℕ → ℕ → ℕ
 valueUnless zero value = value
 valueUnless (suc number) value = 0
 
--- the answer of a call that puts these questions and gives this value
-pub record Answered (questions : List Question) (answer : ℕ) (r : Numbered) : Type 0 where
-  pub refused : numberedRefusal r ≡ refusal questions
-  pub value : numberedValue r ≡ valueUnless (refusal questions) answer
+-- the refusal and the value of a call that puts these questions and gives this answer
+pub record Answers (questions : List Question) (answer number given : ℕ) : Type 0 where
+  pub refused : number ≡ refusal questions
+  pub value : given ≡ valueUnless (refusal questions) answer
+
+abbrev pub Answered : List Question → ℕ → Numbered → Type 0
+Answered questions answer r = Answers questions answer (numberedRefusal r) (numberedValue r)
+
+abbrev pub AnsweredOrder : List Question → Ordering → Compared → Type 0
+AnsweredOrder questions answer r = Answers questions (orderingNumber answer) (comparedRefusal r) (comparedValue r)
+
+abbrev pub AnsweredTest : List Question → Bool → Tested → Type 0
+AnsweredTest questions answer r = Answers questions (bit answer) (testedRefusal r) (testedValue r)

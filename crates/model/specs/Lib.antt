@@ -15,4 +15,5 @@ pub mod Refusals
 pub mod Answers
 pub mod Calls
 pub mod Arena
+pub mod Hierarchy
 pub mod ArenaCalls

@@ -96,6 +96,12 @@ pub enum Compared {
     Refused(Refusal),
 }
 
+// The answer of a test of one node or of two.
+pub enum Tested {
+    Is(bool),
+    Refused(Refusal),
+}
+
 // The answer of a call that gives nothing.
 pub enum Finished {
     Done,

@@ -1,4 +1,4 @@
--- What the fields of an arena that holds a graph say of it: of one node (`shown`, `depth-read`), of the header (`graph-shown`) and of all nodes one after
+-- What the fields of an arena that holds a graph say of it: of one node (`shown`), of the header (`graph-shown`) and of all nodes one after
 -- the other (`lowest-starts`, `lowest-steps`, `lowest-ends`). Assumes nothing.
 use mathlib.Core.Path.{_≡_, refl, sym, ap, _∙_}
 use mathlib.Core.Bool.{Bool, true, false, not, cond}
@@ -8,20 +8,19 @@ use native.Mathlib.Omega.{arith}
 use native.Mathlib.Numerals.{add-one}
 use lib.Dec.{eqb}
 use lib.ListN.{length}
-use borrow.Author.Tests.{eq-eqb, ne-eqb, eqb-true, eqb-false}
+use borrow.Author.Tests.{eqb-true, eqb-false}
 use Rattle.model.specs.Lists.{anyBelow}
-use Rattle.model.specs.Path.{primCount}
 use Rattle.model.specs.Node as model
 use Rattle.model.specs.Node.{invalid}
-use Rattle.model.specs.Graph.{nodeAt, isLocalRoot, depthBelowIntroduction, usesSite, siteFrom, nodeUsingSite}
-use Rattle.model.specs.Arena.{countIn, primCountIn, nodeIn, tabulate, localRootBelow, localRootOf, localRootIn, orderedIn, finalizedIn, shallowIn, decode}
+use Rattle.model.specs.Graph.{isLocalRoot, usesSite, siteFrom, nodeUsingSite}
+use Rattle.model.specs.Arena.{countIn, nodeIn, tabulate, localRootBelow, localRootOf, localRootIn, orderedIn, finalizedIn, shallowIn, decode}
 use Rattle.model.specs.ArenaCalls.{Opened, Readable}
 use Rattle.arena.specs.declared.Node.{Node}
-use Rattle.arena.specs.Slot.{Loaded, parentIn, depthIn}
+use Rattle.arena.specs.Slot.{Loaded}
 use Rattle.arena.proofs.SlotLaws.{loaded-node, path-length}
-use Rattle.arena.proofs.HeldArenas.{held, held-chain}
+use Rattle.arena.proofs.HeldArenas.{held-chain}
 use Rattle.arena.proofs.ArenaBack.{children-decode, next-decode}
-use Rattle.arena.proofs.ReadNodes.{sizes, all, has-path, node-read, fields-read, parent-read, root-found, root-held}
+use Rattle.arena.proofs.ReadNodes.{sizes, all, has-path, node-read, root-found, root-held}
 use Rattle.queries.specs.declared.GraphInfo.{GraphInfo}
 use Rattle.queries.specs.Queries.{NodeShown, localRootOr, GraphShown}
 
@@ -41,23 +40,6 @@ shown bs n r x l =
       «prim-count» = rw (node-read bs n r) (l .«prim_count» ∙ node .prim-count);
       «record-length» = rw (node-read bs n r) (l .«record_length» ∙ path-length bs n (has-path bs n r));
     }
-
--- the depth below introduction by the fields that are read
-pub depth-read : (bs : List ℕ) (n : ℕ) → Readable bs n → 0 < n
-    → depthBelowIntroduction (decode bs .nodes) n ≡ primCountIn bs (parentIn bs n) - depthIn bs n
-unfolding depthBelowIntroduction
-depth-read bs n r h =
-    let parent : nodeAt (decode bs .nodes) n .parent ≡ parentIn bs n = ap (λ (x : model.Node). x .parent) (node-read bs n r) ∙ fields-read bs n r .parent in
-    let depth : nodeAt (decode bs .nodes) n .depth ≡ depthIn bs n = ap (λ (x : model.Node). x .depth) (node-read bs n r) ∙ fields-read bs n r .depth in
-    let above = parent-read bs n r h in
-    let prims : primCount (nodeAt (decode bs .nodes) (parentIn bs n) .path) ≡ primCountIn bs (parentIn bs n) =
-    ap (λ (x : model.Node). primCount (x .path)) (node-read bs (parentIn bs n) above)
-    ∙ sym (held bs (r .opened .holds) .node (parentIn bs n) (above .below) .prim-count) in
-    rw (ne-eqb n 0 (λ z. omega arith), parent, depth, prims)
-
-pub depth-of-0 : (bs : List ℕ) (n : ℕ) → n ≡ 0 → depthBelowIntroduction (decode bs .nodes) n ≡ 0
-unfolding depthBelowIntroduction
-depth-of-0 bs n e = rw (eq-eqb n 0 e)
 
 -- ---- The header
 

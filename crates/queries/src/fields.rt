@@ -5,11 +5,10 @@ use model::Numbered;
 use model::Refusal;
 ghost use mathlib.Core.Path.{_≡_};
 ghost use mathlib.Core.List.{[], _∷_};
-ghost use Prim.Native.Nat.{_-_, _≤_};
 ghost use lib.Dec.{ltb};
 ghost use Rattle.model.specs.Answers.{finishedRefusal};
 ghost use Rattle.model.specs.Arena.{decode};
-ghost use Rattle.model.specs.ArenaCalls.{Readable, askArena, Answered};
+ghost use Rattle.model.specs.ArenaCalls.{askArena, Answered};
 ghost use Rattle.model.specs.Calls.{readsNode};
 ghost use Rattle.model.specs.Graph.{nodeAt, depthBelowIntroduction, pathAtIntroduction};
 ghost use Rattle.model.specs.Refusals.{ask, refusal};
@@ -61,35 +60,13 @@ pub fn path(arena: &[u8], n: u32) -> &[u8]
     arena::path(arena, n)
 }
 
-// The prims of the parent's path that were there when the node was introduced, taken from all of them; 0 where there were more.
-fn less(prims: u8, depth: u16) -> u16
-    ensures { λ r. ⌜ (r ≡ prims - depth) × (r ≤ 255) ⌝ }
-{
-    if (prims as u16) < depth {
-        return 0;
-    }
-    prims as u16 - depth
-}
-
-// The depth below introduction of a node.
-fn depth_below(arena: &[u8], n: u32) -> u16
-    requires { ⌜ Readable (now arena) n ⌝ }
-    ensures { λ r. ⌜ r ≡ depthBelowIntroduction (decode (now (arena .entry)) .nodes) n ⌝ }
-{
-    if n == 0 {
-        return 0;
-    }
-    let parent = arena::parent(arena, n);
-    less(arena::prim_count(arena, parent), arena::depth(arena, n))
-}
-
 // The parent's prim count less the node's depth, at least 0. Refused 1 to 4.
 pub fn depth_below_introduction(arena: &[u8], n: u32) -> Numbered
     ensures { λ r. ⌜ Answered (askArena (now (arena .entry)) (readsNode (decode (now (arena .entry))) n)) (depthBelowIntroduction (decode (now (arena .entry)) .nodes) n) r ⌝ }
 {
     let asked = ask_node(arena, n);
     match asked {
-        Finished::Done => Numbered::Number(depth_below(arena, n) as u32),
+        Finished::Done => Numbered::Number(view::depth_below(arena, n) as u32),
         Finished::Refused(refusal) => Numbered::Refused(refusal),
     }
 }
@@ -103,6 +80,6 @@ pub fn path_at_introduction(arena: &[u8], n: u32) -> &[u8]
     let Finished::Done = asked else {
         return &arena[..0];
     };
-    let depth = depth_below(arena, n);
+    let depth = view::depth_below(arena, n);
     path::path_at_intro_depth(arena::path(arena, n), depth)
 }

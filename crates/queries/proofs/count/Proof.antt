@@ -4,6 +4,7 @@ use mathlib.Core.List.{[]}
 use lib.ListN.{length}
 use Rattle.model.specs.Arena.{arenaBytes}
 use borrow.Author.Tests.{eq-eqb, ne-eqb, not-true, not-false}
+use Rattle.model.specs.declared.Refusal.the-variants.{Size, NotAGraph}
 use Rattle.model.proofs.ArenaCallLaws.{answered-refused, answered-number, not-arena, not-graph}
 use Rattle.queries.proofs.count.Statement.{statement}
 use Rattle.queries.proofs.count.Tie as tie
@@ -11,7 +12,7 @@ use Rattle.queries.proofs.count.Tie as tie
 returns : tie.Need-returns
 returns c =
     let bs = c .before .before .args .arena .now in
-    answered-refused _ _ _ (sym (not-arena bs [] (ne-eqb (length bs) arenaBytes (c .if1 .taken))))
+    answered-refused _ _ Size (sym (not-arena bs [] (ne-eqb (length bs) arenaBytes (c .if1 .taken))))
 
 is-graph-requires : tie.Need-is-graph-requires
 is-graph-requires c κs = c .if1 .left
@@ -19,7 +20,7 @@ is-graph-requires c κs = c .if1 .left
 returns-2 : tie.Need-returns-2
 returns-2 c =
     let bs = c .before .before .before .before .args .arena .now in
-    answered-refused _ _ _
+    answered-refused _ _ NotAGraph
     (sym (not-graph bs [] (eq-eqb (length bs) arenaBytes (c .before .before .if1 .left)) (sym (c .before .is-graph .ensures) ∙ not-true _ (c .if2 .taken))))
 
 count-requires : tie.Need-count-requires

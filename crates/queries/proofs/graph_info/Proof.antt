@@ -34,7 +34,7 @@ returns-2 : tie.Need-returns-2
 returns-2 c =
     let bs = c .before .before .before .before .before .args .arena .now in
     no-graph bs _
-    (count-refused bs (countIn bs) _ (rw (c .before .counted2 .given .1) at (c .before .before .before .count .ensures)) [])
+    (count-refused bs (countIn bs) (c .before .counted2 .given .0 .0) (rw (c .before .counted2 .given .1) at (c .before .before .before .count .ensures)) [])
 
 pub graph-info-spec : {M : Type 1} → statement M
 graph-info-spec =

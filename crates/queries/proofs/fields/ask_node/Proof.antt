@@ -42,7 +42,7 @@ returns c =
 returns-2 : tie.Need-returns-2
 returns-2 c =
     let bs = c .before .before .before .before .before .args .arena .now in
-    count-refused bs (countIn bs) _ (rw (c .before .counted2 .given .1) at (c .before .before .before .count .ensures))
+    count-refused bs (countIn bs) (c .before .counted2 .given .0 .0) (rw (c .before .counted2 .given .1) at (c .before .before .before .count .ensures))
     (readsNode (decode bs) (c .before .before .before .before .before .args .n))
 
 pub ask-node-spec : {M : Type 1} → statement M

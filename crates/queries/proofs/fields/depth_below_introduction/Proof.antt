@@ -27,10 +27,10 @@ enum-known-asked : tie.Need-enum-known-asked
 enum-known-asked c = search needs
 
 returns : tie.Need-returns
-returns c = answered-number _ _ _ (sym (rw (c .before .enum-told .given .1) at (c .before .before .before .ask-node .ensures))) (c .depth-below .ensures)
+returns c = answered-number _ _ _ (sym (rw (c .before .enum-told .given .1) at (c .before .before .before .ask-node .ensures))) (c .depth-below .ensures .0)
 
 returns-2 : tie.Need-returns-2
-returns-2 c = answered-refused _ _ _ (rw (c .before .asked .given .1) at (c .before .before .before .ask-node .ensures))
+returns-2 c = answered-refused _ _ (c .before .asked .given .0 .0) (rw (c .before .asked .given .1) at (c .before .before .before .ask-node .ensures))
 
 pub depth-below-introduction-spec : {M : Type 1} → statement M
 depth-below-introduction-spec =

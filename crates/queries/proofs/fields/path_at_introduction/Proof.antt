@@ -53,7 +53,7 @@ returns-2 c =
     let n = c .before .before .before .before .before .before .before .args .n in
     let path = c .before .path .ensures ∙ ap (λ (x : Node). x .path) (sym (node-read bs n (reads-it (c .before .before .before)))) in
     c .path-at-intro-depth .ensures
-    ∙ ap (λ (d : ℕ). pathAtIntroDepth d (c .before .path .result .now)) (c .before .before .depth-below .ensures)
+    ∙ ap (λ (d : ℕ). pathAtIntroDepth d (c .before .path .result .now)) (c .before .before .depth-below .ensures .0)
     ∙ ap (pathAtIntroDepth (depthBelowIntroduction (decode bs .nodes) n)) path
     ∙ handed-on (askArena bs (readsNode (decode bs) n)) (pathAtIntroduction (decode bs .nodes) n) (sym (rw (c .before .before .before .enum-told .given .1) at (c .before .before .before .before .before .ask-node .ensures)))
 

@@ -5,6 +5,7 @@ use native.Mathlib.Omega.{arith}
 use borrow.Author.Tests.{lt-ltb, le-ltb, not-true, not-false}
 use Rattle.model.specs.Graph.{size}
 use Rattle.model.specs.Arena.{decode}
+use Rattle.model.specs.declared.Refusal.the-variants.{NodeZero, Path}
 use Rattle.model.proofs.ArenaCallLaws.{answered-refused, answered-number}
 use Rattle.arena.proofs.ReadNodes.{sizes}
 use Rattle.queries.proofs.sites.lowest_asked.Statement.{statement}
@@ -13,7 +14,7 @@ use Rattle.queries.proofs.sites.lowest_asked.Tie as tie
 returns : tie.Need-returns
 returns c =
     let g = decode (c .before .before .before .args .arena .now) in
-    answered-refused _ _ _ (rw (le-ltb 0 (size g) (omega (arith, sizes _ (c .before .before .before .pre .0), c .before .before .before .pre .1, c .if1 .taken))))
+    answered-refused _ _ NodeZero (rw (le-ltb 0 (size g) (omega (arith, sizes _ (c .before .before .before .pre .0), c .before .before .before .pre .1, c .if1 .taken))))
 
 is-well-formed-requires : tie.Need-is-well-formed-requires
 is-well-formed-requires c κs = search needs
@@ -21,7 +22,7 @@ is-well-formed-requires c κs = search needs
 returns-2 : tie.Need-returns-2
 returns-2 c =
     let g = decode (c .before .before .before .before .before .args .arena .now) in
-    answered-refused _ _ _
+    answered-refused _ _ Path
     (rw (
       lt-ltb 0 (size g) (omega (arith, sizes _ (c .before .before .before .before .before .pre .0), c .before .before .before .before .before .pre .1, c .before .before .if1 .left)),
       sym (c .before .is-well-formed .ensures) ∙ not-true _ (c .if2 .taken),

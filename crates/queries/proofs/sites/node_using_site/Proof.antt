@@ -27,13 +27,13 @@ enum-known-counted-2 : tie.Need-enum-known-counted-2
 enum-known-counted-2 c = search needs
 
 returns : tie.Need-returns
-returns c = answered-more _ _ _ _ (opened (c .before) .0) (c .lowest-asked .ensures)
+returns c = answered-more _ _ _ (opened (c .before) .0) (c .lowest-asked .ensures)
 
 returns-2 : tie.Need-returns-2
 returns-2 c =
     let bs = c .before .before .before .before .before .before .args .arena .now in
-    answered-refused _ _ _
-    (count-refused bs (countIn bs) _ (rw (c .before .counted2 .given .1) at (c .before .before .before .count .ensures)) (usesSite (decode bs) (c .before .before .before .before .before .before .args .path .now)))
+    answered-refused _ _ (c .before .counted2 .given .0 .0)
+    (count-refused bs (countIn bs) (c .before .counted2 .given .0 .0) (rw (c .before .counted2 .given .1) at (c .before .before .before .count .ensures)) (usesSite (decode bs) (c .before .before .before .before .before .before .args .path .now)))
 
 pub node-using-site-spec : {M : Type 1} → statement M
 node-using-site-spec =
