@@ -1,6 +1,6 @@
--- Walks by `next` to lower nodes: `follow`, `steps` and `chain` of specs/Strength.antt, each as one `foldUpTo`. `fold-alike`: a walk whose steps
--- look the same under new numbers comes to the same, with any fuel that is enough on either side. One walk and its own numbers: fuel does not
--- matter, so a walk stops, or takes its step and goes on from there, with no fuel in the law. Assumes nothing.
+-- Walks by `next` to lower nodes: `follow`, `steps` and `chain` of specs/Strength.antt and `leftUpTo` of specs/Hierarchy.antt, each as one
+-- `foldUpTo`. `fold-alike`: a walk whose steps look the same under new numbers comes to the same, with any fuel that is enough on either side. One
+-- walk and its own numbers: fuel does not matter, so a walk stops, or takes its step and goes on from there, with no fuel in the law. Assumes nothing.
 use mathlib.Core.Path.{_≡_, refl, sym}
 use mathlib.Core.Bool.{Bool, true, false, _||_, cond, or-true, or-false}
 use mathlib.Core.List.{[], _∷_, _++_, map, map-append}
@@ -8,9 +8,11 @@ use Prim.Native.Nat.{ℕ, zero, suc, _≤_, _<_}
 use native.Mathlib.Omega.{arith}
 use lib.Dec.{eqb}
 use borrow.Author.Tests.{eqb-false, ne-eqb}
+use Rattle.model.specs.Node.{invalid}
 use Rattle.model.specs.Strength.{followUpTo, follow, stepsUpTo, steps, chainUpTo, chain}
+use Rattle.model.specs.Hierarchy.{laterOr, leftUpTo}
 
--- ---- One walk for the three
+-- ---- One walk for the four
 
 -- `last` is made of the node where it ends, `more` of each node that it leaves and of what comes after
 abbrev foldUpTo : {A : Type 0} → (ℕ → Bool) → (ℕ → ℕ) → (ℕ → A) → (ℕ → A → A) → ℕ → ℕ → A
@@ -28,6 +30,10 @@ steps-fold stop next (suc k) m = rw (steps-fold stop next k (next m))
 chain-folds : (next : ℕ → ℕ) (k m : ℕ) → chainUpTo next k m ≡ foldUpTo (λ c. false) next (λ c. c ∷ []) (λ c x. x ++ (c ∷ [])) k m
 chain-folds next zero m = refl
 chain-folds next (suc k) m = rw (or-false, chain-folds next k (next m))
+
+left-folds : (stop : ℕ → Bool) (next : ℕ → ℕ) (k m : ℕ) → leftUpTo stop next k m ≡ foldUpTo stop next (λ c. invalid) laterOr k m
+left-folds stop next zero m = refl
+left-folds stop next (suc k) m = rw (left-folds stop next k (next m))
 
 -- node 0 ends a walk, with any fuel
 fold-zero : {A : Type 0} (stop : ℕ → Bool) (next : ℕ → ℕ) (last : ℕ → A) (more : ℕ → A → A) (k : ℕ) → foldUpTo stop next last more k 0 ≡ last 0
@@ -136,6 +142,10 @@ module _ {n : ℕ} {next : ℕ → ℕ} (falls : Falls n next) where
   pub steps-step : (stop : ℕ → Bool) (m : ℕ) → 0 < m → m < n → stop m ≡ false → steps stop next m ≡ suc (steps stop next (next m))
   steps-step stop m h p e = rw (steps-fold stop next m m, steps-fold stop next (next m) (next m)) (fold-step stop _ _ m h p e)
 
+  pub left-step : (stop : ℕ → Bool) (m : ℕ) → 0 < m → m < n → stop m ≡ false
+      → leftUpTo stop next m m ≡ laterOr m (leftUpTo stop next (next m) (next m))
+  left-step stop m h p e = rw (left-folds stop next m m, left-folds stop next (next m) (next m)) (fold-step stop _ _ m h p e)
+
   pub chain-step : (m : ℕ) → 0 < m → m < n → chain next m ≡ chain next (next m) ++ (m ∷ [])
   chain-step m h p = rw (chain-folds next m m, chain-folds next (next m) (next m)) (fold-step (λ c. false) _ _ m h p refl)
 
@@ -148,6 +158,10 @@ module _ (stop : ℕ → Bool) (next : ℕ → ℕ) where
   pub steps-stop : (m : ℕ) → stop m ≡ true → steps stop next m ≡ 0
   steps-stop zero e = refl
   steps-stop (suc m) e = rw (e, or-true)
+
+  pub left-stop : (m : ℕ) → stop m ≡ true → leftUpTo stop next m m ≡ invalid
+  left-stop zero e = refl
+  left-stop (suc m) e = rw (e, or-true)
 
   pub follow-zero : follow stop next 0 ≡ 0
   follow-zero = refl
