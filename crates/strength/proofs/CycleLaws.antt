@@ -1,0 +1,55 @@
+-- The two comparisons' answers from their parts: a verdict on two siblings, and where the chains of two nodes part. Assumes nothing.
+use mathlib.Core.Path.{_≡_, sym, ap, _∙_}
+use mathlib.Core.List.{List}
+use Prim.Native.Nat.{ℕ, _+_, _≤_, _<_}
+use native.Mathlib.Omega.{arith}
+use Rattle.model.specs.declared.Ordering.{Ordering}
+use Rattle.model.specs.Strength.{View, compareSiblingNodeStrength, compareNodeStrength, siblingLines}
+use Rattle.model.proofs.StrengthLaws.{compare-siblings-lines}
+use Rattle.view.specs.View.{viewIn, Standing}
+use Rattle.view.proofs.ViewLaws.{legal, standing-lower}
+use Rattle.walks.specs.declared.parting.Parting.{Parting}
+use Rattle.walks.specs.declared.parting.Parting.the-variants.{Apart}
+use Rattle.walks.specs.Walks.{Siblings, comparedAt, Parts}
+use Rattle.strength.specs.declared.lines.Verdict.{Verdict}
+use Rattle.strength.specs.declared.lines.Verdict.the-variants.{Ask}
+use Rattle.strength.specs.Verdicts.{Pair, resolve, Weighed}
+
+-- ---- Siblings: `v` is what the lines say, `w` its form that was matched
+
+pub siblings-resolved : {bs : List ℕ} {root a b : ℕ} → Pair bs root a b → (v w : Verdict) → v ≡ w → Weighed (siblingLines (viewIn bs)) bs a b v
+    → resolve (compareNodeStrength (viewIn bs)) w ≡ compareSiblingNodeStrength (viewIn bs) a b
+siblings-resolved {bs} {root} {a} {b} pair v w told weighed =
+    let u = viewIn bs in
+    ap (resolve (compareNodeStrength u)) (sym told) ∙ weighed .agrees (compareNodeStrength u)
+    ∙ sym (compare-siblings-lines (legal bs (pair .left .readable .opened)) a b (pair .left-above) (pair .right-above) (pair .left .readable .below) (pair .right .readable .below))
+
+-- the nodes asked stand in the graph, and their sum is lower
+pub asked-lower : {bs : List ℕ} {root a b : ℕ} → Pair bs root a b → (v : Verdict) {x y : ℕ} {o : Ordering} → v ≡ Ask x y o
+    → Weighed (siblingLines (viewIn bs)) bs a b v → Standing bs root x × Standing bs root y × (x + y < a + b)
+asked-lower pair v told weighed =
+    let asks = rw told at (weighed .asks) in (
+      record { readable = asks .0; root-read = pair .left .root-read },
+      record { readable = asks .1; root-read = pair .left .root-read },
+      asks .2,
+    )
+
+-- ---- Nodes: `p` is where their chains part, `q` its form that was matched
+
+pub nodes-compared : (u : View) (a b : ℕ) (p q : Parting) → p ≡ q → Parts u a b p
+    → comparedAt (compareSiblingNodeStrength u) q ≡ compareNodeStrength u a b
+nodes-compared u a b p q told parts = ap (comparedAt (compareSiblingNodeStrength u)) (sym told) ∙ sym (parts .compares)
+
+pub parted-pair : {bs : List ℕ} {root a b : ℕ} → Standing bs root a → Standing bs root b → (p : Parting) {x y : ℕ} → p ≡ Apart x y → Parts (viewIn bs) a b p
+    → Pair bs root x y × (x + y ≤ a + b)
+parted-pair {bs} {root} {a} {b} left right p {x} {y} told parts =
+    let siblings : Siblings (viewIn bs) a b x y = rw told at (parts .apart) in (
+      record {
+        left = standing-lower bs root a x left (siblings .left .1);
+        right = standing-lower bs root b y right (siblings .right .1);
+        left-above = siblings .left .0;
+        right-above = siblings .right .0;
+        parents = siblings .parents;
+      },
+      omega (arith, siblings .left, siblings .right),
+    )

@@ -1,0 +1,40 @@
+// The strength of two nodes: `compare_node_strength` and `compare_sibling_node_strength`, a cycle of two functions that ask each other about lower nodes.
+// Document 01's lists of lines stand outside the cycle, in lines.rt and specializes.rt: they settle two siblings, or say which two nodes to ask. It
+// never refuses and never writes: the nodes are of the graph that the arena holds, which callers prove; crates/comparing has the calls that put the
+// questions. `root` is the local root's number, 0 for none.
+// The definitions are in model/specs/Strength.antt; specs/Verdicts.antt says what an unsettled answer means.
+mod lines;
+mod orderings;
+mod specializes;
+
+pub use lines::Verdict;
+use model::Ordering;
+use walks::Parting;
+ghost use mathlib.Core.Path.{_≡_};
+ghost use Rattle.model.specs.Strength.{compareSiblingNodeStrength, compareNodeStrength};
+ghost use Rattle.view.specs.View.{viewIn, Standing};
+ghost use Rattle.strength.specs.Verdicts.{Pair};
+
+// Which of two siblings is the stronger.
+pub fn compare_sibling_node_strength(arena: &[u8], root: u32, a: u32, b: u32) -> Ordering
+    requires { ⌜ Pair (now arena) root a b ⌝ }
+    ensures { λ r. ⌜ r ≡ compareSiblingNodeStrength (viewIn (now (arena .entry))) a b ⌝ }
+{
+    match lines::weigh(arena, root, a, b) {
+        Verdict::Settled(o) => o,
+        Verdict::Ask(x, y, o) => orderings::or_else(compare_node_strength(arena, root, x, y), o),
+    }
+}
+
+// Which of two nodes is the stronger.
+pub fn compare_node_strength(arena: &[u8], root: u32, a: u32, b: u32) -> Ordering
+    requires { ⌜ Standing (now arena) root a × Standing (now arena) root b ⌝ }
+    ensures { λ r. ⌜ r ≡ compareNodeStrength (viewIn (now (arena .entry))) a b ⌝ }
+{
+    match walks::part_chains(arena, a, b) {
+        Parting::Same => Ordering::Equal,
+        Parting::Above => Ordering::Less,
+        Parting::Below => Ordering::Greater,
+        Parting::Apart(x, y) => compare_sibling_node_strength(arena, root, x, y),
+    }
+}
