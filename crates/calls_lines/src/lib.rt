@@ -1,5 +1,5 @@
 // The answer to any line of the command `calls`, and the two arenas that the lines work on. The lines about both arenas are here; the other lines
-// are answered by the crates `calls_make`, `calls_look`, `calls_dump` and `calls_paths`. No function has a `requires`.
+// are answered by the crates `calls_make`, `calls_look`, `calls_compare`, `calls_dump` and `calls_paths`. No function has a `requires`.
 use calls_text::Answered;
 use calls_text::bad_line;
 use calls_text::is_call;
@@ -72,8 +72,17 @@ fn answer_on(line: &[u8], arena: &mut [u8], out: &mut [u8], used: usize) -> usiz
     if let Answered::Used(end) = made {
         return end;
     }
+    answer_seen(line, arena, out, used)
+}
+
+// The answer to a line that leaves the arena as it is.
+fn answer_seen(line: &[u8], arena: &[u8], out: &mut [u8], used: usize) -> usize {
     let seen = calls_look::answer(line, arena, out, used);
     if let Answered::Used(end) = seen {
+        return end;
+    }
+    let compared = calls_compare::answer(line, arena, out, used);
+    if let Answered::Used(end) = compared {
         return end;
     }
     let printed = calls_dump::answer(line, arena, out, used);

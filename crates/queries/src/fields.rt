@@ -28,7 +28,7 @@ fn ask_below(count: u32, n: u32) -> Finished
 }
 
 // Questions 1 to 4: whether node n can be read.
-fn ask_node(arena: &[u8], n: u32) -> Finished
+pub fn ask_node(arena: &[u8], n: u32) -> Finished
     ensures { λ r. ⌜ finishedRefusal r ≡ refusal (askArena (now (arena .entry)) (readsNode (decode (now (arena .entry))) n)) ⌝ }
 {
     let counted = crate::count(arena);

@@ -6,6 +6,7 @@
 mod fields;
 mod sites;
 
+pub use fields::ask_node;
 pub use fields::depth_below_introduction;
 pub use fields::node;
 pub use fields::path;

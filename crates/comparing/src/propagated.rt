@@ -1,0 +1,52 @@
+// The copy of a specializes node under the local root.
+ghost use mathlib.Core.Path.{_≡_};
+ghost use Rattle.model.specs.Arena.{decode, childrenIn};
+ghost use Rattle.model.specs.Hierarchy.{firstIn, getPropagatedSpecializesNode};
+ghost use Rattle.view.specs.View.{viewIn, Standing};
+ghost use Rattle.comparing.specs.Comparisons.{isCopy};
+
+// Whether `child` is a propagated specializes whose origin is node n.
+fn is_copy(arena: &[u8], root: u32, n: u32, child: u32) -> bool
+    requires { ⌜ Standing (now arena) root child ⌝ }
+    ensures { λ r. ⌜ r ≡ isCopy (viewIn (now (arena .entry))) n child ⌝ }
+{
+    if view::origin(arena, child) != n {
+        return false;
+    }
+    view::is_propagated_specializes(arena, root, child)
+}
+
+// The first such child of the local root; 4,294,967,295 where there is none. A child list has no more nodes than the graph.
+fn first_copy(arena: &[u8], root: u32, n: u32) -> u32
+    requires { ⌜ Standing (now arena) root root ⌝ }
+    ensures { λ r. ⌜ r ≡ firstIn (isCopy (viewIn (now (arena .entry))) n) (childrenIn (now (arena .entry)) root) ⌝ }
+{
+    let count = arena::count(arena);
+    let mut child = arena::first_child(arena, root);
+    let mut left = count;
+    while 0 < left {
+        if child >= count {
+            return 4294967295;
+        }
+        if is_copy(arena, root, n, child) {
+            return child;
+        }
+        child = arena::next_sibling(arena, child);
+        left -= 1;
+    }
+    4294967295
+}
+
+// The propagated specializes under the local root whose origin is node n, itself a Specialize; 4,294,967,295 where there is none.
+pub(crate) fn find_copy(arena: &[u8], root: u32, n: u32) -> u32
+    requires { ⌜ Standing (now arena) root n ⌝ }
+    ensures { λ r. ⌜ r ≡ getPropagatedSpecializesNode (decode (now (arena .entry))) n ⌝ }
+{
+    if view::arc(arena, n) != 6 {
+        return 4294967295;
+    }
+    if root == 0 {
+        return 4294967295;
+    }
+    first_copy(arena, root, n)
+}
