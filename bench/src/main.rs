@@ -4,6 +4,7 @@ mod graphs;
 mod paths;
 mod proved;
 mod snapshots;
+mod strength;
 mod time;
 
 use std::env;
@@ -12,6 +13,7 @@ use std::process::ExitCode;
 const USAGE: &str = "\
 usage: bench [paths]                measure reading paths
        bench graphs                 measure the check of an arena, snapshots and adding
+       bench strength               measure comparing nodes
        bench arenas SEED COUNT      compare the check on COUNT arenas, whole and damaged
        bench snapshots SEED COUNT   compare the reading of COUNT snapshots, whole and damaged";
 
@@ -21,6 +23,7 @@ fn main() -> ExitCode {
     let agreed = match words[..] {
         [] | ["paths"] => Some(paths::measure()),
         ["graphs"] => Some(graphs::measure()),
+        ["strength"] => Some(strength::measure()),
         ["arenas", seed, count] => on_numbers(seed, count, arenas::compare),
         ["snapshots", seed, count] => on_numbers(seed, count, snapshots::compare),
         _ => None,

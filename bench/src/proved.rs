@@ -7,6 +7,9 @@ unsafe extern "C" {
     fn bench_write_snapshot(arena: *const u8, alen: usize, out: *mut u8, olen: usize) -> u32;
     fn bench_init_root(arena: *mut u8, alen: usize, stack: u32, layer: u32, path: *const u8, plen: usize) -> u32;
     fn bench_add_child(arena: *mut u8, alen: usize, parent: u32, path: *const u8, plen: usize) -> u32;
+    fn bench_compare_node_strength(arena: *const u8, length: usize, a: u32, b: u32) -> u32;
+    fn bench_compare_pairs(arena: *const u8, alen: usize, pairs: *const u8, plen: usize) -> u64;
+    fn bench_compare_sibling_pairs(arena: *const u8, alen: usize, pairs: *const u8, plen: usize) -> u64;
 }
 
 /// The prim count, or 65,536 where the bytes are no path.
@@ -46,4 +49,19 @@ pub fn init_root(arena: &mut [u8], stack: u32, layer: u32, path: &[u8]) -> Resul
 /// The node's number.
 pub fn add_child(arena: &mut [u8], parent: u32, path: &[u8]) -> Result<u32, u32> {
     answer(unsafe { bench_add_child(arena.as_mut_ptr(), arena.len(), parent, path.as_ptr(), path.len()) })
+}
+
+/// Less is 0, Equal 1 and Greater 2.
+pub fn compare_node_strength(arena: &[u8], a: u32, b: u32) -> Result<u32, u32> {
+    answer(unsafe { bench_compare_node_strength(arena.as_ptr(), arena.len(), a, b) })
+}
+
+/// The sum of the comparisons of pairs of nodes, each pair two big-endian numbers.
+pub fn compare_pairs(arena: &[u8], pairs: &[u8]) -> u64 {
+    unsafe { bench_compare_pairs(arena.as_ptr(), arena.len(), pairs.as_ptr(), pairs.len()) }
+}
+
+/// The same of pairs of siblings.
+pub fn compare_sibling_pairs(arena: &[u8], pairs: &[u8]) -> u64 {
+    unsafe { bench_compare_sibling_pairs(arena.as_ptr(), arena.len(), pairs.as_ptr(), pairs.len()) }
 }

@@ -1,5 +1,5 @@
 //! The clock.
-use std::time::Instant;
+use std::time::{Duration, Instant};
 
 /// Nanoseconds for one of so many runs; there must be enough of them that the clock's own time does not count.
 fn turn(runs: usize, run: &mut impl FnMut()) -> f64 {
@@ -17,6 +17,17 @@ pub fn least(turns: usize, runs: usize, mut one: impl FnMut(), mut other: impl F
     both.fold((f64::MAX, f64::MAX), |least, both| (least.0.min(both.0), least.1.min(both.1)))
 }
 
+/// Nanoseconds for one run that takes long: the least of those made in a fifth of a second.
+pub fn least_for(mut run: impl FnMut()) -> f64 {
+    const LONG: Duration = Duration::from_millis(200);
+    let begun = Instant::now();
+    let mut least = f64::MAX;
+    while least == f64::MAX || begun.elapsed() < LONG {
+        least = least.min(turn(1, &mut run));
+    }
+    least
+}
+
 #[cfg(test)]
 mod tests {
     use std::cell::Cell;
@@ -27,5 +38,12 @@ mod tests {
         let (first, second) = super::least(7, 2, || one.set(one.get() + 1), || other.set(other.get() + 1));
         assert!(first < f64::MAX && second < f64::MAX);
         assert_eq!((one.get(), other.get()), (14, 14));
+    }
+
+    #[test]
+    fn turns_for_a_while() {
+        let runs = Cell::new(0);
+        let least = super::least_for(|| runs.set(runs.get() + 1));
+        assert!(runs.get() >= 1 && least < 1e9);
     }
 }

@@ -7,7 +7,7 @@ use crate::judge::{self, Judge};
 use crate::line::{self, Call};
 use crate::narrowing;
 use crate::pcp::layer_stack::LayerStackId;
-use crate::pcp::prim_graph::NodeId;
+use crate::pcp::prim_graph::{NodeId, PrimIndexGraph};
 use crate::record::Record;
 use crate::refusal::Refusal;
 use crate::sdf::Path;
@@ -72,6 +72,11 @@ impl Calls {
             Call::Compare(a, b) => self.compare(a, b),
             Call::Sibling(a, b) => self.sibling(a, b),
             Call::Compares => self.compares(),
+            Call::Ancestor(x, y) => self.test_pair(x, y, PrimIndexGraph::is_ancestor_of),
+            Call::Site(a, b) => self.test_pair(a, b, PrimIndexGraph::same_site),
+            Call::Propagated(node) => self.propagated(node),
+            Call::Copy(node) => self.copy(node),
+            Call::Class(node) => self.class(node),
             Call::Order => self.order(),
             Call::List => self.list(),
             Call::Cull => self.cull(),
@@ -102,18 +107,8 @@ impl Calls {
         Ok(number(self.current.add_child(parent, desc)))
     }
 
-    /// The records are added to a fresh graph in their order, so child lists come back in node order.
     fn read(&mut self, bytes: &[u8]) -> Result<String, Refusal> {
-        let mut filled = Judge::default();
-        for record in snapshot::decode(bytes)? {
-            if filled.graph().is_empty() {
-                filled.init_from(narrowing::record_0(&record)?);
-            } else {
-                let (parent, desc) = narrowing::later_record(filled.graph(), &record)?;
-                filled.add_child(parent, desc);
-            }
-        }
-        self.current = filled;
+        self.current = graph_of(bytes)?;
         Ok(self.current.graph().len().to_string())
     }
 
@@ -146,6 +141,35 @@ impl Calls {
         let letter = |a, b| ordering_letter(graph.compare_node_strength(a, b));
         let row = |a: NodeId| graph.nodes().map(|b| letter(a, b.id())).collect();
         Ok(joined(graph.nodes().map(|a| row(a.id())), " "))
+    }
+
+    fn test_pair(
+        &self,
+        a: u32,
+        b: u32,
+        test: impl Fn(&PrimIndexGraph, NodeId, NodeId) -> bool,
+    ) -> Result<String, Refusal> {
+        let graph = self.current.graph();
+        let (a, b) = (narrowing::node(graph, a)?, narrowing::node(graph, b)?);
+        Ok(bit(test(graph, a, b)))
+    }
+
+    fn propagated(&self, node: u32) -> Result<String, Refusal> {
+        let graph = self.current.graph();
+        Ok(bit(graph.is_propagated_specializes(narrowing::node(graph, node)?)))
+    }
+
+    fn copy(&self, node: u32) -> Result<String, Refusal> {
+        let graph = self.current.graph();
+        let found = graph.get_propagated_specializes_node(narrowing::node(graph, node)?);
+        Ok(found.map_or("-".to_string(), number))
+    }
+
+    fn class(&self, node: u32) -> Result<String, Refusal> {
+        let graph = self.current.graph();
+        let (instance, class) = graph.starting_node_of_class_hierarchy(narrowing::node(graph, node)?);
+        let class = class.valid().map_or("-".to_string(), number);
+        Ok(format!("{} {class}", number(instance)))
     }
 
     fn order(&mut self) -> Result<String, Refusal> {
@@ -212,6 +236,21 @@ impl Calls {
         let node = narrowing::node(graph, node)?;
         Ok(text(&graph.path_at_introduction(node)))
     }
+}
+
+/// The graph of a snapshot. The records are added to a fresh graph in their order, so child lists come back in node
+/// order.
+pub fn graph_of(bytes: &[u8]) -> Result<Judge, Refusal> {
+    let mut filled = Judge::default();
+    for record in snapshot::decode(bytes)? {
+        if filled.graph().is_empty() {
+            filled.init_from(narrowing::record_0(&record)?);
+        } else {
+            let (parent, desc) = narrowing::later_record(filled.graph(), &record)?;
+            filled.add_child(parent, desc);
+        }
+    }
+    Ok(filled)
 }
 
 /// The answer of a call that has no value.

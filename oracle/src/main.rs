@@ -5,6 +5,7 @@
 extern crate self as bitflags;
 
 mod calls;
+mod deciding;
 mod flags;
 mod judge;
 mod line;
@@ -26,12 +27,17 @@ use std::io::{self, BufWriter, Write};
 use std::process::ExitCode;
 
 const USAGE: &str = "\
-usage: oracle answer                        answer the lines on standard input
-       oracle script paths SEED             print lines on paths
-       oracle script graphs SEED COUNT      print lines on COUNT random graphs
-       oracle script arenas SEED COUNT      print COUNT scripts that make graphs and look at them
-       oracle script snapshots SEED COUNT   print lines that read COUNT damaged snapshots
-       oracle time-adding COUNT             print the nanoseconds that the Rust takes to add COUNT nodes";
+usage: oracle answer                             answer the lines on standard input
+       oracle script paths SEED                  print lines on paths
+       oracle script graphs SEED COUNT           print lines on COUNT random graphs
+       oracle script arenas SEED COUNT           print COUNT scripts that make graphs and look at them
+       oracle script snapshots SEED COUNT        print lines that read COUNT damaged snapshots
+       oracle script strength SEED COUNT         print lines that compare every pair of COUNT small graphs
+       oracle script strength-large SEED COUNT   print lines that compare 2,000 pairs of COUNT large graphs
+       oracle script relations SEED COUNT        print lines that ask about nodes of COUNT small graphs
+       oracle deciding SEED COUNT                print how many pairs of `script strength` each line settles
+       oracle time-adding COUNT                  print the nanoseconds that the Rust takes to add COUNT nodes
+       oracle time-comparing SHAPE COUNT         print those for comparing its siblings and 10,000 pairs";
 
 type Script = fn(u64, usize, &mut dyn Write) -> io::Result<()>;
 
@@ -44,9 +50,14 @@ fn main() -> ExitCode {
         ["script", "graphs", seed, count] => print_script(scripts::graphs, seed, count),
         ["script", "arenas", seed, count] => print_script(scripts::arenas, seed, count),
         ["script", "snapshots", seed, count] => print_script(scripts::snapshots, seed, count),
+        ["script", "strength", seed, count] => print_script(scripts::strength, seed, count),
+        ["script", "strength-large", seed, count] => print_script(scripts::strength_large, seed, count),
+        ["script", "relations", seed, count] => print_script(scripts::relations, seed, count),
+        ["deciding", seed, count] => print_script(deciding::print, seed, count),
         ["time-adding", count] => {
             count.parse().ok().map(|count| print(|out| writeln!(out, "{}", timing::adding(count))))
         }
+        ["time-comparing", shape, count] => print_comparing(shape, count),
         _ => None,
     };
     match printed {
@@ -60,6 +71,13 @@ fn main() -> ExitCode {
 fn print_script(script: Script, seed: &str, count: &str) -> Option<io::Result<()>> {
     let (seed, count) = (seed.parse().ok()?, count.parse().ok()?);
     Some(print(|out| script(seed, count, out)))
+}
+
+/// Prints the nanoseconds and the sum of answers of both comparisons, if there is such a shape.
+fn print_comparing(shape: &str, count: &str) -> Option<io::Result<()>> {
+    let [siblings, nodes] = timing::comparing(shape, count.parse().ok()?)?;
+    let (first, second) = (siblings.nanoseconds, nodes.nanoseconds);
+    Some(print(|out| writeln!(out, "{first} {} {second} {}", siblings.sum, nodes.sum)))
 }
 
 fn usage() -> ExitCode {

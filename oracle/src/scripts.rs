@@ -4,8 +4,10 @@ mod arenas;
 mod graphs;
 mod paths;
 mod snapshots;
+mod strength;
 
 pub use arenas::arenas;
 pub use graphs::graphs;
 pub use paths::paths;
 pub use snapshots::snapshots;
+pub use strength::{relations, strength, strength_graphs, strength_large};

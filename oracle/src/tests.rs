@@ -1,4 +1,5 @@
-//! The examples of document 01, the edges of the language, inputs that mean nothing, and the plain reader of snapshots.
+//! The examples of document 01, the edges of the language, inputs that mean nothing, the plain reader of snapshots, and the
+//! plain comparison.
 
 mod departures;
 mod examples;
@@ -6,6 +7,7 @@ mod lines;
 mod paths;
 mod robustness;
 mod snapshots;
+mod strength;
 
 use crate::calls::Calls;
 

@@ -1,10 +1,13 @@
-//! How long the Rust takes to grow a graph: what the proved calls are measured beside.
+//! How long the Rust takes to grow a graph and to compare nodes: what the proved calls are measured beside.
 
+use std::cmp::Ordering;
 use std::hint::black_box;
-use std::time::Instant;
+use std::time::{Duration, Instant};
 
-use plain::samples::graphs::grown;
+use plain::samples::graphs::{Node, grown, snapshot};
+use plain::samples::strength::{MEASURED_PAIRS, SHAPES, random_pairs, sibling_pairs};
 
+use crate::calls::graph_of;
 use crate::pcp::LayerId;
 use crate::pcp::layer_stack::LayerStackId;
 use crate::pcp::mapping::MapFunction;
@@ -43,4 +46,47 @@ fn child(parent: u32, path: &[u8]) -> (NodeId, NodeDesc) {
 
 fn well_formed(path: &[u8]) -> Path {
     Path::parse(path).unwrap_or(Path::abs_root())
+}
+
+/// For comparing, turns go on for so long, and there is at least one.
+const COMPARING: Duration = Duration::from_millis(200);
+
+type Compare = fn(&PrimIndexGraph, NodeId, NodeId) -> Ordering;
+
+/// The time for comparing all siblings of a graph of this shape, and that for the random pairs; no such shape gives
+/// nothing.
+pub fn comparing(shape: &str, count: usize) -> Option<[Compared; 2]> {
+    let (_, nodes) = SHAPES.iter().find(|(name, _)| *name == shape)?;
+    let nodes: Vec<Node> = nodes(count);
+    let judge = graph_of(&snapshot(&nodes)).ok()?;
+    let time = |compare: Compare, pairs: Vec<(u32, u32)>| time_pairs(judge.graph(), compare, &pairs);
+    Some([
+        time(PrimIndexGraph::compare_sibling_node_strength, sibling_pairs(&nodes, MEASURED_PAIRS)),
+        time(PrimIndexGraph::compare_node_strength, random_pairs(&nodes, MEASURED_PAIRS)),
+    ])
+}
+
+/// Nanoseconds for all pairs, the least of many turns, and the sum of the answers: Less 0, Equal 1, Greater 2.
+pub struct Compared {
+    pub nanoseconds: u128,
+    pub sum: u64,
+}
+
+fn time_pairs(graph: &PrimIndexGraph, compare: Compare, pairs: &[(u32, u32)]) -> Compared {
+    let mut compared = Compared { nanoseconds: u128::MAX, sum: 0 };
+    let begun = Instant::now();
+    while compared.nanoseconds == u128::MAX || begun.elapsed() < COMPARING {
+        let start = Instant::now();
+        compared.sum = pairs.iter().map(|&(a, b)| number(compare(graph, NodeId(a), NodeId(b)))).sum();
+        compared.nanoseconds = compared.nanoseconds.min(start.elapsed().as_nanos());
+    }
+    compared
+}
+
+fn number(ordering: Ordering) -> u64 {
+    match ordering {
+        Ordering::Less => 0,
+        Ordering::Equal => 1,
+        Ordering::Greater => 2,
+    }
 }

@@ -5,9 +5,10 @@ use mathlib.Core.Option.{none}
 use mathlib.Core.List.{List}
 use Prim.Native.Nat.{ℕ, _+_}
 use Rattle.model.specs.Lists.{bit}
-use Rattle.model.specs.Refusals.{refusalNumber}
+use Rattle.model.specs.Refusals.{refusalNumber, Question}
+use Rattle.model.specs.Answers.{orderingNumber}
 use Rattle.model.specs.Arena.{holdsGraph}
-use Rattle.model.specs.ArenaCalls.{isArena, Wrote}
+use Rattle.model.specs.ArenaCalls.{isArena, Wrote, AnsweredOrder}
 use Rattle.model.specs.Calls as calls
 use Rattle.model.specs.Calls.{Outcome}
 use Rattle.model.specs.Node.{invalid}
@@ -16,6 +17,9 @@ use Rattle.model.specs.declared.PrimCount.{PrimCount}
 use Rattle.model.specs.declared.PrimCount.the-variants.{Names, Malformed}
 use Rattle.model.specs.declared.Numbered.{Numbered}
 use Rattle.model.specs.declared.Numbered.the-variants.{Number, Refused}
+use Rattle.model.specs.declared.Ordering.{Ordering}
+use Rattle.model.specs.declared.Compared.{Compared}
+use Rattle.model.specs.declared.Compared.the-variants.{As, Refused as CompareRefused}
 
 abbrev pub countNumber : PrimCount → ℕ
 countNumber (Names n) = n
@@ -24,6 +28,10 @@ countNumber Malformed = 65536
 abbrev pub answerNumber : Numbered → ℕ
 answerNumber (Number n) = n
 answerNumber (Refused r) = 1000000 + refusalNumber r
+
+abbrev pub orderNumber : Compared → ℕ
+orderNumber (As o) = orderingNumber o
+orderNumber (CompareRefused r) = 1000000 + refusalNumber r
 
 abbrev pub graphNumber : List ℕ → ℕ
 graphNumber bs = bit (isArena bs && holdsGraph bs)
@@ -38,6 +46,12 @@ pub record WrittenNumber (arena out : List ℕ) (r : ℕ) (after : List ℕ) : T
   pub answer : Numbered
   pub written : SnapshotWritten arena out answer after
   pub number : r ≡ answerNumber answer
+
+-- the answer of a comparison that puts these questions and comes to this order, as a number
+pub record ComparedNumber (questions : List Question) (order : Ordering) (r : ℕ) : Type 0 where
+  pub answer : Compared
+  pub answered : AnsweredOrder questions order answer
+  pub number : r ≡ orderNumber answer
 
 -- a Reference under `parent`, its origin and depth missing, other fields 0
 abbrev pub referenceDesc : ℕ → List ℕ → calls.NodeDesc

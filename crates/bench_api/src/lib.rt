@@ -1,15 +1,22 @@
 // C functions for the programs in bench/, and for nothing else: each is one call of the library below it, with its answer as a number.
+mod sums;
+
+use model::Compared;
 use model::NodeId;
 use model::Numbered;
 use model::PrimCount;
 use prim_graph::Depth;
 use prim_graph::NodeDesc;
 ghost use mathlib.Core.Path.{_≡_};
-ghost use Rattle.model.specs.ArenaCalls.{onArena, intoArena};
-ghost use Rattle.model.specs.Calls.{initRoot, addChild, readInto};
+ghost use mathlib.Core.Bool.{true, false};
+ghost use Rattle.model.specs.Arena.{decode};
+ghost use Rattle.model.specs.ArenaCalls.{onArena, intoArena, askArena};
+ghost use Rattle.model.specs.Calls.{initRoot, addChild, readInto, comparesNodes};
 ghost use Rattle.model.specs.Graph.{emptyGraph};
 ghost use Rattle.model.specs.Path.{countPrims};
-ghost use Rattle.bench_api.specs.Numbers.{countNumber, answerNumber, graphNumber, referenceDesc, WroteNumber, WrittenNumber};
+ghost use Rattle.model.specs.Strength.{view, compareNodeStrength};
+ghost use Rattle.bench_api.specs.Numbers.{countNumber, answerNumber, orderNumber, graphNumber, referenceDesc, WroteNumber, WrittenNumber, ComparedNumber};
+ghost use Rattle.bench_api.specs.Pairs.{pairsNumber};
 
 // The prim count, or 65,536 where the bytes are no path.
 #[no_mangle]
@@ -87,4 +94,38 @@ pub extern "C" fn bench_write_snapshot(arena: &[u8], out: &mut [u8]) -> u32
     ensures { λ r. ⌜ WrittenNumber (now (arena .entry)) (now (out .entry)) r (now (out .exit)) ⌝ }
 {
     number(prim_graph::write_snapshot(arena, out))
+}
+
+// What a comparison answers, or 1,000,000 and its refusal's number.
+fn order_number(answer: Compared) -> u32
+    ensures { λ r. ⌜ r ≡ orderNumber answer ⌝ }
+{
+    match answer {
+        Compared::As(ordering) => sums::ordering_number(ordering),
+        Compared::Refused(refusal) => 1000000 + (refusal.number() as u32),
+    }
+}
+
+// `compare_node_strength`.
+#[no_mangle]
+pub extern "C" fn bench_compare_node_strength(arena: &[u8], a: u32, b: u32) -> u32
+    ensures { λ r. ⌜ ComparedNumber (askArena (now (arena .entry)) (comparesNodes (decode (now (arena .entry))) a b)) (compareNodeStrength (view (decode (now (arena .entry)) .nodes)) a b) r ⌝ }
+{
+    order_number(prim_graph::compare_node_strength(arena, a, b))
+}
+
+// The sum of `compare_node_strength` over pairs of node numbers, eight bytes a pair: Less 0, Equal 1, Greater 2.
+#[no_mangle]
+pub extern "C" fn bench_compare_pairs(arena: &[u8], pairs: &[u8]) -> u64
+    ensures { λ r. ⌜ r ≡ pairsNumber false (now (arena .entry)) (now (pairs .entry)) ⌝ }
+{
+    sums::compare_pairs(arena, pairs, false)
+}
+
+// The same of `compare_sibling_node_strength`.
+#[no_mangle]
+pub extern "C" fn bench_compare_sibling_pairs(arena: &[u8], pairs: &[u8]) -> u64
+    ensures { λ r. ⌜ r ≡ pairsNumber true (now (arena .entry)) (now (pairs .entry)) ⌝ }
+{
+    sums::compare_pairs(arena, pairs, true)
 }

@@ -1,5 +1,7 @@
-// The lines that compare nodes, for the command `calls`. Each function is handed a line that has its name and its number of words, puts the answer,
-// without a newline, after the first `used` bytes of `out`, and answers how many are then used. No public function has a `requires`.
+// The lines that compare nodes, or put the questions that the comparison puts, for the command `calls`. Each function is handed a line that has its name
+// and its number of words, puts the answer, without a newline, after the first `used` bytes of `out`, and answers how many are then used. No public
+// function has a `requires`.
+mod relations;
 mod rows;
 
 use calls_text::Answered;
@@ -30,7 +32,7 @@ pub fn answer(line: &[u8], arena: &[u8], out: &mut [u8], used: usize) -> Answere
     if is_call(line, b"compares", 1) {
         return Answered::Used(rows::compares_line(arena, out, used));
     }
-    Answered::Unknown
+    relations::answer(line, arena, out, used)
 }
 
 fn read_pair(line: &[u8]) -> Pair {

@@ -7,6 +7,7 @@ use calls_text::front;
 use calls_text::is_call;
 use calls_text::put;
 use calls_text::put_bytes;
+use calls_text::put_found;
 use calls_text::put_numbered;
 use calls_text::put_refusal;
 use calls_text::read_number;
@@ -86,16 +87,7 @@ fn using_line(line: &[u8], arena: &[u8], out: &mut [u8], used: usize) -> usize {
         return bad_line(out, used);
     };
     let found = prim_graph::node_using_site(arena, stack, word(line, 2));
-    put_found(found, out, used)
-}
-
-fn put_found(found: Numbered, out: &mut [u8], used: usize) -> usize {
-    if let Numbered::Number(n) = found {
-        if n == 4294967295 {
-            return put(out, used, b"-");
-        }
-    }
-    put_numbered(out, used, found)
+    put_found(out, used, found)
 }
 
 // `below N`: the node's depth below its introduction.

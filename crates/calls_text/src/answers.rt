@@ -29,3 +29,19 @@ pub fn put_numbered(out: &mut [u8], used: usize, answer: Numbered) -> usize {
         Numbered::Refused(refusal) => put_refusal(out, used, refusal),
     }
 }
+
+// A node's number, `-` for none.
+pub fn put_node(out: &mut [u8], used: usize, number: u32) -> usize {
+    if number == 4294967295 {
+        return put(out, used, b"-");
+    }
+    put_number(out, used, number as u64)
+}
+
+// The answer to a call that gives a node's number, or none.
+pub fn put_found(out: &mut [u8], used: usize, answer: Numbered) -> usize {
+    match answer {
+        Numbered::Number(number) => put_node(out, used, number),
+        Numbered::Refused(refusal) => put_refusal(out, used, refusal),
+    }
+}

@@ -8,6 +8,8 @@ mod words;
 
 pub use answers::Answered;
 pub use answers::bad_line;
+pub use answers::put_found;
+pub use answers::put_node;
 pub use answers::put_numbered;
 pub use answers::put_refusal;
 pub use hex::Bytes;

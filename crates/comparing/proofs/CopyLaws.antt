@@ -8,14 +8,13 @@ use native.Mathlib.Omega.{arith}
 use borrow.Author.Tests.{eq-eqb, ne-eqb, lt-ltb, le-ltb}
 use Rattle.model.specs.Node.{invalid, specializeArc}
 use Rattle.model.specs.Graph.{childrenOf}
-use Rattle.model.specs.Hierarchy.{firstIn, getPropagatedSpecializesNode}
+use Rattle.model.specs.Hierarchy.{firstIn, isCopy, getPropagatedSpecializesNode}
 use Rattle.model.specs.Arena.{countIn, nextSiblingIn, chainIn, childrenIn, localRootOf, decode}
 use Rattle.arena.proofs.HeldArenas.{held}
 use Rattle.arena.proofs.ArenaBack.{children-decode}
 use Rattle.arena.proofs.ReadNodes.{root-held}
 use Rattle.view.specs.View.{viewIn, Standing}
 use Rattle.view.proofs.LocalRootLaws.{root-readable}
-use Rattle.comparing.specs.Comparisons.{isCopy}
 
 -- ---- The definition
 

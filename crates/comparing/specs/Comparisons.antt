@@ -1,14 +1,14 @@
 -- What the calls of this crate answer, beside model/specs/ArenaCalls.antt's `AnsweredOrder`, `AnsweredTest` and `Answered`: where a class hierarchy
 -- starts; and what is asked of two siblings before they are compared. The definitions that they cite are in model/specs.
 use mathlib.Core.Path.{_≡_}
-use mathlib.Core.Bool.{Bool, true, _||_, _&&_}
+use mathlib.Core.Bool.{true, _||_}
 use mathlib.Core.List.{List}
 use Prim.Native.Nat.{ℕ}
 use lib.Dec.{eqb}
 use Rattle.model.specs.Graph.{nodeAt}
 use Rattle.model.specs.Refusals.{refusalNumber, refusal}
 use Rattle.model.specs.Calls.{readsNode}
-use Rattle.model.specs.Strength.{View, view, isPropagatedSpecializes, startingNodeOfClassHierarchy}
+use Rattle.model.specs.Strength.{View, view, startingNodeOfClassHierarchy}
 use Rattle.model.specs.Hierarchy.{topmostClassNode}
 use Rattle.model.specs.Arena.{decode}
 use Rattle.model.specs.ArenaCalls.{Readable, askArena}
@@ -23,12 +23,6 @@ pub record Siblings (bs : List ℕ) (a b : ℕ) : Type 0 where
   pub left : Readable bs a
   pub right : Readable bs b
   pub one-parent : (eqb a b || eqb (nodeAt (decode bs .nodes) a .parent) (nodeAt (decode bs .nodes) b .parent)) ≡ true
-
--- ---- The copy of a specializes node under the local root
-
--- c is a propagated specializes whose origin is n
-abbrev pub isCopy : View → ℕ → ℕ → Bool
-isCopy u n c = eqb (u .origin c) n && isPropagatedSpecializes u c
 
 -- ---- Where a class hierarchy starts
 

@@ -1,9 +1,8 @@
 // The copy of a specializes node under the local root.
 ghost use mathlib.Core.Path.{_≡_};
 ghost use Rattle.model.specs.Arena.{decode, childrenIn};
-ghost use Rattle.model.specs.Hierarchy.{firstIn, getPropagatedSpecializesNode};
+ghost use Rattle.model.specs.Hierarchy.{firstIn, isCopy, getPropagatedSpecializesNode};
 ghost use Rattle.view.specs.View.{viewIn, Standing};
-ghost use Rattle.comparing.specs.Comparisons.{isCopy};
 
 // Whether `child` is a propagated specializes whose origin is node n.
 fn is_copy(arena: &[u8], root: u32, n: u32, child: u32) -> bool

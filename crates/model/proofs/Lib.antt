@@ -20,6 +20,7 @@ pub mod StrengthCongruence
 pub mod StrengthLaws
 pub mod StrengthFlips
 pub mod StrengthExamples
+pub mod HierarchyExamples
 pub mod OrderLaws
 pub mod OrderExamples
 pub mod ErasableLaws

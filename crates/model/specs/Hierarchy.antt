@@ -34,10 +34,14 @@ abbrev pub firstIn : (ℕ → Bool) → List ℕ → ℕ
 firstIn p [] = invalid
 firstIn p (x ∷ xs) = cond (p x) x (firstIn p xs)
 
+-- c is a propagated specializes whose origin is n
+abbrev pub isCopy : View → ℕ → ℕ → Bool
+isCopy u n c = eqb (u .origin c) n && isPropagatedSpecializes u c
+
 -- "a local-root child whose origin is `node` and which is itself a propagated specializes node", the first in its child list; of a node with another
 -- arc, or with no local root, none
 unfoldable pub getPropagatedSpecializesNode : Graph → ℕ → ℕ
 getPropagatedSpecializesNode g n =
     let u = view (g .nodes) in
     let root = localRootOf (g .nodes) in
-    cond (eqb (u .arc n) specializeArc && not (eqb root 0)) (firstIn (λ c. eqb (u .origin c) n && isPropagatedSpecializes u c) (childrenOf g root)) invalid
+    cond (eqb (u .arc n) specializeArc && not (eqb root 0)) (firstIn (isCopy u n) (childrenOf g root)) invalid

@@ -4,8 +4,8 @@ use mathlib.Core.List.{List}
 use Prim.Native.Nat.{ℕ, _+_, _≤_, _<_}
 use native.Mathlib.Omega.{arith}
 use Rattle.model.specs.declared.Ordering.{Ordering}
-use Rattle.model.specs.Strength.{View, compareSiblingNodeStrength, compareNodeStrength, siblingLines}
-use Rattle.model.proofs.StrengthLaws.{compare-siblings-lines}
+use Rattle.model.specs.Strength.{View, first, compareSiblingNodeStrength, compareNodeStrength, siblingLines}
+use Rattle.model.proofs.StrengthLaws.{compare-siblings-lines, compare-same}
 use Rattle.view.specs.View.{viewIn, Standing}
 use Rattle.view.proofs.ViewLaws.{legal, standing-lower}
 use Rattle.walks.specs.declared.parting.Parting.{Parting}
@@ -23,6 +23,13 @@ siblings-resolved {bs} {root} {a} {b} pair v w told weighed =
     let u = viewIn bs in
     ap (resolve (compareNodeStrength u)) (sym told) ∙ weighed .agrees (compareNodeStrength u)
     ∙ sym (compare-siblings-lines (legal bs (pair .left .readable .opened)) a b (pair .left-above) (pair .right-above) (pair .left .readable .below) (pair .right .readable .below))
+
+-- a node asked with itself is Equal
+pub asked-itself : {bs : List ℕ} {root a b : ℕ} → Pair bs root a b → (v : Verdict) {x y : ℕ} {o : Ordering} → v ≡ Ask x y o → x ≡ y
+    → Weighed (siblingLines (viewIn bs)) bs a b v → o ≡ compareSiblingNodeStrength (viewIn bs) a b
+asked-itself {bs} pair v {x} {y} {o} told same weighed =
+    sym (ap (λ (r : Ordering). first r o) (ap (compareNodeStrength (viewIn bs) x) (sym same) ∙ compare-same (viewIn bs) x))
+    ∙ siblings-resolved pair v (Ask x y o) told weighed
 
 -- the nodes asked stand in the graph, and their sum is lower
 pub asked-lower : {bs : List ℕ} {root a b : ℕ} → Pair bs root a b → (v : Verdict) {x y : ℕ} {o : Ordering} → v ≡ Ask x y o

@@ -15,14 +15,19 @@ ghost use Rattle.model.specs.Strength.{compareSiblingNodeStrength, compareNodeS
 ghost use Rattle.view.specs.View.{viewIn, Standing};
 ghost use Rattle.strength.specs.Verdicts.{Pair};
 
-// Which of two siblings is the stronger.
+// Which of two siblings is the stronger. A node asked with itself is Equal, and need not be walked.
 pub fn compare_sibling_node_strength(arena: &[u8], root: u32, a: u32, b: u32) -> Ordering
     requires { ⌜ Pair (now arena) root a b ⌝ }
     ensures { λ r. ⌜ r ≡ compareSiblingNodeStrength (viewIn (now (arena .entry))) a b ⌝ }
 {
     match lines::weigh(arena, root, a, b) {
         Verdict::Settled(o) => o,
-        Verdict::Ask(x, y, o) => orderings::or_else(compare_node_strength(arena, root, x, y), o),
+        Verdict::Ask(x, y, o) => {
+            if x == y {
+                return o;
+            }
+            orderings::or_else(compare_node_strength(arena, root, x, y), o)
+        }
     }
 }
 

@@ -9,5 +9,6 @@ pub mod random;
 pub mod record;
 pub mod samples;
 pub mod snapshot;
+pub mod strength;
 #[cfg(test)]
 mod tests;

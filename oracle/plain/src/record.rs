@@ -7,10 +7,14 @@ use crate::path;
 pub const FIXED_BYTES: usize = 27;
 
 pub const ROOT: u8 = 0;
+pub const INHERIT: u8 = 1;
+pub const RELOCATE: u8 = 3;
+pub const REFERENCE: u8 = 4;
 pub const SPECIALIZE: u8 = 6;
 
 pub const INERT: u8 = 1;
 pub const CULLED: u8 = 2;
+pub const HAS_SPECIALIZES: u8 = 8;
 
 /// Where things stand in a record.
 pub const ARC: usize = 0;

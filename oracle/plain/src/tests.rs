@@ -3,3 +3,4 @@
 mod arenas;
 mod definitions;
 mod snapshots;
+mod strength;

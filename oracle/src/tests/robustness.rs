@@ -45,11 +45,12 @@ fn random_bytes() {
 
 #[test]
 fn random_words() {
-    const WORDS: [&str; 44] = [
-        "path", "back", "join", "new", "init", "add", "read", "write", "dump", "chains", "marks", "compare", "sibling",
-        "compares", "order", "list", "cull", "erasable", "erase", "deepen", "seed", "swap", "using", "below", "intro",
-        "0", "1", "2", "6", "8", "65535", "65536", "4294967295", "4294967296", "-", "/", "/A", "/A{v=x}", "/A{v=x}B",
-        "//", "01", "00000003010000", "0000", "\u{e9}",
+    const WORDS: [&str; 49] = [
+        "ancestor", "site", "propagated", "copy", "class", "path", "back", "join", "new", "init", "add", "read",
+        "write", "dump", "chains", "marks", "compare", "sibling", "compares", "order", "list", "cull", "erasable",
+        "erase", "deepen", "seed", "swap", "using", "below", "intro", "0", "1", "2", "6", "8", "65535", "65536",
+        "4294967295", "4294967296", "-", "/", "/A", "/A{v=x}", "/A{v=x}B", "//", "01", "00000003010000", "0000",
+        "\u{e9}",
     ];
     let mut random = Random::new(4);
     let mut script = String::from("init 0 0 /A\n");
@@ -82,7 +83,14 @@ fn script(print: Script, seed: u64, count: usize) -> Vec<u8> {
 
 #[test]
 fn repeatable_scripts() {
-    let scripts: [(Script, usize); 3] = [(scripts::graphs, 60), (scripts::arenas, 300), (scripts::snapshots, 300)];
+    let scripts: [(Script, usize); 6] = [
+        (scripts::graphs, 60),
+        (scripts::arenas, 300),
+        (scripts::snapshots, 300),
+        (scripts::strength, 300),
+        (scripts::strength_large, 2),
+        (scripts::relations, 300),
+    ];
     for (print, count) in scripts {
         let printed = script(print, 5, count);
         assert_eq!(lines(&answers(&printed)), lines(&printed));

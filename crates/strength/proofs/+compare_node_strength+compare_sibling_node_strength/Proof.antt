@@ -6,7 +6,7 @@ use Prim.Native.Nat.{ℕ, _+_, _*_, _<_}
 use native.Mathlib.Omega.{arith}
 use borrow.Fn.Kinds.{In}
 use borrow.Fn.PlainCycle.{Measures, is, falls, and}
-use Rattle.strength.proofs.CycleLaws.{siblings-resolved, asked-lower, nodes-compared, parted-pair}
+use Rattle.strength.proofs.CycleLaws.{siblings-resolved, asked-itself, asked-lower, nodes-compared, parted-pair}
 use Rattle.strength.proofs.compare_node_strength.Reads as nodes
 use Rattle.strength.proofs.compare_node_strength.Kinds as nodes-kinds
 use Rattle.strength.proofs.+compare_node_strength+compare_sibling_node_strength.Lts-compare_node_strength as nodes-lts
@@ -99,24 +99,29 @@ module _ (t : ℕ) where
   known-asked : siblings-lts.Need-enum-known-x siblings-ask siblings-at siblings.Post
   known-asked c = search needs
 
+  returns-itself : siblings-lts.Need-returns siblings-ask siblings-at siblings.Post
+  returns-itself c =
+      asked-itself (c .before .before .before .before .before .before .pre .1) _ (c .before .before .x .given .1) (c .if1 .taken)
+      (c .before .before .before .before .weigh .ensures)
+
   nodes-requires : siblings-lts.Need-compare-node-strength-requires siblings-ask siblings-at siblings.Post
   nodes-requires c κs =
-      let given = c .before .before .before .before .before .pre in
-      let asked = asked-lower (given .1) _ (c .before .x .given .1) (c .before .before .before .weigh .ensures) in
+      let given = c .before .before .before .before .before .before .pre in
+      let asked = asked-lower (given .1) _ (c .before .before .x .given .1) (c .before .before .before .before .weigh .ensures) in
       (omega (arith, given .0, asked .2), (asked .0, asked .1))
 
   or-else-requires : siblings-lts.Need-or-else-requires siblings-ask siblings-at siblings.Post
   or-else-requires c κs = search needs
 
-  returns-settled : siblings-lts.Need-returns siblings-ask siblings-at siblings.Post
+  returns-settled : siblings-lts.Need-returns-2 siblings-ask siblings-at siblings.Post
   returns-settled c =
       siblings-resolved (c .before .before .before .before .before .pre .1) _ _ (c .before .o .given .1) (c .before .before .before .weigh .ensures)
 
-  returns-asked : siblings-lts.Need-returns-2 siblings-ask siblings-at siblings.Post
+  returns-asked : siblings-lts.Need-returns-3 siblings-ask siblings-at siblings.Post
   returns-asked c =
       c .or-else .ensures
       ∙ rw (c .before .compare-node-strength .ensures)
-      (siblings-resolved (c .before .before .before .before .before .before .before .pre .1) _ _ (c .before .before .before .x .given .1) (c .before .before .before .before .before .weigh .ensures))
+      (siblings-resolved (c .before .before .before .before .before .before .before .before .pre .1) _ _ (c .before .before .before .before .x .given .1) (c .before .before .before .before .before .before .weigh .ensures))
 
 pub +compare-node-strength+compare-sibling-node-strength-spec : {M : Type 1} → statement M
 +compare-node-strength+compare-sibling-node-strength-spec =
@@ -144,6 +149,7 @@ pub +compare-node-strength+compare-sibling-node-strength-spec : {M : Type 1} →
     (weigh-requires t)
     (known-settled t)
     (known-asked t)
+    (returns-itself t)
     (nodes-requires t)
     (or-else-requires t)
     (returns-settled t)

@@ -3,12 +3,11 @@
 use native.Mathlib.Omega.{arith}
 use mathlib.Core.Path.{_≡_, sym, ap, _∙_}
 use Prim.Native.Nat.{ℕ}
-use Rattle.model.specs.Hierarchy.{firstIn}
+use Rattle.model.specs.Hierarchy.{firstIn, isCopy}
 use Rattle.model.specs.Arena.{countIn, childrenIn}
 use Rattle.model.specs.ArenaCalls.{Readable}
 use Rattle.arena.proofs.ReadNodes.{has-slot}
 use Rattle.view.specs.View.{viewIn}
-use Rattle.comparing.specs.Comparisons.{isCopy}
 use Rattle.comparing.proofs.CopyLaws.{copyFrom, copy-taken, copy-passed, copies-end}
 use Rattle.comparing.proofs.propagated.first_copy.Statement.{statement}
 use Rattle.comparing.proofs.propagated.first_copy.Tie as tie

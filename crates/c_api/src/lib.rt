@@ -1,0 +1,87 @@
+// The library for viewers in C and Rust: a few calls of crates/prim_graph as C functions on byte slices and node numbers. No function has a
+// `requires`: any slices may be lent, any numbers given. A slice is passed as a pointer and a length (viewer/include/cadgweri.h).
+// One number carries a call's refusal and its value, as specs/Carried.antt says.
+use model::Compared;
+use model::Numbered;
+use model::Ordering;
+use model::Refusal;
+ghost use mathlib.Core.Path.{_≡_};
+ghost use mathlib.Core.List.{[]};
+ghost use Rattle.model.specs.Answers.{orderingNumber};
+ghost use Rattle.model.specs.Arena.{countIn, decode};
+ghost use Rattle.model.specs.ArenaCalls.{intoArena, askArena};
+ghost use Rattle.model.specs.Calls.{readInto, comparesNodes, comparesSiblings};
+ghost use Rattle.model.specs.Graph.{emptyGraph};
+ghost use Rattle.model.specs.Refusals.{refusalNumber};
+ghost use Rattle.model.specs.Strength.{view, compareNodeStrength, compareSiblingNodeStrength};
+ghost use Rattle.c_api.specs.Carried.{carried, carriedNumber, carriedOrder, carriedAnswer, WroteCarried};
+
+// Less is 0, Equal 1 and Greater 2.
+fn ordering_number(ordering: Ordering) -> u64
+    ensures { λ r. ⌜ r ≡ orderingNumber ordering ⌝ }
+{
+    match ordering {
+        Ordering::Less => 0,
+        Ordering::Equal => 1,
+        Ordering::Greater => 2,
+    }
+}
+
+// A refusal, and no value.
+fn carry_refusal(refusal: Refusal) -> u64
+    ensures { λ r. ⌜ r ≡ carried (refusalNumber refusal) 0 ⌝ }
+{
+    (refusal.number() as u64) * 4294967296
+}
+
+// The answer of a call that gives a number.
+fn carry_number(answer: Numbered) -> u64
+    ensures { λ r. ⌜ r ≡ carriedNumber answer ⌝ }
+{
+    match answer {
+        Numbered::Number(n) => n as u64,
+        Numbered::Refused(refusal) => carry_refusal(refusal),
+    }
+}
+
+// The answer of a comparison.
+fn carry_order(answer: Compared) -> u64
+    ensures { λ r. ⌜ r ≡ carriedOrder answer ⌝ }
+{
+    match answer {
+        Compared::As(ordering) => ordering_number(ordering),
+        Compared::Refused(refusal) => carry_refusal(refusal),
+    }
+}
+
+// Reads a snapshot into the arena, whatever it held. The value is how many nodes it has. Refused 1, 12, then 4 to 7; the arena is then as it was.
+#[no_mangle]
+pub extern "C" fn cadgweri_read_snapshot(arena: &mut [u8], bytes: &[u8]) -> u64
+    ensures { λ r. ⌜ WroteCarried (intoArena (readInto (now (bytes .entry)) emptyGraph) (now (arena .entry))) (now (arena .entry)) r (now (arena .exit)) ⌝ }
+{
+    carry_number(prim_graph::read_snapshot(arena, bytes))
+}
+
+// The value is how many nodes the graph has. Refused 1 or 2.
+#[no_mangle]
+pub extern "C" fn cadgweri_count(arena: &[u8]) -> u64
+    ensures { λ r. ⌜ r ≡ carriedAnswer (askArena (now (arena .entry)) []) (countIn (now (arena .entry))) ⌝ }
+{
+    carry_number(prim_graph::count(arena))
+}
+
+// The value is 0 where node a is the stronger, 2 where b is, 1 where they are one node. Refused 1 to 4.
+#[no_mangle]
+pub extern "C" fn cadgweri_compare_node_strength(arena: &[u8], a: u32, b: u32) -> u64
+    ensures { λ r. ⌜ r ≡ carriedAnswer (askArena (now (arena .entry)) (comparesNodes (decode (now (arena .entry))) a b)) (orderingNumber (compareNodeStrength (view (decode (now (arena .entry)) .nodes)) a b)) ⌝ }
+{
+    carry_order(prim_graph::compare_node_strength(arena, a, b))
+}
+
+// The same of two siblings: refused 1 to 4, and 8 where they have not one parent.
+#[no_mangle]
+pub extern "C" fn cadgweri_compare_sibling_node_strength(arena: &[u8], a: u32, b: u32) -> u64
+    ensures { λ r. ⌜ r ≡ carriedAnswer (askArena (now (arena .entry)) (comparesSiblings (decode (now (arena .entry))) a b)) (orderingNumber (compareSiblingNodeStrength (view (decode (now (arena .entry)) .nodes)) a b)) ⌝ }
+{
+    carry_order(prim_graph::compare_sibling_node_strength(arena, a, b))
+}

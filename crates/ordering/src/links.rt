@@ -1,0 +1,61 @@
+// The links that sorted child lists make.
+ghost use mathlib.Core.Path.{_≡_};
+ghost use Prim.Native.Nat.{ℕ, _<_, _≤_};
+ghost use lib.ListN.{length, getD};
+ghost use lib.Seq.{slice};
+ghost use Rattle.model.specs.Arena.{firstOf, lastOf};
+ghost use Rattle.ordering.specs.Ordering.{Parted, nextsSet, Linked};
+
+// The last child of the list that stands in `sorted` from `start` to `end`, 4,294,967,295 for none.
+fn last_of(sorted: &[u32], start: usize, end: usize) -> u32
+    requires { ⌜ (start ≤ end) × (end ≤ length (now sorted)) ⌝ }
+    ensures { λ r. ⌜ r ≡ lastOf (slice start end (now (sorted .entry))) ⌝ }
+{
+    if start < end {
+        return sorted[end - 1];
+    }
+    4294967295
+}
+
+// Links the children of that list, the last one first, and answers its first child, 4,294,967,295 for none.
+fn link_list(sorted: &[u32], start: usize, end: usize, next: &mut [u32]) -> u32
+    requires { ⌜ (start ≤ end) × (end ≤ length (now sorted)) × (length (now next) ≡ 1024) ⌝ }
+    requires { ⌜ ((k : ℕ) → k < end → getD (now sorted) k 0 < 1024) ⌝ }
+    ensures { λ r. ⌜ (r ≡ firstOf (slice start end (now (sorted .entry)))) × (now (next .exit) ≡ nextsSet (slice start end (now (sorted .entry))) (now (next .entry))) ⌝ }
+{
+    let mut head: u32 = 4294967295;
+    let mut at = end;
+    while start < at {
+        at -= 1;
+        let child = sorted[at];
+        next[child as usize] = head;
+        head = child;
+    }
+    head
+}
+
+// The first and the last child of each of `count` nodes and the sibling after it, 4,294,967,295 for none.
+pub(crate) fn link_lists(
+    sorted: &[u32],
+    ends: &[u32],
+    count: u32,
+    first: &mut [u32],
+    last: &mut [u32],
+    next: &mut [u32],
+)
+    requires { ⌜ Parted (now sorted) (now ends) count × (count ≤ 1024) ⌝ }
+    requires { ⌜ (length (now first) ≡ 1024) × (length (now last) ≡ 1024) × (length (now next) ≡ 1024) ⌝ }
+    ensures { λ _. ⌜ Linked (now (sorted .entry)) (now (ends .entry)) count (now (first .exit)) (now (last .exit)) (now (next .entry)) (now (next .exit)) ⌝ }
+{
+    next[0] = 4294967295;
+    let mut start: usize = 0;
+    let mut parent: u32 = 0;
+    while parent < count {
+        let i = parent as usize;
+        let end = ends[i] as usize;
+        last[i] = last_of(sorted, start, end);
+        first[i] = link_list(sorted, start, end, next);
+        start = end;
+        parent += 1;
+    }
+}
