@@ -139,9 +139,9 @@ fn answer_rest(line: &[u8], rest: Rest, first: &mut [u8], second: &mut [u8], out
 // The buffer for a line is as long as an arena, since every further length of a large array is dear to check.
 fn main() {
     let mut block = io::large_buffer();
-    let mut line = calls_lines::zeros();
-    let mut first = calls_lines::zeros();
-    let mut second = calls_lines::zeros();
+    let mut line = buffers::zeros();
+    let mut first = buffers::zeros();
+    let mut second = buffers::zeros();
     let mut out = io::large_buffer();
     let rest = answer_blocks(&mut block, &mut line, &mut first, &mut second, &mut out);
     answer_rest(&line, rest, &mut first, &mut second, &mut out);

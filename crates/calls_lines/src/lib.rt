@@ -4,20 +4,11 @@ use calls_text::Answered;
 use calls_text::bad_line;
 use calls_text::is_call;
 use calls_text::put;
-ghost use mathlib.Core.Path.{_≡_};
-ghost use lib.ListN.{length};
 
 // What goes on from line to line: how many bytes of the output are used, and whether the second arena is the current one.
 pub struct State {
     pub used: usize,
     pub swapped: bool,
-}
-
-// 327,744 zeros: an arena that holds the empty graph. The `ensures` gives only the length, so that no proof holds the bytes.
-pub fn zeros() -> [u8; 327744]
-    ensures { λ r. ⌜ 327744 ≡ length r ⌝ }
-{
-    [0; 327744]
 }
 
 fn clear(arena: &mut [u8]) {
