@@ -14,7 +14,7 @@ use Rattle.model.specs.Bytes.{stored}
 use Rattle.model.specs.Graph.{Graph, size}
 use Rattle.model.specs.Snapshot.{bigEndian}
 use Rattle.model.specs.Arena.{slotAt, linkBytes, siteBytes, slotStored, slotsStored, headerBytes, rootStored, localRootOf, encode}
-use Rattle.model.proofs.StoredLaws.{part-of-stored, stored-part-same}
+use Rattle.model.proofs.StoredLaws.{part-of-stored, stored-there}
 use Rattle.arena.proofs.Encodable.{Encodable}
 use Rattle.arena.proofs.ArenaParts.{apart-kept, apart-slots, site-short}
 use Rattle.append.proofs.EncodeOver.{links-covered, site-covered, Lost, stored-lost, unordered-encode}
@@ -26,10 +26,6 @@ pub record Stage (g : Graph) (bs : List ℕ) (P Q : ℕ → Type 0) (s : List �
   pub root : take 4 (drop 8 s) ≡ bigEndian 4 (localRootOf (g .nodes))
   pub links : (k : ℕ) → k < size g → P k → take 12 (drop (slotAt k) s) ≡ linkBytes g k
   pub site : (k : ℕ) → k < size g → Q k → take (length (siteBytes g k)) (drop (slotAt k + 16) s) ≡ siteBytes g k
-
--- storing what stands there changes nothing
-there : (at w : ℕ) (p s : List ℕ) → take w (drop at s) ≡ p → stored at p s ≡ s
-there at w p s e = ap (λ (q : List ℕ). stored at q s) (sym e) ∙ stored-part-same at w s
 
 module _ (g : Graph) (bs : List ℕ) (P Q : ℕ → Type 0) (s : List ℕ) (stage : Stage g bs P Q s) where
   -- fewer links
@@ -45,20 +41,20 @@ module _ (g : Graph) (bs : List ℕ) (P Q : ℕ → Type 0) (s : List ℕ) (stag
   pub stages-end : g .order ≡ [] → ((k : ℕ) → k < size g → P k × Q k) → encode g bs ≡ s
   stages-end e all =
       sym (stage .lost .lost) ∙ unordered-encode g s e
-      ∙ ap (λ (t : List ℕ). slotsStored g (size g) (rootStored g t)) (there 0 7 (headerBytes g) s (stage .header))
+      ∙ ap (λ (t : List ℕ). slotsStored g (size g) (rootStored g t)) (stored-there 0 7 (headerBytes g) s (stage .header))
       ∙ ap (slotsStored g (size g)) (root (eqb (size g) 0)) ∙ slots (size g) (omega arith)
     where
       root : (t : Bool) → cond t s (stored 8 (bigEndian 4 (localRootOf (g .nodes))) s) ≡ s
       root true = refl
-      root false = there 8 4 (bigEndian 4 (localRootOf (g .nodes))) s (stage .root)
+      root false = stored-there 8 4 (bigEndian 4 (localRootOf (g .nodes))) s (stage .root)
 
       slots : (k : ℕ) → k ≤ size g → slotsStored g k s ≡ s
       slots zero l = refl
       slots (suc k) l =
           let here : k < size g = omega arith in
           ap (slotStored g k) (slots k (omega arith))
-          ∙ ap (stored (slotAt k + 16) (siteBytes g k)) (there (slotAt k) 12 (linkBytes g k) s (stage .links k here (all k here .0)))
-          ∙ there (slotAt k + 16) (length (siteBytes g k)) (siteBytes g k) s (stage .site k here (all k here .1))
+          ∙ ap (stored (slotAt k + 16) (siteBytes g k)) (stored-there (slotAt k) 12 (linkBytes g k) s (stage .links k here (all k here .0)))
+          ∙ stored-there (slotAt k + 16) (length (siteBytes g k)) (siteBytes g k) s (stage .site k here (all k here .1))
 
   -- ---- One part more, of slot j
 

@@ -145,6 +145,9 @@ unfolding stored
 stored-part-same at w s =
     rw (← drop-drop (length (take w (drop at s))) at s, take-rest w (drop at s), take-append-drop at s)
 
+pub stored-there : (at w : ℕ) (p s : List ℕ) → take w (drop at s) ≡ p → stored at p s ≡ s
+stored-there at w p s e = ap (λ (q : List ℕ). stored at q s) (sym e) ∙ stored-part-same at w s
+
 -- in bytes, storing the number that is there changes nothing
 pub stored-field-same : (at w : ℕ) (s : List ℕ) → Bytes s → at + w ≤ length s → stored at (bigEndian w (field at w s)) s ≡ s
 stored-field-same at w s h fits =

@@ -18,7 +18,7 @@ use Rattle.model.specs.Snapshot.{bigEndian, recordBytes}
 use Rattle.model.specs.Arena.{arenaBytes, slotAt, linkBytes, siteBytes, slotStored, slotsStored, orderStored, headerBytes, rootStored, localRootOf, decode, encode}
 use Rattle.model.specs.ArenaCalls.{Opened}
 use Rattle.model.proofs.BigEndianLaws.{Bytes}
-use Rattle.model.proofs.StoredLaws.{length-stored, part-after-stored, stored-part-same, stored-field-same, stored-next}
+use Rattle.model.proofs.StoredLaws.{length-stored, part-after-stored, stored-field-same, stored-next, stored-there}
 use Rattle.arena.specs.Header.{marksStored}
 use Rattle.arena.proofs.Encodable.{Encodable}
 use Rattle.arena.proofs.ArenaParts.{apart-kept, apart-slots, site-short, root-part, site-part}
@@ -30,10 +30,6 @@ use Rattle.arena.proofs.ReadNodes.{sizes}
 abbrev pub linksOf : Graph → ℕ → List ℕ → List ℕ
 linksOf g zero s = s
 linksOf g (suc k) s = stored (slotAt k) (linkBytes g k) (linksOf g k s)
-
--- storing what stands there changes nothing
-there : (at w : ℕ) (p s : List ℕ) → take w (drop at s) ≡ p → stored at p s ≡ s
-there at w p s e = ap (λ (q : List ℕ). stored at q s) (sym e) ∙ stored-part-same at w s
 
 module _ (g : Graph) where
   links-length : (k : ℕ) (s : List ℕ) → k ≤ 1024 → length s ≡ arenaBytes → length (linksOf g k s) ≡ arenaBytes
@@ -91,7 +87,7 @@ module _ (bs : List ℕ) (bytes : Bytes bs) (o : Opened bs) (h : Graph) (same : 
       go : (t : Bool) → cond t marked (stored 8 (bigEndian 4 (localRootOf (h .nodes))) marked) ≡ marked
       go true = refl
       go false =
-          there 8 4 (bigEndian 4 (localRootOf (h .nodes))) marked
+          stored-there 8 4 (bigEndian 4 (localRootOf (h .nodes))) marked
           (marked-behind 8 4 (omega arith) ∙ ap (λ (s : List ℕ). take 4 (drop 8 s)) (sym back) ∙ root-part g bs ok (o .whole) some-node
           ∙ ap (λ (ns : List Node). bigEndian 4 (localRootOf ns)) (sym same))
 
@@ -101,7 +97,7 @@ module _ (bs : List ℕ) (bytes : Bytes bs) (o : Opened bs) (h : Graph) (same : 
   site-there : (k : ℕ) → k < size g → stored (slotAt k + 16) (siteBytes h k) (linksOf h (suc k) marked) ≡ linksOf h (suc k) marked
   site-there k here =
       let long = length (siteBytes g k) in
-      there (slotAt k + 16) long (siteBytes h k) (linksOf h (suc k) marked)
+      stored-there (slotAt k + 16) long (siteBytes h k) (linksOf h (suc k) marked)
       (links-keep-site h k long (suc k) marked (site-short g ok k here) (omega (arith, few)) marked-length
       ∙ marked-behind (slotAt k + 16) long (omega arith) ∙ ap (λ (s : List ℕ). take long (drop (slotAt k + 16) s)) (sym back)
       ∙ site-part g bs ok (o .whole) k here 0 long (omega arith) ∙ take-length (siteBytes g k) ∙ same-site k)

@@ -7,7 +7,7 @@ use lib.ListN.{length, getD}
 use lib.Seq.{slice, slice-cons}
 use Rattle.model.specs.Arena.{orderStored}
 use Rattle.arena.specs.Slot.{orderEntryStored}
-use Rattle.ordering.proofs.LinkLaws.{no-part}
+use Rattle.sorting.proofs.PartLaws.{slice-done}
 
 pub record Storing (before : List ℕ) (count : ℕ) (order arena : List ℕ) (n : ℕ) : Type 0 where
   pub high : n ≤ count
@@ -27,4 +27,4 @@ module _ (before : List ℕ) (count : ℕ) (order arena : List ℕ) (n : ℕ) wh
       }
 
   pub storing-end : Storing before count order arena n → count ≤ n → arena ≡ orderStored (slice 0 count order) 0 before
-  storing-end storing done = ap (λ (l : List ℕ). orderStored l n arena) (sym (no-part n count order (storing .high) done)) ∙ storing .same
+  storing-end storing done = ap (λ (l : List ℕ). orderStored l n arena) (sym (slice-done n count order (storing .high) done)) ∙ storing .same

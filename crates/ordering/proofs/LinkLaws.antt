@@ -31,9 +31,6 @@ last-of-part start end l h fits =
     ∙ ap lastOf (drop-append-le start (take (end - 1) l) (getD l (end - 1) 0 ∷ []) (omega arith))
     ∙ last-snoc (drop start (take (end - 1) l)) (getD l (end - 1) 0))
 
-pub no-part : (start end : ℕ) (l : List ℕ) → start ≤ end → end ≤ start → slice start end l ≡ []
-no-part start end l a b = ap (λ (k : ℕ). slice k end l) (let e : start ≡ end = omega arith in e) ∙ slice-empty end l
-
 -- ---- Linking one list, the last child first
 
 pub record Linking (sorted before : List ℕ) (end at head : ℕ) (next : List ℕ) : Type 0 where

@@ -4,7 +4,7 @@ use mathlib.Core.Path.{_≡_, refl, sym, ap, subst, _∙_}
 use mathlib.Core.List.{List, [], _++_}
 use Prim.Native.Nat.{ℕ, zero, suc, _≤_, _<_}
 use native.Mathlib.Omega.{arith}
-use lib.ListN.{length, take, getD, List·getD-map, List·getD-eq-default}
+use lib.ListN.{length, take, getD, List·getD-eq-default}
 use lib.Seq.{slice, length-take-le, getD-take, ext-getD}
 use Rattle.model.specs.Bytes.{stored}
 use Rattle.model.specs.Node.{invalid, Node}
@@ -16,6 +16,7 @@ use Rattle.model.specs.Arena.{slotAt, countIn, firstOf, lastOf, afterIn, linkBy
 use Rattle.model.specs.ArenaCalls.{Opened, Readable}
 use Rattle.model.proofs.BigEndianLaws.{Bytes}
 use Rattle.model.proofs.Trees.{Tree, tree-sorted}
+use Rattle.model.proofs.OrderLaws.{children-ordering}
 use Rattle.arena.specs.Header.{marksStored}
 use Rattle.arena.specs.Slot.{parentIn}
 use Rattle.arena.proofs.Encodable.{Encodable}
@@ -26,10 +27,6 @@ use Rattle.ordering.specs.Ordering.{Parted, Linked, Walkable, Walked, li
 use Rattle.ordering.proofs.SegmentLaws.{tree-parted, first-right, last-right, next-right, next-of-root}
 use Rattle.ordering.proofs.StepLaws.{walk-length, step-node, step-walk}
 use Rattle.ordering.proofs.EncodeOrdered.{linksOf, encode-same-nodes}
-
-children-ordering : (g : Graph) (v : ℕ) → childrenOf (ordering g) v ≡ sortedChildren g v
-unfolding ordering
-children-ordering g v = List·getD-map (sort (isStronger g)) (g .children) v []
 
 -- an arena of n nodes whose sorted lists stand in the arrays
 pub record Ready (bs : List ℕ) (n : ℕ) (sorted ends : List ℕ) : Type 0 where

@@ -1,5 +1,5 @@
 -- Sorting by insertion against the definitions; the loops over one part; one node's children; and all child lists in one array.
 mod PushLaws
-mod PartLaws
+pub mod PartLaws
 mod ChildLaws
 mod SortingLaws

@@ -2,7 +2,8 @@
 use mathlib.Core.Path.{sym, ap}
 use borrow.Author.Needs.{needs}
 use Rattle.model.specs.Arena.{lastOf}
-use Rattle.ordering.proofs.LinkLaws.{last-of-part, no-part}
+use Rattle.sorting.proofs.PartLaws.{slice-done}
+use Rattle.ordering.proofs.LinkLaws.{last-of-part}
 use Rattle.ordering.proofs.links.last_of.Statement.{statement}
 use Rattle.ordering.proofs.links.last_of.Tie as tie
 
@@ -23,7 +24,7 @@ returns c =
 returns-2 : tie.Need-returns-2
 returns-2 c =
     let s = c .before in
-    ap lastOf (sym (no-part (s .args .start) (s .args .end) (s .args .sorted .now) (s .pre .0) (c .if1 .left)))
+    ap lastOf (sym (slice-done (s .args .start) (s .args .end) (s .args .sorted .now) (s .pre .0) (c .if1 .left)))
 
 pub last-of-spec : {M : Type 1} → statement M
 last-of-spec = tie.close (tie.spec sub-result mul-result shared-slice-read-result returns returns-2)
