@@ -1,8 +1,10 @@
-//! Every function, on arguments that it accepts and on all kinds that it refuses.
+//! Every function, on arguments that it accepts and on all kinds that it refuses; order.rs has more on the order.
+mod common;
+
 use std::cmp::Ordering::{Equal, Greater, Less};
 
+use common::{arena_of, refused, ring};
 use plain::arena::holds_graph;
-use plain::layout::INVALID;
 use plain::random::Random;
 use plain::samples::arenas::Arena;
 use plain::samples::damaged_arenas::damage;
@@ -12,43 +14,18 @@ use plain::samples::strength::{large, random_pairs, small};
 use plain::strength::Strength;
 use viewer::*;
 
-/// An arena with the graph of these nodes.
-fn arena_of(nodes: &[Node]) -> Vec<u8> {
-    let mut arena = empty_arena();
-    assert_eq!(read_snapshot(&mut arena, &snapshot(nodes)), Ok(nodes.len() as u32));
-    arena
-}
-
-fn refused<T: std::fmt::Debug>(answer: Result<T, Refusal>) -> u32 {
-    answer.expect_err("a refusal").number()
-}
-
+/// Whatever the numbers are; nothing changes.
 fn refused_by_all(arena: &[u8], number: u32) {
     assert_eq!(refused(count(arena)), number);
     for (a, b) in [(0, 0), (1, 2), (u32::MAX, 0)] {
         assert_eq!(refused(compare_node_strength(arena, a, b)), number);
         assert_eq!(refused(compare_sibling_node_strength(arena, a, b)), number);
+        assert_eq!(refused(order_entry(arena, a)), number);
     }
-}
-
-/// Document 01's ring, as it is stored for the example.
-fn ring() -> Vec<Node> {
-    let node = |arc, flags, origin, depth, path: &str| Node {
-        arc,
-        flags,
-        parent: 1,
-        origin,
-        depth,
-        ..Node::reference(path.into())
-    };
-    vec![
-        Node { parent: INVALID, origin: INVALID, ..node(0, 1, INVALID, 1, "/M") },
-        Node { parent: 0, ..node(0, 0, 0, 1, "/M") },
-        node(4, 0, 1, 1, "/R"),
-        node(6, 8, 2, 1, "/S"),
-        node(6, 8, 2, 3, "/T"),
-        node(6, 0, 1, 2, "/U"),
-    ]
+    assert_eq!(refused(strength_order(arena)), number);
+    let mut copy = arena.to_vec();
+    assert_eq!(refused(finalize_strength_order(&mut copy)), number);
+    assert!(copy == arena);
 }
 
 #[test]

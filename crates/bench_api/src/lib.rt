@@ -101,7 +101,7 @@ fn order_number(answer: Compared) -> u32
     ensures { λ r. ⌜ r ≡ orderNumber answer ⌝ }
 {
     match answer {
-        Compared::As(ordering) => sums::ordering_number(ordering),
+        Compared::As(ordering) => ordering.number() as u32,
         Compared::Refused(refusal) => 1000000 + (refusal.number() as u32),
     }
 }

@@ -1,22 +1,9 @@
 // Comparisons below the questions, which are put once: what bench/ measures. specs/Pairs.antt says what is added up.
-use model::Ordering;
 ghost use mathlib.Core.Path.{_≡_};
 ghost use Prim.Native.Nat.{_<_, _≤_, _/_};
 ghost use lib.ListN.{length};
-ghost use Rattle.model.specs.Answers.{orderingNumber};
 ghost use Rattle.view.specs.View.{Standing};
 ghost use Rattle.bench_api.specs.Pairs.{Ready, nodePair, siblingPair, pairNumber, pairSum, pairsNumber, mostPairBytes};
-
-// Less is 0, Equal 1 and Greater 2.
-pub(crate) fn ordering_number(ordering: Ordering) -> u32
-    ensures { λ r. ⌜ (r ≡ orderingNumber ordering) × (r ≤ 2) ⌝ }
-{
-    match ordering {
-        Ordering::Less => 0,
-        Ordering::Equal => 1,
-        Ordering::Greater => 2,
-    }
-}
 
 // What two nodes add.
 fn node_pair(arena: &[u8], count: u32, root: u32, a: u32, b: u32) -> u32
@@ -29,7 +16,7 @@ fn node_pair(arena: &[u8], count: u32, root: u32, a: u32, b: u32) -> u32
     if b >= count {
         return 1000004;
     }
-    ordering_number(strength::compare_node_strength(arena, root, a, b))
+    strength::compare_node_strength(arena, root, a, b).number() as u32
 }
 
 // What two siblings add, once they are known to be nodes other than 0.
@@ -40,7 +27,7 @@ fn sibling_pair_above(arena: &[u8], root: u32, a: u32, b: u32) -> u32
     if view::parent(arena, a) != view::parent(arena, b) {
         return 1000008;
     }
-    ordering_number(strength::compare_sibling_node_strength(arena, root, a, b))
+    strength::compare_sibling_node_strength(arena, root, a, b).number() as u32
 }
 
 // What two siblings add.

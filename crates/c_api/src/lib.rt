@@ -2,30 +2,21 @@
 // `requires`: any slices may be lent, any numbers given. A slice is passed as a pointer and a length (viewer/include/cadgweri.h).
 // One number carries a call's refusal and its value, as specs/Carried.antt says.
 use model::Compared;
+use model::Finished;
 use model::Numbered;
-use model::Ordering;
 use model::Refusal;
 ghost use mathlib.Core.Path.{_≡_};
 ghost use mathlib.Core.List.{[]};
+ghost use lib.ListN.{getD};
 ghost use Rattle.model.specs.Answers.{orderingNumber};
 ghost use Rattle.model.specs.Arena.{countIn, decode};
-ghost use Rattle.model.specs.ArenaCalls.{intoArena, askArena};
-ghost use Rattle.model.specs.Calls.{readInto, comparesNodes, comparesSiblings};
+ghost use Rattle.model.specs.ArenaCalls.{onArena, intoArena, askArena};
+ghost use Rattle.model.specs.Calls.{finalizeStrengthOrder, readInto, comparesNodes, comparesSiblings};
 ghost use Rattle.model.specs.Graph.{emptyGraph};
 ghost use Rattle.model.specs.Refusals.{refusalNumber};
 ghost use Rattle.model.specs.Strength.{view, compareNodeStrength, compareSiblingNodeStrength};
-ghost use Rattle.c_api.specs.Carried.{carried, carriedNumber, carriedOrder, carriedAnswer, WroteCarried};
-
-// Less is 0, Equal 1 and Greater 2.
-fn ordering_number(ordering: Ordering) -> u64
-    ensures { λ r. ⌜ r ≡ orderingNumber ordering ⌝ }
-{
-    match ordering {
-        Ordering::Less => 0,
-        Ordering::Equal => 1,
-        Ordering::Greater => 2,
-    }
-}
+ghost use Rattle.finalizing.specs.Orders.{readsEntry};
+ghost use Rattle.c_api.specs.Carried.{carried, carriedNumber, carriedOrder, carriedFinish, carriedAnswer, WroteCarried, OrderCarried};
 
 // A refusal, and no value.
 fn carry_refusal(refusal: Refusal) -> u64
@@ -49,8 +40,18 @@ fn carry_order(answer: Compared) -> u64
     ensures { λ r. ⌜ r ≡ carriedOrder answer ⌝ }
 {
     match answer {
-        Compared::As(ordering) => ordering_number(ordering),
+        Compared::As(ordering) => ordering.number() as u64,
         Compared::Refused(refusal) => carry_refusal(refusal),
+    }
+}
+
+// The answer of a call that gives nothing.
+fn carry_finish(answer: Finished) -> u64
+    ensures { λ r. ⌜ r ≡ carriedFinish answer ⌝ }
+{
+    match answer {
+        Finished::Done => 0,
+        Finished::Refused(refusal) => carry_refusal(refusal),
     }
 }
 
@@ -84,4 +85,30 @@ pub extern "C" fn cadgweri_compare_sibling_node_strength(arena: &[u8], a: u32, b
     ensures { λ r. ⌜ r ≡ carriedAnswer (askArena (now (arena .entry)) (comparesSiblings (decode (now (arena .entry))) a b)) (orderingNumber (compareSiblingNodeStrength (view (decode (now (arena .entry)) .nodes)) a b)) ⌝ }
 {
     carry_order(prim_graph::compare_sibling_node_strength(arena, a, b))
+}
+
+// Orders the graph: each child list is sorted, and the order is their walk; a finalized graph stays as it is. No value. Refused 1 to 3, and 9 where a
+// child list has no order; the arena is then as it was.
+#[no_mangle]
+pub extern "C" fn cadgweri_finalize_strength_order(arena: &mut [u8]) -> u64
+    ensures { λ r. ⌜ WroteCarried (onArena finalizeStrengthOrder (now (arena .entry))) (now (arena .entry)) r (now (arena .exit)) ⌝ }
+{
+    carry_finish(prim_graph::finalize_strength_order(arena))
+}
+
+// Writes the order to the front of `out`, which has 4,096 bytes: a node's number in 4 bytes each, the strongest first. The value is how many nodes it has.
+// Refused 1 to 3, and 10 where the graph is not ordered; `out` is then as it was.
+#[no_mangle]
+pub extern "C" fn cadgweri_strength_order(arena: &[u8], out: &mut [u8]) -> u64
+    ensures { λ r. ⌜ OrderCarried (now (arena .entry)) (now (out .entry)) r (now (out .exit)) ⌝ }
+{
+    carry_number(prim_graph::strength_order(arena, out))
+}
+
+// The value is the node at a place of the order, from 0 on. Refused 1 to 3, 4 where the place is not below the count, and 10.
+#[no_mangle]
+pub extern "C" fn cadgweri_order_entry(arena: &[u8], place: u32) -> u64
+    ensures { λ r. ⌜ r ≡ carriedAnswer (askArena (now (arena .entry)) (readsEntry (decode (now (arena .entry))) place)) (getD (decode (now (arena .entry)) .order) place 0) ⌝ }
+{
+    carry_number(prim_graph::order_entry(arena, place))
 }

@@ -3,6 +3,7 @@
 ghost use mathlib.Core.Path.{_≡_};
 ghost use mathlib.Core.Bool.{not};
 ghost use lib.Dec.{eqb};
+ghost use Rattle.model.specs.Answers.{orderingNumber};
 ghost use Rattle.model.specs.Node.{invalid};
 ghost use Rattle.model.specs.Refusals.{refusalNumber};
 
@@ -32,6 +33,19 @@ pub enum Ordering {
     Less,
     Equal,
     Greater,
+}
+
+impl Ordering {
+    // Less is 0, Equal 1 and Greater 2.
+    pub fn number(self) -> u8
+        ensures { λ r. ⌜ r ≡ orderingNumber self ⌝ }
+    {
+        match self {
+            Ordering::Less => 0,
+            Ordering::Equal => 1,
+            Ordering::Greater => 2,
+        }
+    }
 }
 
 // Why a call was refused: the first of document 01's twelve questions whose answer is no.

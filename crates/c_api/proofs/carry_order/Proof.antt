@@ -9,8 +9,11 @@ use Rattle.c_api.proofs.carry_order.Tie as tie
 enum-known-answer : tie.Need-enum-known-answer
 enum-known-answer c = search needs
 
-ordering-number-requires : tie.Need-ordering-number-requires
-ordering-number-requires c κs = search needs
+number-requires : tie.Need-number-requires
+number-requires c κs = search needs
+
+cast-result : tie.Need-cast-result
+cast-result c = search needs
 
 enum-known-answer-2 : tie.Need-enum-known-answer-2
 enum-known-answer-2 c = search needs
@@ -19,7 +22,7 @@ carry-refusal-requires : tie.Need-carry-refusal-requires
 carry-refusal-requires c κs = search needs
 
 returns : tie.Need-returns
-returns c = c .ordering-number .ensures ∙ sym (zero-add _) ∙ sym (ap carriedOrder (c .before .before .answer .given .1))
+returns c = c .number .ensures ∙ sym (zero-add _) ∙ sym (ap carriedOrder (c .before .before .answer .given .1))
 
 returns-2 : tie.Need-returns-2
 returns-2 c = c .carry-refusal .ensures ∙ sym (ap carriedOrder (c .before .before .answer2 .given .1))
@@ -29,7 +32,8 @@ carry-order-spec =
     tie.close
     (tie.spec
     enum-known-answer
-    ordering-number-requires
+    number-requires
+    cast-result
     enum-known-answer-2
     carry-refusal-requires
     returns

@@ -19,18 +19,21 @@ compare-node-strength-requires : tie.Need-compare-node-strength-requires
 compare-node-strength-requires c κs =
     let ready = c .before .before .before .pre in (standing _ _ ready (c .before .if1 .left), standing _ _ ready (c .if2 .left))
 
-ordering-number-requires : tie.Need-ordering-number-requires
-ordering-number-requires c κs = search needs
+number-requires : tie.Need-number-requires
+number-requires c κs = search needs
+
+cast-result : tie.Need-cast-result
+cast-result c = search needs
 
 returns-3 : tie.Need-returns-3
 returns-3 c =
     let counted = c .before .before .before .before .before .pre .counted in (
-      c .ordering-number .ensures .0 ∙ ap orderingNumber (c .before .compare-node-strength .ensures)
+      c .number .ensures ∙ ap orderingNumber (c .before .compare-node-strength .ensures)
           ∙ node-pair-within _ _ _ (omega (arith, counted, c .before .before .before .if1 .left)) (omega (arith, counted, c .before .before .if2 .left)),
-      omega (arith, c .ordering-number .ensures .1),
+      omega arith,
     )
 
 pub node-pair-spec : {M : Type 1} → statement M
 node-pair-spec =
     tie.close
-    (tie.spec returns returns-2 compare-node-strength-requires ordering-number-requires returns-3)
+    (tie.spec returns returns-2 compare-node-strength-requires number-requires cast-result returns-3)

@@ -32,16 +32,19 @@ compare-sibling-node-strength-requires c κs =
       parents = sym (c .before .before .parent .ensures) ∙ c .if1 .left ∙ c .before .parent2 .ensures;
     }
 
-ordering-number-requires : tie.Need-ordering-number-requires
-ordering-number-requires c κs = search needs
+number-requires : tie.Need-number-requires
+number-requires c κs = search needs
+
+cast-result : tie.Need-cast-result
+cast-result c = search needs
 
 returns-2 : tie.Need-returns-2
 returns-2 c =
     let p = c .before .before .before .before .before .before .pre in
     let one = sym (c .before .before .before .before .parent .ensures) ∙ c .before .before .if1 .left ∙ c .before .before .before .parent2 .ensures in (
-      c .ordering-number .ensures .0 ∙ ap orderingNumber (c .before .compare-sibling-node-strength .ensures)
+      c .number .ensures ∙ ap orderingNumber (c .before .compare-sibling-node-strength .ensures)
           ∙ sibling-pair-within _ _ _ (p .0 .readable .below) (p .1 .readable .below) (p .2) (p .3) one,
-      omega (arith, c .ordering-number .ensures .1),
+      omega arith,
     )
 
 pub sibling-pair-above-spec : {M : Type 1} → statement M
@@ -52,5 +55,6 @@ sibling-pair-above-spec =
     parent-requires-2
     returns
     compare-sibling-node-strength-requires
-    ordering-number-requires
+    number-requires
+    cast-result
     returns-2)
