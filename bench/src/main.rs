@@ -1,6 +1,8 @@
 //! Holds the proved library to plain Rust, and measures it beside that, on the same input in one run.
 mod arenas;
 mod graphs;
+mod order;
+mod orders;
 mod paths;
 mod proved;
 mod snapshots;
@@ -14,8 +16,10 @@ const USAGE: &str = "\
 usage: bench [paths]                measure reading paths
        bench graphs                 measure the check of an arena, snapshots and adding
        bench strength               measure comparing nodes
+       bench order                  measure ordering graphs
        bench arenas SEED COUNT      compare the check on COUNT arenas, whole and damaged
-       bench snapshots SEED COUNT   compare the reading of COUNT snapshots, whole and damaged";
+       bench snapshots SEED COUNT   compare the reading of COUNT snapshots, whole and damaged
+       bench orders SEED COUNT      compare the ordering of COUNT arenas";
 
 fn main() -> ExitCode {
     let arguments: Vec<String> = env::args().skip(1).collect();
@@ -24,8 +28,10 @@ fn main() -> ExitCode {
         [] | ["paths"] => Some(paths::measure()),
         ["graphs"] => Some(graphs::measure()),
         ["strength"] => Some(strength::measure()),
+        ["order"] => Some(order::measure()),
         ["arenas", seed, count] => on_numbers(seed, count, arenas::compare),
         ["snapshots", seed, count] => on_numbers(seed, count, snapshots::compare),
+        ["orders", seed, count] => on_numbers(seed, count, orders::compare),
         _ => None,
     };
     match agreed {

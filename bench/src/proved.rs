@@ -7,6 +7,7 @@ unsafe extern "C" {
     fn bench_write_snapshot(arena: *const u8, alen: usize, out: *mut u8, olen: usize) -> u32;
     fn bench_init_root(arena: *mut u8, alen: usize, stack: u32, layer: u32, path: *const u8, plen: usize) -> u32;
     fn bench_add_child(arena: *mut u8, alen: usize, parent: u32, path: *const u8, plen: usize) -> u32;
+    fn bench_finalize_strength_order(arena: *mut u8, length: usize) -> u32;
     fn bench_compare_node_strength(arena: *const u8, length: usize, a: u32, b: u32) -> u32;
     fn bench_compare_pairs(arena: *const u8, alen: usize, pairs: *const u8, plen: usize) -> u64;
     fn bench_compare_sibling_pairs(arena: *const u8, alen: usize, pairs: *const u8, plen: usize) -> u64;
@@ -49,6 +50,11 @@ pub fn init_root(arena: &mut [u8], stack: u32, layer: u32, path: &[u8]) -> Resul
 /// The node's number.
 pub fn add_child(arena: &mut [u8], parent: u32, path: &[u8]) -> Result<u32, u32> {
     answer(unsafe { bench_add_child(arena.as_mut_ptr(), arena.len(), parent, path.as_ptr(), path.len()) })
+}
+
+/// 0, and the order in the arena.
+pub fn finalize_strength_order(arena: &mut [u8]) -> Result<u32, u32> {
+    answer(unsafe { bench_finalize_strength_order(arena.as_mut_ptr(), arena.len()) })
 }
 
 /// Less is 0, Equal 1 and Greater 2.

@@ -27,17 +27,22 @@ use std::io::{self, BufWriter, Write};
 use std::process::ExitCode;
 
 const USAGE: &str = "\
-usage: oracle answer                             answer the lines on standard input
-       oracle script paths SEED                  print lines on paths
-       oracle script graphs SEED COUNT           print lines on COUNT random graphs
-       oracle script arenas SEED COUNT           print COUNT scripts that make graphs and look at them
-       oracle script snapshots SEED COUNT        print lines that read COUNT damaged snapshots
-       oracle script strength SEED COUNT         print lines that compare every pair of COUNT small graphs
-       oracle script strength-large SEED COUNT   print lines that compare 2,000 pairs of COUNT large graphs
-       oracle script relations SEED COUNT        print lines that ask about nodes of COUNT small graphs
-       oracle deciding SEED COUNT                print how many pairs of `script strength` each line settles
-       oracle time-adding COUNT                  print the nanoseconds that the Rust takes to add COUNT nodes
-       oracle time-comparing SHAPE COUNT         print those for comparing its siblings and 10,000 pairs";
+usage: oracle answer                                 answer the lines on standard input
+       oracle script paths SEED                      print lines on paths
+       oracle script graphs SEED COUNT               print lines on COUNT random graphs
+       oracle script arenas SEED COUNT               print COUNT scripts that make graphs and look at them
+       oracle script snapshots SEED COUNT            print lines that read COUNT damaged snapshots
+       oracle script strength SEED COUNT             print lines that compare every pair of COUNT small graphs
+       oracle script strength-large SEED COUNT       print lines that compare 2,000 pairs of COUNT large graphs
+       oracle script relations SEED COUNT            print lines that ask about nodes of COUNT small graphs
+       oracle script orders SEED COUNT               print lines that order COUNT small graphs
+       oracle script orders-large SEED COUNT         print lines that order COUNT larger graphs and some of 1,024 nodes
+       oracle script sequences SEED COUNT            print lines that make and order COUNT graphs in two sequences
+       oracle script sequences-by-number SEED COUNT  print the same where node numbers decide
+       oracle deciding SEED COUNT                    print how many pairs of `script strength` each line settles
+       oracle time-adding COUNT                      print the nanoseconds that the Rust takes to add COUNT nodes
+       oracle time-comparing SHAPE COUNT             print those for comparing its siblings and 10,000 pairs
+       oracle time-ordering SHAPE COUNT              print those for ordering a graph of COUNT nodes";
 
 type Script = fn(u64, usize, &mut dyn Write) -> io::Result<()>;
 
@@ -53,11 +58,16 @@ fn main() -> ExitCode {
         ["script", "strength", seed, count] => print_script(scripts::strength, seed, count),
         ["script", "strength-large", seed, count] => print_script(scripts::strength_large, seed, count),
         ["script", "relations", seed, count] => print_script(scripts::relations, seed, count),
+        ["script", "orders", seed, count] => print_script(scripts::orders, seed, count),
+        ["script", "orders-large", seed, count] => print_script(scripts::orders_large, seed, count),
+        ["script", "sequences", seed, count] => print_script(scripts::sequences, seed, count),
+        ["script", "sequences-by-number", seed, count] => print_script(scripts::sequences_by_number, seed, count),
         ["deciding", seed, count] => print_script(deciding::print, seed, count),
         ["time-adding", count] => {
             count.parse().ok().map(|count| print(|out| writeln!(out, "{}", timing::adding(count))))
         }
         ["time-comparing", shape, count] => print_comparing(shape, count),
+        ["time-ordering", shape, count] => print_ordering(shape, count),
         _ => None,
     };
     match printed {
@@ -78,6 +88,12 @@ fn print_comparing(shape: &str, count: &str) -> Option<io::Result<()>> {
     let [siblings, nodes] = timing::comparing(shape, count.parse().ok()?)?;
     let (first, second) = (siblings.nanoseconds, nodes.nanoseconds);
     Some(print(|out| writeln!(out, "{first} {} {second} {}", siblings.sum, nodes.sum)))
+}
+
+/// Prints the nanoseconds for ordering and the sum of the order, if there is such a shape.
+fn print_ordering(shape: &str, count: &str) -> Option<io::Result<()>> {
+    let ordered = timing::ordering(shape, count.parse().ok()?)?;
+    Some(print(|out| writeln!(out, "{} {}", ordered.nanoseconds, ordered.sum)))
 }
 
 fn usage() -> ExitCode {

@@ -2,12 +2,14 @@
 
 mod arenas;
 mod graphs;
+mod orders;
 mod paths;
 mod snapshots;
 mod strength;
 
 pub use arenas::arenas;
 pub use graphs::graphs;
+pub use orders::{orders, orders_large, sequences, sequences_by_number};
 pub use paths::paths;
 pub use snapshots::snapshots;
 pub use strength::{relations, strength, strength_graphs, strength_large};

@@ -1,9 +1,10 @@
-//! The examples of document 01, the edges of the language, inputs that mean nothing, the plain reader of snapshots, and the
-//! plain comparison.
+//! The examples of document 01, the edges of the language, inputs that mean nothing, the plain reader of snapshots, the
+//! plain comparison, and ordering.
 
 mod departures;
 mod examples;
 mod lines;
+mod orders;
 mod paths;
 mod robustness;
 mod snapshots;

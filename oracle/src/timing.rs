@@ -1,13 +1,14 @@
-//! How long the Rust takes to grow a graph and to compare nodes: what the proved calls are measured beside.
+//! How long the Rust takes to grow a graph, to compare nodes and to order them: what the proved calls are measured beside.
 
 use std::cmp::Ordering;
 use std::hint::black_box;
 use std::time::{Duration, Instant};
 
 use plain::samples::graphs::{Node, grown, snapshot};
-use plain::samples::strength::{MEASURED_PAIRS, SHAPES, random_pairs, sibling_pairs};
+use plain::samples::strength::{MEASURED_PAIRS, ORDERED_SHAPES, SHAPES, random_pairs, sibling_pairs};
 
 use crate::calls::graph_of;
+use crate::narrowing;
 use crate::pcp::LayerId;
 use crate::pcp::layer_stack::LayerStackId;
 use crate::pcp::mapping::MapFunction;
@@ -89,4 +90,37 @@ fn number(ordering: Ordering) -> u64 {
         Ordering::Equal => 1,
         Ordering::Greater => 2,
     }
+}
+
+/// The time for ordering a graph of this shape, the least of many turns, and the sum of each place times its node's
+/// number; no such shape, or a graph without an order, gives nothing. Each turn has a graph of its own, made before the
+/// clock starts, since the Rust copies what two graphs share.
+pub fn ordering(shape: &str, count: usize) -> Option<Ordered> {
+    let (_, nodes) = ORDERED_SHAPES.iter().find(|(name, _)| *name == shape)?;
+    let snapshot = snapshot(&nodes(count));
+    let unordered = graph_of(&snapshot).ok()?;
+    narrowing::order(unordered.graph(), false).ok()?;
+    let mut ordered = Ordered { nanoseconds: u128::MAX, sum: 0 };
+    let begun = Instant::now();
+    while ordered.nanoseconds == u128::MAX || begun.elapsed() < ORDERING {
+        let mut judge = graph_of(&snapshot).ok()?;
+        let start = Instant::now();
+        judge.finalize_strength_order();
+        ordered.nanoseconds = ordered.nanoseconds.min(start.elapsed().as_nanos());
+        ordered.sum = order_sum(black_box(judge.graph()));
+    }
+    Some(ordered)
+}
+
+/// For ordering, turns go on for so long, the making of their graphs included.
+const ORDERING: Duration = Duration::from_millis(400);
+
+/// What ordering took, and a sum that tells one order from another.
+pub struct Ordered {
+    pub nanoseconds: u128,
+    pub sum: u64,
+}
+
+fn order_sum(graph: &PrimIndexGraph) -> u64 {
+    (0..).zip(graph.strength_order()).map(|(place, node): (u64, &NodeId)| place * u64::from(node.0)).sum()
 }

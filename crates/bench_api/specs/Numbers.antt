@@ -13,6 +13,7 @@ use Rattle.model.specs.Calls as calls
 use Rattle.model.specs.Calls.{Outcome}
 use Rattle.model.specs.Node.{invalid}
 use Rattle.prim_graph.specs.Snapshots.{SnapshotWritten}
+use Rattle.finalizing.specs.Orders.{Finalized}
 use Rattle.model.specs.declared.PrimCount.{PrimCount}
 use Rattle.model.specs.declared.PrimCount.the-variants.{Names, Malformed}
 use Rattle.model.specs.declared.Numbered.{Numbered}
@@ -20,6 +21,8 @@ use Rattle.model.specs.declared.Numbered.the-variants.{Number, Refused}
 use Rattle.model.specs.declared.Ordering.{Ordering}
 use Rattle.model.specs.declared.Compared.{Compared}
 use Rattle.model.specs.declared.Compared.the-variants.{As, Refused as CompareRefused}
+use Rattle.model.specs.declared.Finished.{Finished}
+use Rattle.model.specs.declared.Finished.the-variants.{Done, Refused as FinishRefused}
 
 abbrev pub countNumber : PrimCount → ℕ
 countNumber (Names n) = n
@@ -32,6 +35,10 @@ answerNumber (Refused r) = 1000000 + refusalNumber r
 abbrev pub orderNumber : Compared → ℕ
 orderNumber (As o) = orderingNumber o
 orderNumber (CompareRefused r) = 1000000 + refusalNumber r
+
+abbrev pub finishedNumber : Finished → ℕ
+finishedNumber Done = 0
+finishedNumber (FinishRefused r) = 1000000 + refusalNumber r
 
 abbrev pub graphNumber : List ℕ → ℕ
 graphNumber bs = bit (isArena bs && holdsGraph bs)
@@ -52,6 +59,12 @@ pub record ComparedNumber (questions : List Question) (order : Ordering) (r : �
   pub answer : Compared
   pub answered : AnsweredOrder questions order answer
   pub number : r ≡ orderNumber answer
+
+-- the answer of ordering, as a number, and the arena after it
+pub record FinalizedNumber (before : List ℕ) (r : ℕ) (after : List ℕ) : Type 0 where
+  pub answer : Finished
+  pub finalized : Finalized before answer after
+  pub number : r ≡ finishedNumber answer
 
 -- a Reference under `parent`, its origin and depth missing, other fields 0
 abbrev pub referenceDesc : ℕ → List ℕ → calls.NodeDesc

@@ -2,6 +2,7 @@
 mod sums;
 
 use model::Compared;
+use model::Finished;
 use model::NodeId;
 use model::Numbered;
 use model::PrimCount;
@@ -15,7 +16,7 @@ ghost use Rattle.model.specs.Calls.{initRoot, addChild, readInto, comparesNodes
 ghost use Rattle.model.specs.Graph.{emptyGraph};
 ghost use Rattle.model.specs.Path.{countPrims};
 ghost use Rattle.model.specs.Strength.{view, compareNodeStrength};
-ghost use Rattle.bench_api.specs.Numbers.{countNumber, answerNumber, orderNumber, graphNumber, referenceDesc, WroteNumber, WrittenNumber, ComparedNumber};
+ghost use Rattle.bench_api.specs.Numbers.{countNumber, answerNumber, orderNumber, graphNumber, referenceDesc, WroteNumber, WrittenNumber, ComparedNumber, finishedNumber, FinalizedNumber};
 ghost use Rattle.bench_api.specs.Pairs.{pairsNumber};
 
 // The prim count, or 65,536 where the bytes are no path.
@@ -128,4 +129,22 @@ pub extern "C" fn bench_compare_sibling_pairs(arena: &[u8], pairs: &[u8]) -> u64
     ensures { λ r. ⌜ r ≡ pairsNumber true (now (arena .entry)) (now (pairs .entry)) ⌝ }
 {
     sums::compare_pairs(arena, pairs, true)
+}
+
+// 0, or 1,000,000 and the refusal's number.
+fn finished_number(answer: Finished) -> u32
+    ensures { λ r. ⌜ r ≡ finishedNumber answer ⌝ }
+{
+    match answer {
+        Finished::Done => 0,
+        Finished::Refused(refusal) => 1000000 + (refusal.number() as u32),
+    }
+}
+
+// `finalize_strength_order`.
+#[no_mangle]
+pub extern "C" fn bench_finalize_strength_order(arena: &mut [u8]) -> u32
+    ensures { λ r. ⌜ FinalizedNumber (now (arena .entry)) r (now (arena .exit)) ⌝ }
+{
+    finished_number(prim_graph::finalize_strength_order(arena))
 }

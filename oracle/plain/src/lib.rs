@@ -4,6 +4,7 @@
 
 pub mod arena;
 pub mod layout;
+pub mod order;
 pub mod path;
 pub mod random;
 pub mod record;

@@ -4,6 +4,7 @@ pub mod arenas;
 pub mod damaged_arenas;
 pub mod damaged_snapshots;
 pub mod graphs;
+pub mod orders;
 pub mod strength;
 
 use crate::random::Random;

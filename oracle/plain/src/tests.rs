@@ -2,5 +2,6 @@
 
 mod arenas;
 mod definitions;
+mod orders;
 mod snapshots;
 mod strength;

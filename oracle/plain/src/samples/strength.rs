@@ -110,12 +110,17 @@ fn recent(random: &mut Random, count: usize) -> usize {
     count.saturating_sub(random.between(1, 3))
 }
 
-/// 200 to 1,024 nodes. Most have the last node of one of a few chains of origins as their origin, and become the last.
+/// 200 to 1,024 nodes.
 pub fn large(random: &mut Random) -> Vec<Node> {
+    let count = random.between(200, 1_024);
+    long_chains(random, count)
+}
+
+/// So many nodes. Most have the last node of one of a few chains of origins as their origin, and become the last.
+pub fn long_chains(random: &mut Random, count: usize) -> Vec<Node> {
     let deepest = random.pick(&[0, 0, 0, 2]);
     let style = Style { deepest, ..Style::any(random) };
     let mut nodes = style.roots(random);
-    let count = random.between(200, 1_024);
     let mut ends = vec![nodes.len() - 1; random.pick(&[1, 2, 3, 6])];
     let (nested, branching) = (random.pick(&[3, 10, 1_000]), random.pick(&[40, 300, 5_000]));
     while nodes.len() < count {
@@ -133,6 +138,15 @@ type Shape = fn(usize) -> Vec<Node>;
 
 /// The shapes that are measured, and their names.
 pub const SHAPES: [(&str, Shape); 4] = [("chain", chain), ("star", star), ("mixed", mixed), ("origins", long_origins)];
+
+/// The shapes of which ordering is measured: they have an order.
+pub const ORDERED_SHAPES: [(&str, Shape); 5] = [
+    ("chain", chain),
+    ("star", star),
+    ("mixed", |count| alike(mixed(count))),
+    ("origins", |count| alike(long_origins(count))),
+    ("late", late_local_root),
+];
 
 /// Pairs that are measured on a graph: so many random ones, and at least so many of siblings.
 pub const MEASURED_PAIRS: usize = 10_000;
@@ -188,6 +202,26 @@ fn long_origins(count: usize) -> Vec<Node> {
         let flags = if at % 4 < 2 { HAS_SPECIALIZES } else { 0 };
         Node { flags, ..linked(SPECIALIZE, 1, origin, path) }
     })
+}
+
+/// All nodes below node 0, the local root last.
+fn late_local_root(count: usize) -> Vec<Node> {
+    let mut nodes = star(count + 1);
+    let local_root = nodes.remove(1);
+    nodes.truncate(count - 1);
+    nodes.iter_mut().skip(1).for_each(|node| (node.parent, node.origin) = (0, 0));
+    nodes.push(local_root);
+    nodes
+}
+
+/// The nodes with one depth for each arc, and HAS_SPECIALIZES on each Specialize and on nothing else: where siblings of
+/// one arc differ in these, there are rings.
+pub fn alike(mut nodes: Vec<Node>) -> Vec<Node> {
+    for node in &mut nodes {
+        node.depth = u16::from(node.arc % 3);
+        node.flags = node.flags & !HAS_SPECIALIZES | if node.arc == SPECIALIZE { HAS_SPECIALIZES } else { 0 };
+    }
+    nodes
 }
 
 /// The pairs of siblings, each once, and all of them again until there are at least so many.

@@ -1,6 +1,5 @@
 -- `sum_pairs` meets its contract. The invariant of its loop: `sum` is the sum of the first `i` pairs, each of which adds at most 1,000,008. The measure
 -- is what is left of the pairs. Assumes nothing.
-use borrow.Author.Needs.{needs}
 use native.Mathlib.Omega.{arith}
 use mathlib.Core.Path.{_≡_, refl, ap, _∙_}
 use Prim.Native.Nat.{_*_, _-_, _/_, _≤_}

@@ -1,0 +1,81 @@
+// Whether one node is culled, and its flags then.
+ghost use mathlib.Core.Path.{_≡_};
+ghost use Prim.Native.Nat.{_≤_};
+ghost use Rattle.model.specs.Arena.{decode};
+ghost use Rattle.model.specs.ArenaCalls.{Readable};
+ghost use Rattle.model.specs.Culling.{introducer, keepsInherit};
+ghost use Rattle.view.specs.View.{Standing};
+ghost use Rattle.culling.specs.Culled.{isKept, canCullUnder, withCulled};
+
+// t of document 01: node n if it is authored, else where its origins begin.
+fn introducer(arena: &[u8], n: u32) -> u32
+    requires { ⌜ Readable (now arena) n ⌝ }
+    ensures { λ r. ⌜ (r ≡ introducer (decode (now (arena .entry)) .nodes) n) × (r ≤ n) ⌝ }
+{
+    if view::is_authored(arena, n) {
+        return n;
+    }
+    let found = walks::origin_root_node(arena, n);
+    found.node
+}
+
+// Whether node n is an Inherit in the local root's stack that stays: t's introduction path has not one prim. It has as many as t's path, less t's depth
+// below introduction.
+fn keeps_inherit(arena: &[u8], root: u32, n: u32) -> bool
+    requires { ⌜ Standing (now arena) root n ⌝ }
+    ensures { λ r. ⌜ r ≡ keepsInherit (decode (now (arena .entry)) .nodes) n ⌝ }
+{
+    if view::arc(arena, n) != 1 {
+        return false;
+    }
+    if !view::in_local_stack(arena, root, n) {
+        return false;
+    }
+    let t = introducer(arena, n);
+    let prims = arena::prim_count(arena, t) as u16;
+    prims != view::depth_below(arena, t) + 1
+}
+
+// Whether node n stays whatever its children do.
+fn is_kept(arena: &[u8], root: u32, n: u32) -> bool
+    requires { ⌜ Standing (now arena) root n ⌝ }
+    ensures { λ r. ⌜ r ≡ isKept (decode (now (arena .entry)) .nodes) n ⌝ }
+{
+    if view::arc(arena, n) == 0 {
+        return true;
+    }
+    if view::depth_below(arena, n) == 0 {
+        return true;
+    }
+    if keeps_inherit(arena, root, n) {
+        return true;
+    }
+    if arena::has_specs(arena, n) != 1 {
+        return false;
+    }
+    !record_check::is_inert(arena::flags(arena, n))
+}
+
+// Whether node n is culled, where `busy` says whether a child of it is not.
+pub(crate) fn can_cull(arena: &[u8], root: u32, n: u32, busy: bool) -> bool
+    requires { ⌜ Standing (now arena) root n ⌝ }
+    ensures { λ r. ⌜ r ≡ canCullUnder busy (decode (now (arena .entry)) .nodes) n ⌝ }
+{
+    if record_check::is_culled(arena::flags(arena, n)) {
+        return true;
+    }
+    if is_kept(arena, root, n) {
+        return false;
+    }
+    !busy
+}
+
+// The flags with CULLED set.
+pub(crate) fn with_culled(flags: u8) -> u8
+    ensures { λ r. ⌜ r ≡ withCulled flags ⌝ }
+{
+    if record_check::is_culled(flags) {
+        return flags;
+    }
+    flags + 2
+}

@@ -1,0 +1,85 @@
+//! Graphs whose nodes are added in another sequence, and where node numbers decide.
+
+use crate::layout::{ARENA_BYTES, INVALID};
+use crate::random::Random;
+use crate::record::{HAS_SPECIALIZES, INERT, ROOT, SPECIALIZE};
+use crate::samples::graphs::{Node, snapshot};
+use crate::samples::orders::{numbers_decide, resequenced, small};
+use crate::samples::strength::ORDERED_SHAPES;
+
+/// The nodes without their links, in an order of their own.
+fn fields(nodes: &[Node]) -> Vec<String> {
+    let unlinked = |node: &Node| format!("{:?}", Node { parent: 0, origin: 0, ..node.clone() });
+    let mut fields: Vec<String> = nodes.iter().map(unlinked).collect();
+    fields.sort();
+    fields
+}
+
+/// From the node up to node 0: the paths of the nodes, and those of their origins.
+fn paths_above(nodes: &[Node], at: usize) -> Vec<(Vec<u8>, Vec<u8>)> {
+    let mut paths = Vec::new();
+    let mut at = at as u32;
+    while at != 0 {
+        let node = &nodes[at as usize];
+        paths.push((node.path.clone(), nodes[node.origin as usize].path.clone()));
+        at = node.parent;
+    }
+    paths
+}
+
+fn all_paths_above(nodes: &[Node]) -> Vec<Vec<(Vec<u8>, Vec<u8>)>> {
+    let mut all: Vec<_> = (0..nodes.len()).map(|at| paths_above(nodes, at)).collect();
+    all.sort();
+    all
+}
+
+#[test]
+fn sequences() {
+    let mut random = Random::new(21);
+    let mut arena = vec![0; ARENA_BYTES];
+    let mut others = 0;
+    for _ in 0..2_000 {
+        let nodes = small(&mut random);
+        let sequence = resequenced(&mut random, &nodes);
+        assert_eq!(crate::snapshot::read(&snapshot(&sequence), &mut arena), Ok(nodes.len()));
+        assert_eq!(fields(&sequence), fields(&nodes));
+        assert_eq!(all_paths_above(&sequence), all_paths_above(&nodes));
+        others += usize::from(sequence != nodes);
+    }
+    assert!(others > 1_200, "{others}");
+}
+
+/// Two of an arc below the local root, and with these sibling numbers.
+fn two(arc: u8, first: u16, second: u16) -> Vec<Node> {
+    let root = Node { arc: ROOT, flags: INERT, parent: INVALID, origin: INVALID, ..Node::reference(b"/M".into()) };
+    let local_root = Node { arc: ROOT, ..Node::reference(b"/M".into()) };
+    let flags = if arc == SPECIALIZE { HAS_SPECIALIZES } else { 0 };
+    let child = |sibling| Node { arc, flags, parent: 1, origin: 1, sibling, ..Node::reference(b"/A".into()) };
+    vec![root, local_root, child(first), child(second)]
+}
+
+#[test]
+fn numbers() {
+    for arc in 1..=6 {
+        assert!(numbers_decide(&two(arc, 5, 5)));
+        assert!(!numbers_decide(&two(arc, 5, 4)));
+        let mut nested = two(arc, 5, 5);
+        nested[3].parent = 2;
+        assert!(!numbers_decide(&nested));
+    }
+}
+
+/// The local root of the last shape is its last node.
+#[test]
+fn shapes() {
+    for (name, shape) in ORDERED_SHAPES {
+        for count in [16, 300] {
+            let nodes = shape(count);
+            assert_eq!(nodes.len(), count);
+            assert_eq!(
+                nodes.iter().rposition(|node| node.arc == ROOT),
+                Some(if name == "late" { count - 1 } else { 1 })
+            );
+        }
+    }
+}
