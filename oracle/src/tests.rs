@@ -10,12 +10,20 @@ mod robustness;
 mod snapshots;
 mod strength;
 
+use crate::Script;
 use crate::calls::Calls;
 
 /// The answers to the lines of `script`.
 fn answers(script: &str) -> Vec<String> {
     let mut calls = Calls::default();
     script.split('\n').map(|line| calls.answer(line.as_bytes()).text()).collect()
+}
+
+/// The lines of a generated script.
+fn printed(script: Script, seed: u64, count: usize) -> String {
+    let mut out = Vec::new();
+    script(seed, count, &mut out).expect("memory takes every byte");
+    String::from_utf8(out).expect("text")
 }
 
 /// Runs `script`, in which each line is followed by ` => ` and the answer it must get.

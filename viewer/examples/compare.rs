@@ -1,21 +1,14 @@
 //! Loads a snapshot from a file and compares two of its nodes:
 //! `cargo run --example compare -- examples/ring.snapshot 3 4`
+mod common;
+
 use std::cmp::Ordering;
 use std::error::Error;
 use std::process::ExitCode;
 use std::{env, fs};
 
 fn main() -> ExitCode {
-    match compare() {
-        Ok(said) => {
-            println!("{said}");
-            ExitCode::SUCCESS
-        }
-        Err(error) => {
-            eprintln!("{error}");
-            ExitCode::FAILURE
-        }
-    }
+    common::say(compare())
 }
 
 fn compare() -> Result<String, Box<dyn Error>> {

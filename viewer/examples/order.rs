@@ -1,20 +1,13 @@
 //! Loads a snapshot from a file and prints its nodes, the strongest first:
 //! `cargo run --example order -- ../examples/line.snapshot`
+mod common;
+
 use std::error::Error;
 use std::process::ExitCode;
 use std::{env, fs};
 
 fn main() -> ExitCode {
-    match order() {
-        Ok(said) => {
-            println!("{said}");
-            ExitCode::SUCCESS
-        }
-        Err(error) => {
-            eprintln!("{error}");
-            ExitCode::FAILURE
-        }
-    }
+    common::say(order())
 }
 
 fn order() -> Result<String, Box<dyn Error>> {

@@ -3,7 +3,7 @@ mod common;
 
 use std::cmp::Ordering::{Equal, Greater, Less};
 
-use common::{arena_of, refused, ring};
+use common::{arena_of, refused, refuses_to_order, ring};
 use plain::arena::holds_graph;
 use plain::random::Random;
 use plain::samples::arenas::Arena;
@@ -23,9 +23,7 @@ fn refused_by_all(arena: &[u8], number: u32) {
         assert_eq!(refused(order_entry(arena, a)), number);
     }
     assert_eq!(refused(strength_order(arena)), number);
-    let mut copy = arena.to_vec();
-    assert_eq!(refused(finalize_strength_order(&mut copy)), number);
-    assert!(copy == arena);
+    refuses_to_order(arena, number);
 }
 
 #[test]

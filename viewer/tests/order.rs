@@ -1,61 +1,16 @@
 //! Ordering and reading the order, on arguments that they accept and on all kinds that they refuse.
 mod common;
 
-use std::cmp::Ordering::Less;
-
-use common::{arena_of, refused, ring};
+use common::{arena_of, refused, refuses_to_order, ring};
 use plain::arena::holds_graph;
 use plain::layout::*;
+use plain::order::{sorted, walk, write};
 use plain::random::Random;
 use plain::samples::arenas::Arena;
 use plain::samples::damaged_arenas::damage;
 use plain::samples::graphs::Node;
 use plain::samples::strength::{SHAPES, large, small};
-use plain::strength::Strength;
 use viewer::*;
-
-/// The children of each node, the strongest first, by the plain reading of document 01; none where some have no order.
-fn plain_lists(nodes: &[Node]) -> Option<Vec<Vec<u32>>> {
-    let plain = Strength::new(nodes);
-    let less = |a: u32, b: u32| plain.of_siblings(a as usize, b as usize).0 == Less;
-    let mut lists = vec![Vec::new(); nodes.len()];
-    for (node, parent) in (0..).zip(nodes).skip(1).map(|(node, fields)| (node, fields.parent)) {
-        lists[parent as usize].push(node);
-    }
-    for list in &mut lists {
-        let children = list.clone();
-        list.sort_by_cached_key(|&child| children.iter().filter(|&&other| less(other, child)).count());
-    }
-    let in_order = |list: &Vec<u32>| (1..list.len()).all(|b| list[..b].iter().all(|&a| less(a, list[b])));
-    lists.iter().all(in_order).then_some(lists)
-}
-
-/// Each node before its children, one child with all below it before the next.
-fn plain_walk(lists: &[Vec<u32>]) -> Vec<u32> {
-    let (mut order, mut waiting) = (Vec::new(), vec![0]);
-    while let Some(node) = waiting.pop() {
-        order.push(node);
-        waiting.extend(lists[node as usize].iter().rev());
-    }
-    order
-}
-
-/// Links the children as the lists have them, and puts the order and its marks in.
-fn put_order(arena: &mut [u8], lists: &[Vec<u32>], order: &[u32]) {
-    let or_none = |child: Option<&u32>| child.copied().unwrap_or(INVALID);
-    for (parent, list) in lists.iter().enumerate() {
-        put_u32(arena, slot_at(parent) + FIRST_CHILD, or_none(list.first()));
-        put_u32(arena, slot_at(parent) + LAST_CHILD, or_none(list.last()));
-        for (at, &child) in list.iter().enumerate() {
-            put_u32(arena, slot_at(child as usize) + NEXT_SIBLING, or_none(list.get(at + 1)));
-        }
-    }
-    for (place, &node) in order.iter().enumerate() {
-        put_u32(arena, slot_at(place) + ORDER_ENTRY, node);
-    }
-    arena[ORDERED] = 1;
-    arena[FINALIZED] = 1 - arena[SHALLOW];
-}
 
 /// The entries of an ordered graph that the arena has.
 fn entries(arena: &[u8]) -> Vec<u32> {
@@ -85,19 +40,12 @@ fn reads_no_order(arena: &[u8], count: u32) {
     }
 }
 
-/// Ordering is refused with this number and changes nothing.
-fn refuses_to_order(arena: &[u8], number: u32) {
-    let mut copy = arena.to_vec();
-    assert_eq!(refused(finalize_strength_order(&mut copy)), number);
-    assert!(copy == arena);
-}
-
 #[test]
 fn the_ring() {
     let arena = arena_of(&ring());
     refuses_to_order(&arena, 9);
     reads_no_order(&arena, 6);
-    assert_eq!(plain_lists(&ring()), None);
+    assert_eq!(sorted(&ring()), None);
 }
 
 /// Without one of its nodes the ring is none, and there is an order.
@@ -154,13 +102,13 @@ fn read_over_an_order() {
 fn orders(nodes: &[Node]) -> Option<bool> {
     let mut arena = arena_of(nodes);
     reads_no_order(&arena, nodes.len() as u32);
-    let Some(lists) = plain_lists(nodes) else {
+    let Some(lists) = sorted(nodes) else {
         refuses_to_order(&arena, 9);
         return None;
     };
     let mut expected = arena.clone();
-    let order = plain_walk(&lists);
-    put_order(&mut expected, &lists, &order);
+    write(&lists, &mut expected);
+    let order: Vec<u32> = walk(&lists).into_iter().map(|node| node as u32).collect();
     for _ in 0..2 {
         assert_eq!(finalize_strength_order(&mut arena), Ok(()));
         assert!(arena == expected);

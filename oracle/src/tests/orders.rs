@@ -6,15 +6,9 @@ use plain::samples::graphs::{Node, snapshot};
 use plain::samples::orders::{resequenced, settled, small};
 use plain::samples::strength::ORDERED_SHAPES;
 
-use super::{answers, check};
+use super::{answers, check, printed};
 use crate::calls::graph_of;
-use crate::{Script, narrowing, scripts, timing};
-
-fn printed(script: Script, seed: u64, count: usize) -> String {
-    let mut out = Vec::new();
-    script(seed, count, &mut out).expect("memory takes every byte");
-    String::from_utf8(out).expect("text")
-}
+use crate::{narrowing, scripts, timing};
 
 #[test]
 fn words_and_answers() {

@@ -4,17 +4,11 @@ use plain::samples::graphs::snapshot;
 use plain::samples::strength::{SHAPES, random_pairs};
 use plain::strength::Strength;
 
-use super::answers;
+use super::{answers, printed};
 use crate::calls::graph_of;
 use crate::deciding::{self, deciding};
 use crate::pcp::prim_graph::NodeId;
-use crate::{Script, scripts, timing};
-
-fn printed(script: Script, seed: u64, count: usize) -> String {
-    let mut out = Vec::new();
-    script(seed, count, &mut out).expect("memory takes every byte");
-    String::from_utf8(out).expect("text")
-}
+use crate::{scripts, timing};
 
 #[test]
 fn words_and_answers() {

@@ -1,7 +1,7 @@
 //! What the tests share.
 use plain::layout::INVALID;
 use plain::samples::graphs::{Node, snapshot};
-use viewer::{Refusal, empty_arena, read_snapshot};
+use viewer::{Refusal, empty_arena, finalize_strength_order, read_snapshot};
 
 /// An arena with the graph of these nodes.
 pub fn arena_of(nodes: &[Node]) -> Vec<u8> {
@@ -12,6 +12,13 @@ pub fn arena_of(nodes: &[Node]) -> Vec<u8> {
 
 pub fn refused<T: std::fmt::Debug>(answer: Result<T, Refusal>) -> u32 {
     answer.expect_err("a refusal").number()
+}
+
+/// Ordering is refused with this number and changes nothing.
+pub fn refuses_to_order(arena: &[u8], number: u32) {
+    let mut copy = arena.to_vec();
+    assert_eq!(refused(finalize_strength_order(&mut copy)), number);
+    assert!(copy == arena);
 }
 
 /// Document 01's ring, as it is stored for the example.
