@@ -1,4 +1,4 @@
-// Text put into lent bytes: each function puts its part from `at` on and answers where it ends. Each requires room, which its callers prove.
+// Text put into lent bytes, for this crate alone: each function puts its part from `at` on and answers where it ends. Each requires room, which its callers prove.
 ghost use mathlib.Core.List.{[], _∷_};
 ghost use Prim.Native.Nat.{_+_, _≤_};
 ghost use lib.ListN.{length};
