@@ -1,7 +1,6 @@
 -- In an arena that holds a graph, encoding a graph of the same nodes is to store its marks, its links and its order, since the count, the local root
 -- and each node's record are there: `encode-same-nodes`. Assumes nothing.
 use mathlib.Core.Path.{_≡_, refl, sym, ap, _∙_}
-use mathlib.Core.Logic.{inr}
 use mathlib.Core.Bool.{Bool, true, false, cond}
 use mathlib.Core.List.{List, [], _∷_}
 use Prim.Native.Nat.{ℕ, zero, suc, _+_, _≤_, _<_}
@@ -15,38 +14,17 @@ use Rattle.model.specs.Node.{Node}
 use Rattle.model.specs.Graph.{Graph, size, nodeAt}
 use Rattle.model.specs.Path.{primCount}
 use Rattle.model.specs.Snapshot.{bigEndian, recordBytes}
-use Rattle.model.specs.Arena.{arenaBytes, slotAt, linkBytes, siteBytes, slotStored, slotsStored, orderStored, headerBytes, rootStored, localRootOf, decode, encode}
+use Rattle.model.specs.Arena.{arenaBytes, slotAt, siteBytes, slotStored, slotsStored, orderStored, headerBytes, rootStored, localRootOf, decode, encode}
 use Rattle.model.specs.ArenaCalls.{Opened}
 use Rattle.model.proofs.BigEndianLaws.{Bytes}
 use Rattle.model.proofs.StoredLaws.{length-stored, part-after-stored, stored-field-same, stored-next, stored-there}
 use Rattle.arena.specs.Header.{marksStored}
 use Rattle.arena.proofs.Encodable.{Encodable}
-use Rattle.arena.proofs.ArenaParts.{apart-kept, apart-slots, site-short, root-part, site-part}
+use Rattle.arena.proofs.ArenaParts.{site-short, root-part, site-part}
 use Rattle.arena.proofs.ArenaBack.{encode-decode}
 use Rattle.arena.proofs.HeldEncodable.{held-encodable}
 use Rattle.arena.proofs.ReadNodes.{sizes}
-
--- the links of the first k nodes of a graph stored
-abbrev pub linksOf : Graph → ℕ → List ℕ → List ℕ
-linksOf g zero s = s
-linksOf g (suc k) s = stored (slotAt k) (linkBytes g k) (linksOf g k s)
-
-module _ (g : Graph) where
-  links-length : (k : ℕ) (s : List ℕ) → k ≤ 1024 → length s ≡ arenaBytes → length (linksOf g k s) ≡ arenaBytes
-  links-length zero s few whole = whole
-  links-length (suc k) s few whole =
-      let before = links-length k s (omega arith) whole in
-      length-stored (slotAt k) (linkBytes g k) (linksOf g k s) (omega arith) ∙ before
-
-  -- the site of a slot stays
-  links-keep-site : (n w k : ℕ) (s : List ℕ) → w ≤ 285 → k ≤ 1024 → length s ≡ arenaBytes
-      → take w (drop (slotAt n + 16) (linksOf g k s)) ≡ take w (drop (slotAt n + 16) s)
-  links-keep-site n w zero s short few whole = refl
-  links-keep-site n w (suc k) s short few whole =
-      let before = links-length k s (omega arith) whole in
-      apart-kept (slotAt k) (linkBytes g k) (linksOf g k s) (slotAt n + 16) w (omega arith)
-      (apart-slots n (slotAt n + 16) w k (slotAt k) 12 (omega arith) (omega arith) (omega arith) (omega arith) (λ e. inr (omega arith)))
-      ∙ links-keep-site n w k s short (omega arith) whole
+use Rattle.links.proofs.LinkStores.{linksOf, links-keep-site}
 
 module _ (bs : List ℕ) (bytes : Bytes bs) (o : Opened bs) (h : Graph) (same : h .nodes ≡ decode bs .nodes) (some-node : 0 < size (decode bs)) where
   abbrev g : Graph

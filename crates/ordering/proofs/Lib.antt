@@ -1,8 +1,5 @@
--- Links of lists in arrays; climbing; storing the order; the lists of all parents; the walk by steps; what the stores leave; and all together.
-mod LinkLaws
+-- Climbing; the walk by steps; what the stores leave; and all together.
 mod ClimbLaws
-mod EntryLaws
-mod SegmentLaws
 mod StepLaws
 mod EncodeOrdered
 mod OrderingLaws

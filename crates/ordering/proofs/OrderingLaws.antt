@@ -1,18 +1,16 @@
 -- The links and the walk made of a graph's sorted lists, written into the arena that holds the graph, leave the ordered graph: `ordering-written`; and
 -- what linking and walking ask: `parted`, `walkable`. Assumes nothing.
 use mathlib.Core.Path.{_≡_, refl, sym, ap, subst, _∙_}
-use mathlib.Core.List.{List, [], _++_}
-use Prim.Native.Nat.{ℕ, zero, suc, _≤_, _<_}
+use mathlib.Core.List.{List, []}
+use Prim.Native.Nat.{ℕ, _≤_, _<_}
 use native.Mathlib.Omega.{arith}
 use lib.ListN.{length, take, getD, List·getD-eq-default}
 use lib.Seq.{slice, length-take-le, getD-take, ext-getD}
-use Rattle.model.specs.Bytes.{stored}
 use Rattle.model.specs.Node.{invalid, Node}
 use Rattle.model.specs.Graph.{Graph, size, childrenOf}
 use Rattle.model.specs.Order.{sort, walk, isStronger, sortedChildren, ordering}
-use Rattle.model.specs.Snapshot.{bigEndian}
 use Rattle.model.specs.Strength.{view}
-use Rattle.model.specs.Arena.{slotAt, countIn, firstOf, lastOf, afterIn, linkBytes, orderStored, decode, encode}
+use Rattle.model.specs.Arena.{countIn, firstOf, afterIn, orderStored, decode, encode}
 use Rattle.model.specs.ArenaCalls.{Opened, Readable}
 use Rattle.model.proofs.BigEndianLaws.{Bytes}
 use Rattle.model.proofs.Trees.{Tree, tree-sorted}
@@ -22,11 +20,12 @@ use Rattle.arena.specs.Slot.{parentIn}
 use Rattle.arena.proofs.Encodable.{Encodable}
 use Rattle.arena.proofs.HeldEncodable.{held-encodable}
 use Rattle.arena.proofs.ReadNodes.{sizes, node-read, fields-read}
-use Rattle.sorting.specs.Sorting.{Segments}
-use Rattle.ordering.specs.Ordering.{Parted, Linked, Walkable, Walked, linksWritten, marksWritten, graphWritten}
-use Rattle.ordering.proofs.SegmentLaws.{tree-parted, first-right, last-right, next-right, next-of-root}
+use Rattle.links.specs.Links.{Segments, Parted, Linked, linksWritten}
+use Rattle.links.proofs.SegmentLaws.{tree-parted, first-right, next-right}
+use Rattle.links.proofs.LinkStores.{linksOf, Linkable, links-right}
+use Rattle.ordering.specs.Ordering.{Walkable, Walked, marksWritten, graphWritten}
 use Rattle.ordering.proofs.StepLaws.{walk-length, step-node, step-walk}
-use Rattle.ordering.proofs.EncodeOrdered.{linksOf, encode-same-nodes}
+use Rattle.ordering.proofs.EncodeOrdered.{encode-same-nodes}
 
 -- an arena of n nodes whose sorted lists stand in the arrays
 pub record Ready (bs : List ℕ) (n : ℕ) (sorted ends : List ℕ) : Type 0 where
@@ -70,9 +69,6 @@ module _ (bs : List ℕ) (n : ℕ) (sorted ends : List ℕ) (ready : Ready bs n 
     firsts : (p : ℕ) → p < n → getD first p 0 ≡ firstOf (lists p)
     firsts = first-right n parent lists tree sorted ends (ready .segments) few first last before next linked long
 
-    lasts : (p : ℕ) → p < n → getD last p 0 ≡ lastOf (lists p)
-    lasts = last-right n parent lists tree sorted ends (ready .segments) few first last before next linked long
-
     nexts : (c : ℕ) → 0 < c → c < n → getD next c 0 ≡ afterIn c (lists (parent c))
     nexts = next-right n parent lists tree sorted ends (ready .segments) few first last before next linked long
 
@@ -81,28 +77,29 @@ module _ (bs : List ℕ) (n : ℕ) (sorted ends : List ℕ) (ready : Ready bs n 
 
     -- ---- The links
 
-    -- node 0's parent is no node
-    next-all : (c : ℕ) → c < n → getD next c 0 ≡ afterIn c (lists (parent c))
-    next-all zero h =
+    listed : lists ≡ childrenOf (ordering g)
+    listed = λ i v. sym (children-ordering g v) i
+
+    linkable : Linkable (ordering g) sorted ends
+    unfolding ordering
+    linkable =
         let childless : childrenOf g invalid ≡ [] =
         List·getD-eq-default (g .children) [] {n = invalid} (omega (arith, ok .legal .lengths, ok .legal .few-nodes)) in
-        next-of-root n parent lists tree sorted ends (ready .segments) few first last before next linked long
-        ∙ sym (ap (λ (v : ℕ). afterIn 0 (lists v)) (ok .legal .node-0 (omega (arith, sized, ready .some-node)) .no-parent)
-        ∙ ap (λ (cs : List ℕ). afterIn 0 (sort (isStronger g) cs)) childless)
-    next-all (suc c) h = nexts (suc c) (omega arith) h
+        record {
+          tree = subst (Tree (size g) parent) listed (subst (λ (k : ℕ). Tree k parent lists) sized tree);
+          few = ok .legal .few-nodes;
+          alone = ap (childrenOf (ordering g)) (ok .legal .node-0 (omega (arith, sized, ready .some-node)) .no-parent)
+              ∙ children-ordering g invalid ∙ ap (sort (isStronger g)) childless;
+          segments = subst (λ (l : ℕ → List ℕ). Segments l (size g) sorted ends) listed
+              (subst (λ (k : ℕ). Segments lists k sorted ends) sized (ready .segments));
+        }
 
-    link-bytes : (k : ℕ) → k < n
-        → bigEndian 4 (getD first k 0) ++ (bigEndian 4 (getD last k 0) ++ bigEndian 4 (getD next k 0)) ≡ linkBytes (ordering g) k
+    links-stored : (s : List ℕ) → linksWritten first last next n s ≡ linksOf (ordering g) (size g) s
     unfolding ordering
-    link-bytes k h =
-        let a : getD first k 0 ≡ firstOf (childrenOf (ordering g) k) = firsts k h ∙ ap firstOf (sym (children-ordering g k)) in
-        let b : getD last k 0 ≡ lastOf (childrenOf (ordering g) k) = lasts k h ∙ ap lastOf (sym (children-ordering g k)) in
-        let c : getD next k 0 ≡ afterIn k (childrenOf (ordering g) (parent k)) = next-all k h ∙ ap (afterIn k) (sym (children-ordering g (parent k))) in
-        λ i. bigEndian 4 (a i) ++ (bigEndian 4 (b i) ++ bigEndian 4 (c i))
-
-    links-right : (k : ℕ) (s : List ℕ) → k ≤ n → linksWritten first last next k s ≡ linksOf (ordering g) k s
-    links-right zero s l = refl
-    links-right (suc k) s l = λ i. stored (slotAt k) (link-bytes k (omega arith) i) (links-right k s (omega arith) i)
+    links-stored s =
+        ap (λ (k : ℕ). linksWritten first last next k s) sized
+        ∙ links-right (ordering g) sorted ends linkable first last before next
+        (subst (λ (k : ℕ). Linked sorted ends k first last before next) sized linked) long (size g) s (omega arith)
 
     -- ---- The order
 
@@ -129,5 +126,5 @@ module _ (bs : List ℕ) (n : ℕ) (sorted ends : List ℕ) (ready : Ready bs n 
     ordering-written order whole walked =
         let marked = marksStored (ordering g .ordered) (ordering g .finalized) (ordering g .shallow) bs in
         (λ i. orderStored (order-right order whole walked i) 0 (linksWritten first last next n (marks-right i)))
-        ∙ ap (orderStored (ordering g .order) 0) (links-right n marked (omega arith) ∙ ap (λ (k : ℕ). linksOf (ordering g) k marked) sized)
+        ∙ ap (orderStored (ordering g .order) 0) (links-stored marked)
         ∙ sym (encode-same-nodes bs (ready .bytes) (ready .opened) (ordering g) same-nodes (omega (arith, sized, ready .some-node)))

@@ -1,49 +1,16 @@
 // Ordering a graph in its arena: every child list sorted, or not a byte changed. All is decided in local arrays over the unchanged arena: the sorted
-// lists (crates/sorting), the links that they make, and the walk, parent first; then marks, links and order are written.
+// lists (crates/sorting), the links that they make (crates/links), and the walk, parent first; then marks, links and order are written.
 // The definitions are in model/specs/Order.antt; specs/Ordering.antt says what the arrays hold and what the call leaves.
-mod links;
 mod walking;
 
-use model::NodeId;
 ghost use mathlib.Core.Path.{_≡_};
 ghost use Prim.Native.Nat.{_<_, _≤_};
 ghost use lib.ListN.{length};
-ghost use lib.Seq.{slice};
-ghost use Rattle.model.specs.Arena.{arenaBytes, countIn, orderStored, decode, encode};
+ghost use Rattle.model.specs.Arena.{arenaBytes, countIn, decode, encode};
 ghost use Rattle.model.specs.ArenaCalls.{Opened};
 ghost use Rattle.model.specs.Order.{sortedChildren, ordering};
-ghost use Rattle.sorting.specs.Sorting.{Segments};
-ghost use Rattle.ordering.specs.Ordering.{OrderedArena, linksWritten, graphWritten};
-
-// Stores the links of each node.
-fn write_links(arena: &mut [u8], count: u32, first: &[u32], last: &[u32], next: &[u32])
-    requires { ⌜ (length (now arena) ≡ arenaBytes) × (count ≤ 1024) ⌝ }
-    requires { ⌜ (length (now first) ≡ 1024) × (length (now last) ≡ 1024) × (length (now next) ≡ 1024) ⌝ }
-    ensures { λ _. ⌜ now (arena .exit) ≡ linksWritten (now (first .entry)) (now (last .entry)) (now (next .entry)) count (now (arena .entry)) ⌝ }
-{
-    let mut n: u32 = 0;
-    while n < count {
-        let i = n as usize;
-        let node = arena::load_node(arena, n);
-        let parent = node.with_first_child(NodeId(first[i]))
-            .with_last_child(NodeId(last[i]));
-        let linked = parent.with_next_sibling(NodeId(next[i]));
-        arena::store_links(arena, n, linked);
-        n += 1;
-    }
-}
-
-// Stores the order entry of each node.
-fn write_entries(arena: &mut [u8], count: u32, order: &[u32])
-    requires { ⌜ (length (now arena) ≡ arenaBytes) × (count ≤ 1024) × (length (now order) ≡ 1024) ⌝ }
-    ensures { λ _. ⌜ now (arena .exit) ≡ orderStored (slice 0 count (now (order .entry))) 0 (now (arena .entry)) ⌝ }
-{
-    let mut n: u32 = 0;
-    while n < count {
-        arena::write_order_entry(arena, n, order[n as usize]);
-        n += 1;
-    }
-}
+ghost use Rattle.links.specs.Links.{Segments};
+ghost use Rattle.ordering.specs.Ordering.{OrderedArena, graphWritten};
 
 // Stores the marks, the links and the order: finalized unless shallow.
 fn write_graph(
@@ -60,8 +27,8 @@ fn write_graph(
 {
     let shallow = arena::shallow(arena) == 1;
     arena::write_marks(arena, true, !shallow, shallow);
-    write_links(arena, count, first, last, next);
-    write_entries(arena, count, order);
+    links::write_links(arena, count, first, last, next);
+    links::write_entries(arena, count, order);
 }
 
 // Orders the graph whose sorted lists these are: links, walk, then all is written.

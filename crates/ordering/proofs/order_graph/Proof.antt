@@ -8,7 +8,7 @@ use borrow.Author.Tests.{not-true, not-false}
 use Rattle.model.specs.Arena.{decode}
 use Rattle.model.specs.Order.{sortedChildren}
 use Rattle.arena.proofs.ReadNodes.{sizes}
-use Rattle.sorting.specs.Sorting.{Segments}
+use Rattle.links.specs.Links.{Segments}
 use Rattle.ordering.proofs.order_graph.Statement.{statement}
 use Rattle.ordering.proofs.order_graph.Tie as tie
 

@@ -7,7 +7,7 @@ use lib.Dec.{eqb}
 use lib.Seq.{slice}
 use Rattle.model.specs.Arena.{orderStored}
 use Rattle.arena.specs.Header.{marksStored}
-use Rattle.ordering.specs.Ordering.{linksWritten}
+use Rattle.links.specs.Links.{linksWritten}
 use Rattle.ordering.proofs.write_graph.Statement.{statement}
 use Rattle.ordering.proofs.write_graph.Tie as tie
 

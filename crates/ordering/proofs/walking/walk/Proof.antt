@@ -8,7 +8,7 @@ use lib.ListN.{length, length-set}
 use Rattle.model.specs.ArenaCalls.{Readable}
 use Rattle.arena.proofs.ReadNodes.{all}
 use Rattle.ordering.specs.Ordering.{stepOf, stepAt, Walked}
-use Rattle.ordering.proofs.LinkLaws.{filled-more}
+use Rattle.links.proofs.LinkLaws.{filled-more}
 use Rattle.ordering.proofs.walking.walk.Statement.{statement}
 use Rattle.ordering.proofs.walking.walk.Tie as tie
 

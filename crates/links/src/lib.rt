@@ -1,10 +1,13 @@
-// The links that sorted child lists make.
+// The links that child lists make, and storing them: lists that stand in an array one after the other become first child, last child and next sibling of
+// each node in three arrays, and these and an order are stored in the arena, a loop each. It decides nothing and asks nothing of the graph.
+// specs/Links.antt says what stands in the arrays.
+use model::NodeId;
 ghost use mathlib.Core.Path.{_≡_};
 ghost use Prim.Native.Nat.{ℕ, _<_, _≤_};
 ghost use lib.ListN.{length, getD};
 ghost use lib.Seq.{slice};
-ghost use Rattle.model.specs.Arena.{firstOf, lastOf};
-ghost use Rattle.ordering.specs.Ordering.{Parted, nextsSet, Linked};
+ghost use Rattle.model.specs.Arena.{arenaBytes, firstOf, lastOf, orderStored};
+ghost use Rattle.links.specs.Links.{Parted, nextsSet, Linked, linksWritten};
 
 // The last child of the list that stands in `sorted` from `start` to `end`, 4,294,967,295 for none.
 fn last_of(sorted: &[u32], start: usize, end: usize) -> u32
@@ -35,7 +38,7 @@ fn link_list(sorted: &[u32], start: usize, end: usize, next: &mut [u32]) -> u32
 }
 
 // The first and the last child of each of `count` nodes and the sibling after it, 4,294,967,295 for none.
-pub(crate) fn link_lists(
+pub fn link_lists(
     sorted: &[u32],
     ends: &[u32],
     count: u32,
@@ -57,5 +60,35 @@ pub(crate) fn link_lists(
         first[i] = link_list(sorted, start, end, next);
         start = end;
         parent += 1;
+    }
+}
+
+// Stores the links of each node.
+pub fn write_links(arena: &mut [u8], count: u32, first: &[u32], last: &[u32], next: &[u32])
+    requires { ⌜ (length (now arena) ≡ arenaBytes) × (count ≤ 1024) ⌝ }
+    requires { ⌜ (length (now first) ≡ 1024) × (length (now last) ≡ 1024) × (length (now next) ≡ 1024) ⌝ }
+    ensures { λ _. ⌜ now (arena .exit) ≡ linksWritten (now (first .entry)) (now (last .entry)) (now (next .entry)) count (now (arena .entry)) ⌝ }
+{
+    let mut n: u32 = 0;
+    while n < count {
+        let i = n as usize;
+        let node = arena::load_node(arena, n);
+        let parent = node.with_first_child(NodeId(first[i]))
+            .with_last_child(NodeId(last[i]));
+        let linked = parent.with_next_sibling(NodeId(next[i]));
+        arena::store_links(arena, n, linked);
+        n += 1;
+    }
+}
+
+// Stores the first `count` entries of an order.
+pub fn write_entries(arena: &mut [u8], count: u32, order: &[u32])
+    requires { ⌜ (length (now arena) ≡ arenaBytes) × (count ≤ 1024) × (length (now order) ≡ 1024) ⌝ }
+    ensures { λ _. ⌜ now (arena .exit) ≡ orderStored (slice 0 count (now (order .entry))) 0 (now (arena .entry)) ⌝ }
+{
+    let mut n: u32 = 0;
+    while n < count {
+        arena::write_order_entry(arena, n, order[n as usize]);
+        n += 1;
     }
 }

@@ -4,9 +4,9 @@ use mathlib.Core.Path.{refl, _∙_}
 use Prim.Native.Nat.{_-_}
 use native.Mathlib.Omega.{arith}
 use borrow.Author.Needs.{needs}
-use Rattle.ordering.proofs.EntryLaws.{Storing, storing-step, storing-end}
-use Rattle.ordering.proofs.write_entries.Statement.{statement}
-use Rattle.ordering.proofs.write_entries.Tie as tie
+use Rattle.links.proofs.EntryLaws.{Storing, storing-step, storing-end}
+use Rattle.links.proofs.write_entries.Statement.{statement}
+use Rattle.links.proofs.write_entries.Tie as tie
 
 abbrev Inv-loop : tie.InvT-loop
 Inv-loop arena₀ count order n₀ arena n = Storing arena₀ count order arena n

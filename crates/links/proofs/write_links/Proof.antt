@@ -8,9 +8,9 @@ use borrow.Author.Needs.{needs}
 use lib.ListN.{length, getD}
 use Rattle.model.specs.declared.NodeId.{NodeId}
 use Rattle.arena.specs.Slot.{withFirstChild, withLastChild, withNextSibling, linksStored}
-use Rattle.ordering.specs.Ordering.{linksWritten}
-use Rattle.ordering.proofs.write_links.Statement.{statement}
-use Rattle.ordering.proofs.write_links.Tie as tie
+use Rattle.links.specs.Links.{linksWritten}
+use Rattle.links.proofs.write_links.Statement.{statement}
+use Rattle.links.proofs.write_links.Tie as tie
 
 abbrev Inv-loop : tie.InvT-loop
 Inv-loop arena₀ count first last next n₀ arena n = (n ≤ count) × (length arena ≡ length arena₀) × (arena ≡ linksWritten first last next n arena₀)

@@ -7,7 +7,7 @@ use lib.ListN.{length, getD}
 use lib.Seq.{slice, slice-cons}
 use Rattle.model.specs.Arena.{orderStored}
 use Rattle.arena.specs.Slot.{orderEntryStored}
-use Rattle.sorting.proofs.PartLaws.{slice-done}
+use Rattle.links.proofs.LinkLaws.{slice-done}
 
 pub record Storing (before : List ℕ) (count : ℕ) (order arena : List ℕ) (n : ℕ) : Type 0 where
   pub high : n ≤ count

@@ -15,7 +15,10 @@ use Rattle.model.specs.Arena.{firstOf, lastOf, afterIn}
 use Rattle.model.specs.Lists.{count}
 use Rattle.model.specs.Node.{invalid}
 use Rattle.model.proofs.ListLaws.{bit-eq, bit-ne}
-use Rattle.ordering.specs.Ordering.{startOf, part, nextsSet, nextsMade}
+use Rattle.links.specs.Links.{startOf, part, nextsSet, nextsMade}
+
+pub slice-done : (at end : ℕ) (array : List ℕ) → at ≤ end → end ≤ at → slice at end array ≡ []
+slice-done at end array low high = let e : at ≡ end = omega arith in rw e (slice-empty end array)
 
 last-snoc : (xs : List ℕ) (y : ℕ) → lastOf (xs ++ y ∷ []) ≡ y
 last-snoc [] y = refl

@@ -1,4 +1,4 @@
--- `links::link_lists` meets its contract. The invariant of its loop: the parents before `parent` have their links, and `start` is where the next part
+-- `link_lists` meets its contract. The invariant of its loop: the parents before `parent` have their links, and `start` is where the next part
 -- begins. The measure is how many parents are left. Assumes nothing.
 use mathlib.Core.Path.{_≡_, subst, _∙_}
 use Prim.Native.Nat.{ℕ, _-_, _≤_}
@@ -6,10 +6,10 @@ use native.Mathlib.Omega.{arith}
 use borrow.Author.Needs.{needs}
 use lib.ListN.{length-set}
 use Rattle.model.specs.Node.{invalid}
-use Rattle.ordering.specs.Ordering.{Linked}
-use Rattle.ordering.proofs.LinkLaws.{LinkingAll, linking-all-start, linking-all-step}
-use Rattle.ordering.proofs.links.link_lists.Statement.{statement}
-use Rattle.ordering.proofs.links.link_lists.Tie as tie
+use Rattle.links.specs.Links.{Linked}
+use Rattle.links.proofs.LinkLaws.{LinkingAll, linking-all-start, linking-all-step}
+use Rattle.links.proofs.link_lists.Statement.{statement}
+use Rattle.links.proofs.link_lists.Tie as tie
 
 abbrev Inv-loop : tie.InvT-loop
 Inv-loop sorted ends count first₀ last₀ next₀ start₀ parent₀ first last next start parent =

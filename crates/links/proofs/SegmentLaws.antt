@@ -16,9 +16,8 @@ use Rattle.model.specs.Lists.{All, count}
 use Rattle.model.specs.Node.{invalid}
 use Rattle.model.proofs.ListLaws.{bit-ne, all-imp, all-append}
 use Rattle.model.proofs.Trees.{Child, Tree, all-children, child-count}
-use Rattle.sorting.specs.Sorting.{flat, Segments}
-use Rattle.ordering.specs.Ordering.{startOf, part, Parted, nextsSet, nextsMade, Linked}
-use Rattle.ordering.proofs.LinkLaws.{nexts-length, nexts-outside, nexts-inside}
+use Rattle.links.specs.Links.{flat, Segments, startOf, part, Parted, nextsSet, nextsMade, Linked}
+use Rattle.links.proofs.LinkLaws.{nexts-length, nexts-outside, nexts-inside}
 
 all-place : (P : ℕ → Type 0) (xs : List ℕ) (k : ℕ) → All P xs → k < length xs → P (getD xs k 0)
 all-place P [] k all h = absurd (omega arith)

@@ -1,4 +1,4 @@
--- `links::link_list` meets its contract. The invariant of its loop: the children from `at` on are linked, and `head` is the first of them. The
+-- `link_list` meets its contract. The invariant of its loop: the children from `at` on are linked, and `head` is the first of them. The
 -- measure is how many are before `at`. Assumes nothing.
 use mathlib.Core.Path.{_≡_, ap, _∙_}
 use Prim.Native.Nat.{ℕ, _-_, _≤_, _<_}
@@ -7,10 +7,10 @@ use borrow.Author.Needs.{needs}
 use lib.ListN.{getD}
 use lib.Seq.{slice}
 use Rattle.model.specs.Arena.{firstOf}
-use Rattle.ordering.specs.Ordering.{nextsSet}
-use Rattle.ordering.proofs.LinkLaws.{Linking, linking-start, linking-step}
-use Rattle.ordering.proofs.links.link_list.Statement.{statement}
-use Rattle.ordering.proofs.links.link_list.Tie as tie
+use Rattle.links.specs.Links.{nextsSet}
+use Rattle.links.proofs.LinkLaws.{Linking, linking-start, linking-step}
+use Rattle.links.proofs.link_list.Statement.{statement}
+use Rattle.links.proofs.link_list.Tie as tie
 
 abbrev Inv-loop : tie.InvT-loop
 Inv-loop sorted start end next₀ head₀ at₀ next head at = (start ≤ at) × Linking sorted next₀ end at head next

@@ -1,11 +1,10 @@
--- `links::last_of` meets its contract. Assumes nothing.
+-- `last_of` meets its contract. Assumes nothing.
 use mathlib.Core.Path.{sym, ap}
 use borrow.Author.Needs.{needs}
 use Rattle.model.specs.Arena.{lastOf}
-use Rattle.sorting.proofs.PartLaws.{slice-done}
-use Rattle.ordering.proofs.LinkLaws.{last-of-part}
-use Rattle.ordering.proofs.links.last_of.Statement.{statement}
-use Rattle.ordering.proofs.links.last_of.Tie as tie
+use Rattle.links.proofs.LinkLaws.{slice-done, last-of-part}
+use Rattle.links.proofs.last_of.Statement.{statement}
+use Rattle.links.proofs.last_of.Tie as tie
 
 sub-result : tie.Need-sub-result
 sub-result c = search needs
