@@ -11,15 +11,13 @@ use Rattle.model.specs.Snapshot.{bigEndian}
 use Rattle.model.specs.Refusals.{Question, ask, refusal}
 use Rattle.model.specs.Calls.{hasNodeZero, readsOrder, finalizeStrengthOrder}
 use Rattle.model.specs.Arena.{countIn, orderEntryIn, tabulate, decode, holdsGraph}
-use Rattle.model.specs.Answers.{finishedRefusal}
-use Rattle.model.specs.ArenaCalls.{isArena, onArena, left, Answered}
+use Rattle.model.specs.ArenaCalls.{isArena, onArena, Finishes, Answered}
 use Rattle.model.specs.declared.Finished.{Finished}
 use Rattle.model.specs.declared.Numbered.{Numbered}
 
 -- ordering: the refusal, and the arena after it
-pub record Finalized (before : List ℕ) (r : Finished) (after : List ℕ) : Type 0 where
-  pub refused : finishedRefusal r ≡ onArena finalizeStrengthOrder before .refused
-  pub arena : after ≡ left (onArena finalizeStrengthOrder before) before
+abbrev pub Finalized : List ℕ → Finished → List ℕ → Type 0
+Finalized before r after = Finishes (onArena finalizeStrengthOrder before) before r after
 
 -- the order as bytes: a node's number in 4 bytes each
 abbrev pub orderBytes : List ℕ → List ℕ

@@ -11,8 +11,9 @@ use Rattle.model.specs.Refusals.{Question, ask, refusal}
 use Rattle.model.specs.Calls.{Outcome, unchanged}
 use Rattle.model.specs.Arena.{arenaBytes, countIn, decode, encode, holdsGraph}
 use Rattle.model.specs.Lists.{bit}
-use Rattle.model.specs.Answers.{numberedRefusal, numberedValue, orderingNumber, comparedRefusal, comparedValue, testedRefusal, testedValue}
+use Rattle.model.specs.Answers.{finishedRefusal, numberedRefusal, numberedValue, orderingNumber, comparedRefusal, comparedValue, testedRefusal, testedValue}
 use Rattle.model.specs.declared.Ordering.{Ordering}
+use Rattle.model.specs.declared.Finished.{Finished}
 use Rattle.model.specs.declared.Numbered.{Numbered}
 use Rattle.model.specs.declared.Compared.{Compared}
 use Rattle.model.specs.declared.Tested.{Tested}
@@ -48,6 +49,11 @@ left o bs = cond (eqb (o .refused) 0) (encode (o .graph) bs) bs
 pub record Wrote (o : Outcome) (before : List ℕ) (r : Numbered) (after : List ℕ) : Type 0 where
   pub refused : numberedRefusal r ≡ o .refused
   pub value : numberedValue r ≡ o .value
+  pub arena : after ≡ left o before
+
+-- the same where a call gives nothing but its refusal
+pub record Finishes (o : Outcome) (before : List ℕ) (r : Finished) (after : List ℕ) : Type 0 where
+  pub refused : finishedRefusal r ≡ o .refused
   pub arena : after ≡ left o before
 
 -- ---- The calls that only read
