@@ -43,6 +43,14 @@ after-linked next (c ∷ cs) n links m = go (eqb c n) refl (after-linked next cs
 
 -- ---- Read and checked
 
+pub chain-length : (bs : List ℕ) (k n : ℕ) → length (chainIn bs k n) ≤ k
+chain-length bs zero n = omega arith
+chain-length bs (suc k) n = go (ltb n (countIn bs)) (chain-length bs k (nextSiblingIn bs n))
+  where
+    go : (t : Bool) → length (chainIn bs k (nextSiblingIn bs n)) ≤ k → length (cond t (n ∷ chainIn bs k (nextSiblingIn bs n)) []) ≤ suc k
+    go true later = omega arith
+    go false later = omega arith
+
 pub chain-linked : (bs : List ℕ) (k : ℕ) (cs : List ℕ) → countIn bs ≤ invalid → length cs ≤ k → All (λ c. c < countIn bs) cs
     → Linked (nextSiblingIn bs) cs → chainIn bs k (firstOf cs) ≡ cs
 chain-linked bs zero [] few l h links = refl

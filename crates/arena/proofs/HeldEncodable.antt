@@ -38,7 +38,7 @@ module _ (bs : List ℕ) (held : Held bs) where
 
   -- ---- The tree
 
-  tree-held : TreeOf (decode bs)
+  pub tree-held : TreeOf (decode bs)
   tree-held = record { lower = lower; once = once; only = λ v c m. only v c m (ltb v (countIn bs)) refl }
     where
       lower : (c : ℕ) → 0 < c → c < size (decode bs) → view (decode bs .nodes) .parent c < c
@@ -109,7 +109,7 @@ module _ (bs : List ℕ) (held : Held bs) where
 
   -- ---- The marks and the order
 
-  order-held : decode bs .ordered ≡ true → EachOnce (size (decode bs)) (decode bs .order)
+  pub order-held : decode bs .ordered ≡ true → EachOnce (size (decode bs)) (decode bs .order)
   unfolding decode
   order-held e =
       let listed : length (orderIn bs) ≡ countIn bs = rw e (tabulate-length (orderEntryIn bs) 0 (countIn bs)) in

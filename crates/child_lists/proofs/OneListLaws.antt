@@ -4,16 +4,16 @@
 use mathlib.Core.Path.{_≡_, refl, sym, ap, _∙_}
 use mathlib.Core.Bool.{Bool, true, false, cond, and-eq-true-iff}
 use mathlib.Core.List.{List, [], _∷_}
-use Prim.Native.Nat.{ℕ, zero, suc, _+_, _-_, _≤_, _<_}
+use Prim.Native.Nat.{ℕ, _+_, _-_, _≤_, _<_}
 use native.Mathlib.Omega.{arith}
-use lib.Dec.{eqb, ltb}
+use lib.Dec.{eqb}
 use lib.ListN.{length}
 use borrow.Author.Tests.{eq-eqb, eqb-true}
 use Rattle.model.specs.Node.{invalid}
-use Rattle.model.specs.Arena.{countIn, firstChildIn, lastChildIn, nextSiblingIn, nodeIn, chainIn, childrenIn, lastOf, chainEnds, chainRight}
+use Rattle.model.specs.Arena.{countIn, firstChildIn, lastChildIn, nodeIn, chainIn, childrenIn, lastOf, chainEnds, chainRight}
 use Rattle.model.proofs.ListLaws.{all-imp}
 use Rattle.model.proofs.SnapshotLaws.{and-first, and-second}
-use Rattle.arena.proofs.ChainLaws.{Chain, chain-held, chain-linked, chain-ends-linked}
+use Rattle.arena.proofs.ChainLaws.{Chain, chain-length, chain-held, chain-linked, chain-ends-linked}
 use Rattle.child_lists.specs.declared.Walked.the-variants.{Left, Wrong}
 use Rattle.child_lists.specs.ChildLists.{Parented, endsRight, walked, leftAfter}
 use Rattle.child_lists.proofs.OnceLaws.{Links}
@@ -27,14 +27,6 @@ record Within (bs : List ℕ) (v k : ℕ) (cs : List ℕ) : Type 0 where
 pub record ListRead (bs : List ℕ) (v k rest : ℕ) : Type 0 where
   pub right : chainRight bs v ≡ true
   pub size : length (childrenIn bs v) + rest ≡ k
-
-chain-length : (bs : List ℕ) (k n : ℕ) → length (chainIn bs k n) ≤ k
-chain-length bs zero n = omega arith
-chain-length bs (suc k) n = go (ltb n (countIn bs)) (chain-length bs k (nextSiblingIn bs n))
-  where
-    go : (t : Bool) → length (chainIn bs k (nextSiblingIn bs n)) ≤ k → length (cond t (n ∷ chainIn bs k (nextSiblingIn bs n)) []) ≤ suc k
-    go true later = omega arith
-    go false later = omega arith
 
 last-after-none : (cs : List ℕ) → lastOf (invalid ∷ cs) ≡ lastOf cs
 last-after-none [] = refl

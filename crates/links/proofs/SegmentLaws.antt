@@ -1,5 +1,6 @@
 -- Lists that stand in an array one after the other (`Segments`) are its parts (`part-right`), and the links that `link_lists` makes of a tree's lists are
--- theirs: `first-right`, `last-right`, `next-right`, `next-of-root`. Assumes nothing.
+-- theirs: `first-right`, `last-right`, `next-right`, `next-of-root`. All lists of a tree are no longer than there are nodes (`flat-within`). Assumes
+-- nothing.
 use mathlib.Core.Path.{_≡_, refl, sym, ap, subst, _∙_}
 use mathlib.Core.Logic.{_⊎_, inl, inr}
 use mathlib.Core.Bool.{Bool, true, false}
@@ -8,18 +9,19 @@ use Prim.Native.Nat.{ℕ, zero, suc, _+_, _≤_, _<_}
 use native.Mathlib.Nat.{eq-or-lt-of-le}
 use native.Mathlib.Omega.{arith}
 use lib.Dec.{eqb}
-use lib.ListN.{length, drop, getD, set, length-set, length-append, List·getD-append}
+use lib.ListN.{length, take, drop, getD, set, length-set, length-append, take-append-drop, List·getD-append}
 use lib.Seq.{slice, take-append-seam, take-append-add, drop-append-seam, getD-set-same}
 use borrow.Author.Tests.{eqb-true, eqb-false}
 use Rattle.model.specs.Arena.{firstOf, lastOf, afterIn}
 use Rattle.model.specs.Lists.{All, count}
 use Rattle.model.specs.Node.{invalid}
-use Rattle.model.proofs.ListLaws.{bit-ne, all-imp, all-append}
-use Rattle.model.proofs.Trees.{Child, Tree, all-children, child-count}
+use Rattle.model.proofs.ListLaws.{bit-ne, count-append, all-imp, all-append}
+use Rattle.model.proofs.LengthLaws.{length-at-most-once}
+use Rattle.model.proofs.Trees.{Child, Tree, all-children, child-count, child-once}
 use Rattle.links.specs.Links.{flat, Segments, startOf, part, Parted, nextsSet, nextsMade, Linked}
 use Rattle.links.proofs.LinkLaws.{nexts-length, nexts-outside, nexts-inside}
 
-all-place : (P : ℕ → Type 0) (xs : List ℕ) (k : ℕ) → All P xs → k < length xs → P (getD xs k 0)
+pub all-place : (P : ℕ → Type 0) (xs : List ℕ) (k : ℕ) → All P xs → k < length xs → P (getD xs k 0)
 all-place P [] k all h = absurd (omega arith)
 all-place P (x ∷ xs) zero all h = all .0
 all-place P (x ∷ xs) (suc k) all h = all-place P xs k (all .1) (omega arith)
@@ -56,6 +58,51 @@ module _ (lists : ℕ → List ℕ) where
   flat-all : (P : ℕ → Type 0) → ((v : ℕ) → All P (lists v)) → (n : ℕ) → All P (flat lists n)
   flat-all P all zero = tt
   flat-all P all (suc n) = all-append P (flat lists n) (lists n) (flat-all P all n) (all n)
+
+-- the lists of a tree: together they are no longer than there are nodes
+module _ (n : ℕ) (parent : ℕ → ℕ) (lists : ℕ → List ℕ) (tree : Tree n parent lists) where
+  -- a node stands in no list before its parent's
+  flat-before : (k a : ℕ) → k ≤ parent a → count a (flat lists k) ≡ 0
+  flat-before zero a h = refl
+  flat-before (suc k) a h = omega (arith, count-append a (flat lists k) (lists k), flat-before k a (omega arith), absent (count a (lists k)) refl)
+    where
+      absent : (m : ℕ) → count a (lists k) ≡ m → m ≡ 0
+      absent zero e = refl
+      absent (suc m) e = absurd (omega (arith, tree .only k a (omega arith) .2))
+
+  flat-once : (k a : ℕ) → count a (flat lists k) ≤ 1
+  flat-once zero a = omega arith
+  flat-once (suc k) a = go (count a (lists k)) refl (flat-once k a)
+    where
+      go : (m : ℕ) → count a (lists k) ≡ m → count a (flat lists k) ≤ 1 → count a (flat lists (suc k)) ≤ 1
+      go zero e earlier = omega (arith, count-append a (flat lists k) (lists k))
+      go (suc m) e earlier =
+          omega (
+            arith,
+            count-append a (flat lists k) (lists k),
+            child-once n parent lists tree k a,
+            flat-before k a (omega (arith, tree .only k a (omega arith) .2)),
+          )
+
+  flat-nodes : (k : ℕ) → All (λ c. c < n) (flat lists k)
+  flat-nodes zero = tt
+  flat-nodes (suc k) =
+      all-append (λ c. c < n) (flat lists k) (lists k) (flat-nodes k)
+      (all-imp (Child n parent k) (λ c. c < n) (lists k) (λ c h. h .1) (all-children n parent lists tree k))
+
+  pub flat-within : (k : ℕ) → length (flat lists k) ≤ n
+  flat-within k = length-at-most-once n (flat lists k) (flat-nodes k) (λ a h. flat-once k a)
+
+-- lists that a loop put in, up to `start`
+pub segments-made : (lists : ℕ → List ℕ) (n start : ℕ) (sorted ends : List ℕ) → length sorted ≡ 1024 → length ends ≡ 1024
+    → take start sorted ≡ flat lists n → ((p : ℕ) → p < n → getD ends p 0 ≡ length (flat lists (suc p))) → Segments lists n sorted ends
+segments-made lists n start sorted ends long as-long front ended = record {
+  long = long;
+  as-long = as-long;
+  rest = drop start sorted;
+  front = sym (take-append-drop start sorted) ∙ ap (λ (xs : List ℕ). xs ++ drop start sorted) front;
+  ended = ended;
+}
 
 module _ (lists : ℕ → List ℕ) (n : ℕ) (sorted ends : List ℕ) (segments : Segments lists n sorted ends) where
   start-right : (p : ℕ) → p < n → startOf ends p ≡ length (flat lists p)
