@@ -1,5 +1,6 @@
 // The answer to any line of the command `calls`, and the two arenas that the lines work on. The lines about both arenas are here; the other lines
-// are answered by the crates `calls_make`, `calls_order`, `calls_look`, `calls_compare`, `calls_dump` and `calls_paths`. No function has a `requires`.
+// are answered by the crates `calls_make`, `calls_order`, `calls_change`, `calls_look`, `calls_compare`, `calls_dump` and `calls_paths`. No function has a
+// `requires`.
 use calls_text::Answered;
 use calls_text::bad_line;
 use calls_text::is_call;
@@ -65,6 +66,10 @@ fn answer_on(line: &[u8], arena: &mut [u8], out: &mut [u8], used: usize) -> usiz
     }
     let ordered = calls_order::answer(line, arena, out, used);
     if let Answered::Used(end) = ordered {
+        return end;
+    }
+    let changed = calls_change::answer(line, arena, out, used);
+    if let Answered::Used(end) = changed {
         return end;
     }
     answer_seen(line, arena, out, used)

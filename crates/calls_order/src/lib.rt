@@ -2,31 +2,22 @@
 // a newline, after the first `used` bytes of `out`, and answers how many are then used. None has a `requires`.
 use calls_text::Answered;
 use calls_text::is_call;
-use calls_text::put;
 use calls_text::put_between;
+use calls_text::put_finished;
 use calls_text::put_number;
 use calls_text::put_refusal;
-use model::Finished;
 use model::Numbered;
 
 // The answer to a line about the order.
 pub fn answer(line: &[u8], arena: &mut [u8], out: &mut [u8], used: usize) -> Answered {
     if is_call(line, b"order", 1) {
-        return Answered::Used(order_line(arena, out, used));
+        let ordered = prim_graph::finalize_strength_order(arena);
+        return Answered::Used(put_finished(out, used, ordered));
     }
     if is_call(line, b"list", 1) {
         return Answered::Used(list_line(arena, out, used));
     }
     Answered::Unknown
-}
-
-// `order`: the graph ordered.
-fn order_line(arena: &mut [u8], out: &mut [u8], used: usize) -> usize {
-    let ordered = prim_graph::finalize_strength_order(arena);
-    match ordered {
-        Finished::Done => put(out, used, b"ok"),
-        Finished::Refused(refusal) => put_refusal(out, used, refusal),
-    }
 }
 
 // `list`: the order.

@@ -1,6 +1,7 @@
 // The answers that every kind of line shares.
 use crate::output::put;
 use crate::output::put_number;
+use model::Finished;
 use model::Numbered;
 use model::Refusal;
 
@@ -20,6 +21,14 @@ pub fn bad_line(out: &mut [u8], used: usize) -> usize {
 pub fn put_refusal(out: &mut [u8], used: usize, refusal: Refusal) -> usize {
     let next = put(out, used, b"refused ");
     put_number(out, next, refusal.number() as u64)
+}
+
+// The answer to a call that gives nothing.
+pub fn put_finished(out: &mut [u8], used: usize, answer: Finished) -> usize {
+    match answer {
+        Finished::Done => put(out, used, b"ok"),
+        Finished::Refused(refusal) => put_refusal(out, used, refusal),
+    }
 }
 
 // The answer to a call that gives a number.

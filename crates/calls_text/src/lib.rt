@@ -8,6 +8,7 @@ mod words;
 
 pub use answers::Answered;
 pub use answers::bad_line;
+pub use answers::put_finished;
 pub use answers::put_found;
 pub use answers::put_node;
 pub use answers::put_numbered;
