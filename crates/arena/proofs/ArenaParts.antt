@@ -15,7 +15,7 @@ use Rattle.model.specs.Bytes.{stored}
 use Rattle.model.specs.Graph.{Graph, size, nodeAt}
 use Rattle.model.specs.Snapshot.{bigEndian}
 use Rattle.model.specs.Arena.{arenaBytes, slotAt, linkBytes, siteBytes, slotStored, slotsStored, orderStored, headerBytes, rootStored, localRootOf, encode}
-use Rattle.model.proofs.StoredLaws.{byte-part, length-stored, part-of-stored, part-in-stored, part-before-stored, part-after-stored}
+use Rattle.model.proofs.StoredLaws.{byte-part, length-stored, part-of-stored, part-in-stored, part-before-stored, part-after-stored, stored-there}
 use Rattle.model.proofs.SnapshotLaws.{record-length}
 use Rattle.arena.proofs.Encodable.{Encodable, fit-at, order-below}
 
@@ -71,6 +71,18 @@ entry-stored (x ∷ ns) at s (suc n) whole few h =
     let place : at + suc n ≡ suc at + n = omega arith in
     ap (λ (m : ℕ). take 4 (drop (slotAt m + 12) (orderStored ns (suc at) next))) place
     ∙ entry-stored ns (suc at) next n (length-stored (slotAt at + 12) (bigEndian 4 x) s (omega arith) ∙ whole) (omega arith) (omega arith)
+
+-- entries that are there
+pub entries-there : (ns : List ℕ) (at : ℕ) (s : List ℕ)
+    → ((i : ℕ) → i < length ns → take 4 (drop (slotAt (at + i) + 12) s) ≡ bigEndian 4 (getD ns i 0)) → orderStored ns at s ≡ s
+entries-there [] at s there = refl
+entries-there (n ∷ ns) at s there =
+    let first : take 4 (drop (slotAt at + 12) s) ≡ bigEndian 4 n =
+    ap (λ (k : ℕ). take 4 (drop (slotAt k + 12) s)) (sym (add-zero at)) ∙ there zero (omega arith) in
+    ap (orderStored ns (suc at)) (stored-there (slotAt at + 12) 4 (bigEndian 4 n) s first)
+    ∙ entries-there ns (suc at) s
+    (λ i h. let place : suc at + i ≡ at + suc i = omega arith in
+    ap (λ (k : ℕ). take 4 (drop (slotAt k + 12) s)) place ∙ there (suc i) (omega arith))
 
 -- ---- The slots
 

@@ -27,7 +27,7 @@ use Rattle.model.proofs.SnapshotLaws.{record-length}
 use Rattle.model.proofs.CullingLaws.{OnlyCulled, culling-only-culls, culling-keeps-view}
 use Rattle.arena.specs.Slot.{flagsStored}
 use Rattle.arena.proofs.Encodable.{Encodable}
-use Rattle.arena.proofs.ArenaParts.{Apart, apart-kept, apart-slots, site-short, header-part, root-part, link-part, site-part, entry-part}
+use Rattle.arena.proofs.ArenaParts.{Apart, apart-kept, apart-slots, entries-there, site-short, header-part, root-part, link-part, site-part, entry-part}
 use Rattle.arena.proofs.ArenaBack.{encode-decode}
 use Rattle.arena.proofs.HeldEncodable.{held-encodable}
 use Rattle.arena.proofs.ReadNodes.{sizes, root-found, root-held}
@@ -42,17 +42,6 @@ stored-middle at a m b s fits front back =
     ∙ sym (stored-next (at + length a) m b s fits)
     ∙ stored-there (at + length a + length m) (length b) b (stored (at + length a) m s)
     (part-after-stored (at + length a) m s (omega arith) (at + length a + length m) (length b) (omega arith) ∙ back)
-
-entries-there : (ns : List ℕ) (at : ℕ) (s : List ℕ)
-    → ((i : ℕ) → i < length ns → take 4 (drop (slotAt (at + i) + 12) s) ≡ bigEndian 4 (getD ns i 0)) → orderStored ns at s ≡ s
-entries-there [] at s there = refl
-entries-there (n ∷ ns) at s there =
-    let first : take 4 (drop (slotAt at + 12) s) ≡ bigEndian 4 n =
-    ap (λ (k : ℕ). take 4 (drop (slotAt k + 12) s)) (sym (add-zero at)) ∙ there zero (omega arith) in
-    ap (orderStored ns (suc at)) (stored-there (slotAt at + 12) 4 (bigEndian 4 n) s first)
-    ∙ entries-there ns (suc at) s
-    (λ i h. let place : suc at + i ≡ at + suc i = omega arith in
-    ap (λ (k : ℕ). take 4 (drop (slotAt k + 12) s)) place ∙ there (suc i) (omega arith))
 
 -- ---- The flags
 

@@ -146,7 +146,7 @@ culling-keeps-legal g legal = decided-keeps (hasNodeZero g ∷ []) g 0 (cullSubt
 
 -- ---- Deepening
 
-short-paths : (ns : List Node) → shortPaths ns ≡ true → (n : ℕ) → n < length ns → length (nodeAt ns n .path) ≤ 255
+pub short-paths : (ns : List Node) → shortPaths ns ≡ true → (n : ℕ) → n < length ns → length (nodeAt ns n .path) ≤ 255
 short-paths [] e n h = absurd (omega arith)
 short-paths (x ∷ ns) e zero h = leb-true (length (x .path)) 255 (and-eq-true-iff (leb (length (x .path)) 255) (shortPaths ns) .0 e .0)
 short-paths (x ∷ ns) e (suc n) h = short-paths ns (and-eq-true-iff (leb (length (x .path)) 255) (shortPaths ns) .0 e .1) n (omega arith)

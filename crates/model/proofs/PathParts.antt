@@ -13,7 +13,7 @@ use Rattle.model.proofs.PathGrammar.{Name, Selection, select, name-is-w
 
 -- ---- A name appended
 
-name-not-empty : (w : List ℕ) → Name w → 1 ≤ length w
+pub name-not-empty : (w : List ℕ) → Name w → 1 ≤ length w
 name-not-empty [] n = absurd n
 name-not-empty (b ∷ w) n = omega arith
 

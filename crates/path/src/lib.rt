@@ -85,11 +85,11 @@ pub fn append_child_name(path: &[u8], child: &[u8], out: &mut [u8]) -> Appended
         return Appended::Refused(Refusal::Path);
     }
     let name = last_name(child);
-    let at = joining::joint(path);
+    let at = path_join::joint(path);
     let end = at + name.len();
     if 255 < end {
         return Appended::Refused(Refusal::Capacity);
     }
-    joining::put_joined(path, name, at, out);
+    path_join::put_joined(path, name, at, out);
     Appended::Length(end)
 }

@@ -1,16 +1,16 @@
--- `joining::put_joined` meets its contract: path, slash and name, each over what the last left. Assumes nothing.
+-- `put_joined` meets its contract: path, slash and name, each over what the last left. Assumes nothing.
 use borrow.Author.Needs.{needs}
 use native.Mathlib.Omega.{arith}
 use mathlib.Core.Path.{_∙_, ap}
 use Prim.Native.Nat.{_-_, ℕ, _+_}
 use lib.ListN.{length-set, length, take, drop, set}
-use Rattle.path.proofs.JoiningLaws.{put-name}
+use Rattle.path_join.proofs.JoinLaws.{put-name}
 use native.Mathlib.Nat.{zero-add}
 use mathlib.Core.List.{List, _++_}
 use Rattle.model.specs.Bytes.{stored}
 use Rattle.model.specs.Path.{solidus}
-use Rattle.path.proofs.joining.put_joined.Statement.{statement}
-use Rattle.path.proofs.joining.put_joined.Tie as tie
+use Rattle.path_join.proofs.put_joined.Statement.{statement}
+use Rattle.path_join.proofs.put_joined.Tie as tie
 
 write-bytes-requires : tie.Need-write-bytes-requires
 write-bytes-requires c κs = search needs

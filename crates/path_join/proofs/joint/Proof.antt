@@ -1,10 +1,10 @@
--- `joining::joint` meets its contract: a slash is counted where one is put between. Assumes nothing.
+-- `joint` meets its contract: a slash is counted where one is put between. Assumes nothing.
 use borrow.Author.Needs.{needs}
-use Rattle.path.proofs.JoiningLaws.{joined-slash, joined-brace, joined-between}
+use Rattle.path_join.proofs.JoinLaws.{joined-slash, joined-brace, joined-between}
 use mathlib.Core.Path.{_∙_, sym}
 use Prim.Native.Nat.{_-_}
-use Rattle.path.proofs.joining.joint.Statement.{statement}
-use Rattle.path.proofs.joining.joint.Tie as tie
+use Rattle.path_join.proofs.joint.Statement.{statement}
+use Rattle.path_join.proofs.joint.Tie as tie
 
 ends-in-requires : tie.Need-ends-in-requires
 ends-in-requires c κs = search needs

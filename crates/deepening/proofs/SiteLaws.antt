@@ -1,0 +1,136 @@
+-- One site with the name appended (`CanJoin`): its prim count, that the record loaded becomes the deepened node's, and that it is stored as such
+-- (`record-joined`). Then the sites of the first nodes stored one after the other: what lies behind them is as it was (`sites-kept`), so the next node can
+-- still be joined (`join-next`, `sites-next`). Assumes nothing.
+use mathlib.Core.Path.{_≡_, refl, sym, ap, subst, _∙_}
+use mathlib.Core.Logic.{inr}
+use mathlib.Core.List.{List, _∷_, _++_}
+use Prim.Native.Nat.{ℕ, zero, suc, _+_, _-_, _≤_, _<_}
+use native.Mathlib.Omega.{arith}
+use lib.ListN.{length, take, drop}
+use Rattle.model.specs.Arena.{arenaBytes, slotAt, primCountIn, recordLengthIn, nodeIn}
+use Rattle.model.specs.Bytes.{stored}
+use Rattle.model.specs.Deepening.{deepened}
+use Rattle.model.specs.Node as model
+use Rattle.model.specs.Path.{primCount, appendName}
+use Rattle.model.specs.Snapshot.{bigEndian, value, readRecord, recordBytes}
+use Rattle.model.proofs.PathGrammar.{Name, well-formed-may-end}
+use Rattle.model.proofs.PathLaws.{append-prim-count, last-name-is-name, prim-count-half}
+use Rattle.model.proofs.PathParts.{name-not-empty}
+use Rattle.model.proofs.SnapshotLaws.{record-length}
+use Rattle.model.proofs.StoredLaws.{length-stored}
+use Rattle.arena.specs.Slot.{Loaded, nodeOf, recordStored, linksStored}
+use Rattle.arena.specs.declared.Node.{Node}
+use Rattle.arena.proofs.ArenaParts.{Apart, apart-kept}
+use Rattle.arena.proofs.SlotLaws.{loaded-node}
+use Rattle.deepening.specs.Deepened.{ChildName, CanJoin, AllJoin, Joined, siteStored, sitesDeepened, linksSeeded}
+
+pub child-is-name : (name : List ℕ) → ChildName name → Name name
+child-is-name name c =
+    subst Name (sym (c .last)) (last-name-is-name (c .child) (well-formed-may-end (c .child) (c .right)) (c .ends))
+
+-- ---- One site
+
+module _ (bs name : List ℕ) (n : ℕ) (can : CanJoin bs name n) where
+  abbrev path : List ℕ
+  path = nodeIn bs n .path
+
+  pub name-some : 0 < length name
+  name-some = name-not-empty name (child-is-name name (can .named))
+
+  pub prims-raised : primCountIn bs n + 1 ≡ primCount (appendName path name)
+  prims-raised =
+      ap (λ (k : ℕ). k + 1) (can .counted)
+      ∙ sym (append-prim-count path name (well-formed-may-end path (can .right)) (child-is-name name (can .named)))
+
+  pub few-prims : primCountIn bs n < 255
+  few-prims = omega (arith, prims-raised, prim-count-half (appendName path name), can .fits)
+
+  pub node-joined : (x : Node) → Loaded bs n x → nodeOf x (appendName path name) ≡ deepened name (nodeIn bs n)
+  node-joined x l = ap (deepened name) (loaded-node bs n (can .stands .numbered) x l)
+
+-- the record that is stored is the deepened node's, and as long as its path says
+module _ (bs name : List ℕ) (n : ℕ) (x : Node) (written : List ℕ) (j : Joined bs name n x written) where
+  abbrev front : List ℕ
+  front = take (x .«record_length» - 27) written
+
+  pub front-length : x .«record_length» - 27 ≡ length front
+  front-length = omega (arith, ap length (j .front), j .long)
+
+  pub front-counted : (x .«record_length» ≡ 27 + length front) × (length front ≤ 255)
+  front-counted = (omega (arith, front-length, j .long), omega (arith, front-length, j .long, j .short))
+
+  pub record-joined : (s : List ℕ) → recordStored n x front s ≡ siteStored n (deepened name (nodeIn bs n)) s
+  record-joined s =
+      (λ i. stored (slotAt n + 16) (j .counted i ∷ recordBytes (nodeOf x (j .front i))) s)
+      ∙ ap (λ (y : model.Node). stored (slotAt n + 16) (primCount (appendName (nodeIn bs n .path) name) ∷ recordBytes y) s) (j .node)
+
+  pub links-joined : (s : List ℕ) → linksStored n x s ≡ linksSeeded bs n s
+  links-joined s = λ i. stored (slotAt n) (bigEndian 4 (j .first-child i) ++ (bigEndian 4 (j .last-child i) ++ bigEndian 4 (j .next-sibling i))) s
+
+-- ---- Sites
+
+site-long : (x : model.Node) → length (primCount (x .path) ∷ recordBytes x) ≡ 30 + length (x .path)
+site-long x = omega (arith, record-length x)
+
+-- what lies from slot n on is the same in both
+abbrev pub SameFrom : ℕ → List ℕ → List ℕ → Type 0
+SameFrom n s t = (a w : ℕ) → slotAt n ≤ a → take w (drop a s) ≡ take w (drop a t)
+
+module _ (s t : List ℕ) (n : ℕ) (same : SameFrom n s t) where
+  same-length : recordLengthIn s n ≡ recordLengthIn t n
+  same-length = ap value (same (slotAt n + 17) 2 (omega arith))
+
+  pub same-node : nodeIn s n ≡ nodeIn t n
+  same-node =
+      ap (λ (w : ℕ). readRecord (take w (drop (slotAt n + 19) s))) same-length
+      ∙ ap readRecord (same (slotAt n + 19) (recordLengthIn t n) (omega arith))
+
+  pub same-join : (name : List ℕ) → length s ≡ arenaBytes → CanJoin t name n → CanJoin s name n
+  same-join name whole can = record {
+    stands = record {
+      slot = record { whole = whole; within = can .stands .slot .within };
+      numbered = omega (arith, same-length, can .stands .numbered);
+      short = omega (arith, same-length, can .stands .short);
+    };
+    right = rw same-node (can .right);
+    counted = ap value (same (slotAt n + 16) 1 (omega arith)) ∙ rw same-node (can .counted);
+    named = can .named;
+    fits = rw same-node (can .fits);
+  }
+
+module _ (bs name : List ℕ) (count : ℕ) (all : AllJoin bs name count) where
+  -- a site fits its slot
+  site-short : (k : ℕ) → k < count → length (primCount (appendName (nodeIn bs k .path) name) ∷ recordBytes (deepened name (nodeIn bs k))) ≤ 285
+  site-short k h = omega (arith, site-long (deepened name (nodeIn bs k)), all .each k h .fits)
+
+  pub sites-length : (k : ℕ) → k ≤ count → length (sitesDeepened name k bs) ≡ arenaBytes
+  sites-length zero l = all .whole
+  sites-length (suc k) l =
+      let before = sites-length k (omega arith) in
+      let x = deepened name (nodeIn bs k) in
+      length-stored (slotAt k + 16) (primCount (x .path) ∷ recordBytes x) (sitesDeepened name k bs)
+      (omega (arith, site-short k (omega arith), all .few)) ∙ before
+
+  pub sites-kept : (a w k : ℕ) → k ≤ count → ((m : ℕ) → m < k → (v : ℕ) → v ≤ 285 → Apart a w (slotAt m + 16) v)
+      → take w (drop a (sitesDeepened name k bs)) ≡ take w (drop a bs)
+  sites-kept a w zero l apart = refl
+  sites-kept a w (suc k) l apart =
+      let before = sites-length k (omega arith) in
+      let x = deepened name (nodeIn bs k) in
+      let short = site-short k (omega arith) in
+      apart-kept (slotAt k + 16) (primCount (x .path) ∷ recordBytes x) (sitesDeepened name k bs) a w
+      (omega (arith, all .few)) (apart k (omega arith) _ short)
+      ∙ sites-kept a w k (omega arith) (λ m h. apart m (omega arith))
+
+  pub same-behind : (n : ℕ) → n ≤ count → SameFrom n (sitesDeepened name n bs) bs
+  same-behind n l a w h = sites-kept a w n l (λ m q v short. inr (omega arith))
+
+  pub join-next : (n : ℕ) → n < count → CanJoin (sitesDeepened name n bs) name n
+  join-next n h = same-join (sitesDeepened name n bs) bs n (same-behind n (omega arith)) name (sites-length n (omega arith)) (all .each n h)
+
+  pub sites-next : (n : ℕ) → n < count
+      → siteStored n (deepened name (nodeIn (sitesDeepened name n bs) n)) (sitesDeepened name n bs) ≡ sitesDeepened name (n + 1) bs
+  sites-next n h =
+      ap (λ (x : model.Node). siteStored n (deepened name x) (sitesDeepened name n bs))
+      (same-node (sitesDeepened name n bs) bs n (same-behind n (omega arith)))
+      ∙ ap (λ (k : ℕ). sitesDeepened name k bs) (let e : suc n ≡ n + 1 = omega arith in e)

@@ -1,0 +1,2 @@
+-- The laws of a name appended, for callers too.
+pub mod JoinLaws
