@@ -34,7 +34,7 @@ pub record ReadsBack (g : Graph) : Type 0 where
   pub graph : (into : List ℕ) → length into ≡ arenaBytes → decode (readBack g into) ≡ readInto (writeSnapshot g) emptyGraph .graph
 
 -- the graph built of nodes that pass their questions can be encoded
-built-encodable : (ns : List Node) → NodesFit ns → Grows ns → Encodable (built ns)
+pub built-encodable : (ns : List Node) → NodesFit ns → Grows ns → Encodable (built ns)
 built-encodable ns fit grow =
     legal-encodable (built ns) (grows-legal ns grow) (rw (built-nodes ns) fit)
     (λ none. grows-fresh ns grow .shallow ∙ ap (anyBelow (λ c. isShallow (built ns .nodes) c (nodeAt (built ns .nodes) c))) none)

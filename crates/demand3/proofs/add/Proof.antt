@@ -1,0 +1,17 @@
+-- `add` makes the call `adding`, by `add_child`'s contract. Assumes nothing.
+use borrow.Author.Needs.{needs}
+use Rattle.demand3.proofs.Steps.{add-child-adds}
+use Rattle.demand3.proofs.add.Statement.{statement}
+use Rattle.demand3.proofs.add.Tie as tie
+
+add-child-requires : tie.Need-add-child-requires
+add-child-requires c κs = search needs
+
+same-length : tie.Need-same-length
+same-length c = search needs
+
+returns : tie.Need-returns
+returns c = add-child-adds _ _ _ _ _ (c .before .before .add-child .ensures)
+
+pub add-spec : {M : Type 1} → statement M
+add-spec = tie.close (tie.spec add-child-requires same-length returns)

@@ -1,0 +1,17 @@
+-- `read` makes the call `reading`, by `read_snapshot`'s contract. Assumes nothing.
+use borrow.Author.Needs.{needs}
+use Rattle.demand3.proofs.Steps.{read-snapshot-reads}
+use Rattle.demand3.proofs.read.Statement.{statement}
+use Rattle.demand3.proofs.read.Tie as tie
+
+read-snapshot-requires : tie.Need-read-snapshot-requires
+read-snapshot-requires c κs = search needs
+
+same-length : tie.Need-same-length
+same-length c = search needs
+
+returns : tie.Need-returns
+returns c = read-snapshot-reads _ _ _ _ (c .before .before .read-snapshot .ensures)
+
+pub read-spec : {M : Type 1} → statement M
+read-spec = tie.close (tie.spec read-snapshot-requires same-length returns)
