@@ -1,5 +1,7 @@
 //! Holds the proved library to plain Rust, and measures it beside that, on the same input in one run.
 mod arenas;
+mod culling;
+mod erasures;
 mod graphs;
 mod order;
 mod orders;
@@ -17,9 +19,11 @@ usage: bench [paths]                measure reading paths
        bench graphs                 measure the check of an arena, snapshots and adding
        bench strength               measure comparing nodes
        bench order                  measure ordering graphs
+       bench culling                measure culling, the erasable set and erasing
        bench arenas SEED COUNT      compare the check on COUNT arenas, whole and damaged
        bench snapshots SEED COUNT   compare the reading of COUNT snapshots, whole and damaged
-       bench orders SEED COUNT      compare the ordering of COUNT arenas";
+       bench orders SEED COUNT      compare the ordering of COUNT arenas
+       bench erasures SEED COUNT    compare culling and erasing in COUNT arenas";
 
 fn main() -> ExitCode {
     let arguments: Vec<String> = env::args().skip(1).collect();
@@ -29,9 +33,11 @@ fn main() -> ExitCode {
         ["graphs"] => Some(graphs::measure()),
         ["strength"] => Some(strength::measure()),
         ["order"] => Some(order::measure()),
+        ["culling"] => Some(culling::measure()),
         ["arenas", seed, count] => on_numbers(seed, count, arenas::compare),
         ["snapshots", seed, count] => on_numbers(seed, count, snapshots::compare),
         ["orders", seed, count] => on_numbers(seed, count, orders::compare),
+        ["erasures", seed, count] => on_numbers(seed, count, erasures::compare),
         _ => None,
     };
     match agreed {

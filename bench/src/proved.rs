@@ -8,6 +8,9 @@ unsafe extern "C" {
     fn bench_init_root(arena: *mut u8, alen: usize, stack: u32, layer: u32, path: *const u8, plen: usize) -> u32;
     fn bench_add_child(arena: *mut u8, alen: usize, parent: u32, path: *const u8, plen: usize) -> u32;
     fn bench_finalize_strength_order(arena: *mut u8, length: usize) -> u32;
+    fn bench_cull(arena: *mut u8, length: usize) -> u32;
+    fn bench_erasable(arena: *const u8, alen: usize, set: *mut u8, slen: usize) -> u32;
+    fn bench_erase(arena: *mut u8, alen: usize, set: *const u8, slen: usize) -> u32;
     fn bench_compare_node_strength(arena: *const u8, length: usize, a: u32, b: u32) -> u32;
     fn bench_compare_pairs(arena: *const u8, alen: usize, pairs: *const u8, plen: usize) -> u64;
     fn bench_compare_sibling_pairs(arena: *const u8, alen: usize, pairs: *const u8, plen: usize) -> u64;
@@ -55,6 +58,21 @@ pub fn add_child(arena: &mut [u8], parent: u32, path: &[u8]) -> Result<u32, u32>
 /// 0, and the order in the arena.
 pub fn finalize_strength_order(arena: &mut [u8]) -> Result<u32, u32> {
     answer(unsafe { bench_finalize_strength_order(arena.as_mut_ptr(), arena.len()) })
+}
+
+/// 0, and the flags in the arena.
+pub fn cull(arena: &mut [u8]) -> Result<u32, u32> {
+    answer(unsafe { bench_cull(arena.as_mut_ptr(), arena.len()) })
+}
+
+/// 0, and the erasable set.
+pub fn erasable(arena: &[u8], set: &mut [u8]) -> Result<u32, u32> {
+    answer(unsafe { bench_erasable(arena.as_ptr(), arena.len(), set.as_mut_ptr(), set.len()) })
+}
+
+/// The count kept.
+pub fn erase(arena: &mut [u8], set: &[u8]) -> Result<u32, u32> {
+    answer(unsafe { bench_erase(arena.as_mut_ptr(), arena.len(), set.as_ptr(), set.len()) })
 }
 
 /// Less is 0, Equal 1 and Greater 2.

@@ -196,7 +196,7 @@ impl Calls {
         Ok(graph.erasable().into_iter().map(bit).collect())
     }
 
-    fn erase(&mut self, set: &[bool]) -> Result<String, Refusal> {
+    fn erase(&mut self, set: &[u8]) -> Result<String, Refusal> {
         let goes = narrowing::erase(self.current.graph(), set)?;
         Ok(self.current.erase(&goes).to_string())
     }

@@ -5,8 +5,8 @@ use crate::record::{Record, node_given};
 /// A longer line writes no call.
 pub const MAX_LINE: usize = 131_072;
 
-/// More bits than a graph can have nodes write no erase set.
-const MAX_BITS: usize = 1_024;
+/// More bytes than a graph can have nodes write no erase set.
+const MAX_SET: usize = 1_024;
 
 /// A call with its arguments. They fit their fields' types; nothing else is known of them.
 #[derive(Debug, PartialEq, Eq)]
@@ -34,7 +34,7 @@ pub enum Call<'a> {
     List,
     Cull,
     Erasable,
-    Erase(Vec<bool>),
+    Erase(Vec<u8>),
     Deepen(&'a [u8]),
     Seed(&'a [u8]),
     Swap,
@@ -76,7 +76,7 @@ pub fn parse(line: &[u8]) -> Option<Call<'_>> {
         [b"list"] => Call::List,
         [b"cull"] => Call::Cull,
         [b"erasable"] => Call::Erasable,
-        [b"erase", set] => Call::Erase(bits(set)?),
+        [b"erase", set] => Call::Erase(erase_set(set)?),
         [b"deepen", path] => Call::Deepen(path),
         [b"seed", path] => Call::Seed(path),
         [b"swap"] => Call::Swap,
@@ -140,14 +140,10 @@ fn hex_digit(byte: u8) -> Option<u8> {
     }
 }
 
-fn bits(word: &[u8]) -> Option<Vec<bool>> {
-    if word.len() > MAX_BITS {
+/// The bytes of an erase set, a digit each. Only 0 and 1 mean something; check 11 refuses the others where they count.
+fn erase_set(word: &[u8]) -> Option<Vec<u8>> {
+    if word.len() > MAX_SET {
         return None;
     }
-    let bits = word.iter().map(|byte| match byte {
-        b'0' => Some(false),
-        b'1' => Some(true),
-        _ => None,
-    });
-    bits.collect()
+    word.iter().map(|byte| byte.is_ascii_digit().then_some(byte - b'0')).collect()
 }

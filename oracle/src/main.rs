@@ -39,10 +39,13 @@ usage: oracle answer                                 answer the lines on standar
        oracle script orders-large SEED COUNT         print lines that order COUNT larger graphs and some of 1,024 nodes
        oracle script sequences SEED COUNT            print lines that make and order COUNT graphs in two sequences
        oracle script sequences-by-number SEED COUNT  print the same where node numbers decide
+       oracle script culls SEED COUNT                print lines that cull COUNT small graphs and erase from them
+       oracle script culls-large SEED COUNT          print the same on COUNT larger graphs and some of 1,024 nodes
        oracle deciding SEED COUNT                    print how many pairs of `script strength` each line settles
        oracle time-adding COUNT                      print the nanoseconds that the Rust takes to add COUNT nodes
        oracle time-comparing SHAPE COUNT             print those for comparing its siblings and 10,000 pairs
-       oracle time-ordering SHAPE COUNT              print those for ordering a graph of COUNT nodes";
+       oracle time-ordering SHAPE COUNT              print those for ordering a graph of COUNT nodes
+       oracle time-culling SHAPE COUNT               print those for culling it, for its erasable set and for erasing";
 
 type Script = fn(u64, usize, &mut dyn Write) -> io::Result<()>;
 
@@ -62,12 +65,15 @@ fn main() -> ExitCode {
         ["script", "orders-large", seed, count] => print_script(scripts::orders_large, seed, count),
         ["script", "sequences", seed, count] => print_script(scripts::sequences, seed, count),
         ["script", "sequences-by-number", seed, count] => print_script(scripts::sequences_by_number, seed, count),
+        ["script", "culls", seed, count] => print_script(scripts::culls, seed, count),
+        ["script", "culls-large", seed, count] => print_script(scripts::culls_large, seed, count),
         ["deciding", seed, count] => print_script(deciding::print, seed, count),
         ["time-adding", count] => {
             count.parse().ok().map(|count| print(|out| writeln!(out, "{}", timing::adding(count))))
         }
         ["time-comparing", shape, count] => print_comparing(shape, count),
         ["time-ordering", shape, count] => print_ordering(shape, count),
+        ["time-culling", shape, count] => print_culling(shape, count),
         _ => None,
     };
     match printed {
@@ -94,6 +100,14 @@ fn print_comparing(shape: &str, count: &str) -> Option<io::Result<()>> {
 fn print_ordering(shape: &str, count: &str) -> Option<io::Result<()>> {
     let ordered = timing::ordering(shape, count.parse().ok()?)?;
     Some(print(|out| writeln!(out, "{} {}", ordered.nanoseconds, ordered.sum)))
+}
+
+/// Prints the nanoseconds for culling, for the erasable set and for erasing, and how many nodes are kept, if there is
+/// such a shape.
+fn print_culling(shape: &str, count: &str) -> Option<io::Result<()>> {
+    let culled = timing::culling(shape, count.parse().ok()?)?;
+    let [culling, erasable, erasing] = culled.nanoseconds;
+    Some(print(|out| writeln!(out, "{culling} {erasable} {erasing} {}", culled.kept)))
 }
 
 fn usage() -> ExitCode {

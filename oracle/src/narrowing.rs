@@ -37,6 +37,7 @@ const PATH_TOO_LONG: Refusal = Refusal::new(7, "a path has at most 255 bytes; th
 const NOT_SIBLINGS: Refusal = Refusal::new(8, "siblings have one parent; the Rust compares any two nodes");
 const NO_ORDER: Refusal = Refusal::new(9, "a child list has no order; the Rust's sort promises nothing there");
 const NOT_ORDERED: Refusal = Refusal::new(10, "the order is not current; the Rust would hand out the old one");
+const NEITHER_GOES_NOR_STAYS: Refusal = Refusal::new(11, "a byte is 0 or 1; the Rust's type has no other");
 const ROOT_GOES: Refusal = Refusal::new(11, "a Root arc would go; the Rust erases it");
 const LINK_GOES: Refusal = Refusal::new(11, "a kept node's parent or origin would go; the Rust only asserts it stays");
 
@@ -208,10 +209,12 @@ pub fn list(graph: &PrimIndexGraph, ordered: bool) -> Result<(), Refusal> {
 
 /// Erasing, checks 3 and 11: for each node whether it goes. Nodes that `set` does not reach stay; what it has past the
 /// count is not read.
-pub fn erase(graph: &PrimIndexGraph, set: &[bool]) -> Result<Vec<bool>, Refusal> {
+pub fn erase(graph: &PrimIndexGraph, set: &[u8]) -> Result<Vec<bool>, Refusal> {
     node_0(graph)?;
-    let mut goes = set.to_vec();
-    goes.resize(graph.len(), false);
+    let mut set = set.to_vec();
+    set.resize(graph.len(), 0);
+    NEITHER_GOES_NOR_STAYS.unless(set.iter().all(|&byte| byte <= 1))?;
+    let goes: Vec<bool> = set.iter().map(|&byte| byte == 1).collect();
     for node in graph.nodes() {
         if goes[node.id().idx()] {
             ROOT_GOES.unless(node.arc() != ArcType::Root)?;

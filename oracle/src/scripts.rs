@@ -1,6 +1,7 @@
 //! Scripts: lines of the language, the same ones for the same seed.
 
 mod arenas;
+mod culls;
 mod graphs;
 mod orders;
 mod paths;
@@ -8,6 +9,7 @@ mod snapshots;
 mod strength;
 
 pub use arenas::arenas;
+pub use culls::{culls, culls_large};
 pub use graphs::graphs;
 pub use orders::{orders, orders_large, sequences, sequences_by_number};
 pub use paths::paths;

@@ -1,7 +1,9 @@
 //! The examples of document 01, the edges of the language, inputs that mean nothing, the plain reader of snapshots, the
-//! plain comparison, and ordering.
+//! plain comparison, ordering, culling and erasing.
 
+mod culls;
 mod departures;
+mod erasing;
 mod examples;
 mod lines;
 mod orders;

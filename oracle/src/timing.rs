@@ -1,9 +1,11 @@
-//! How long the Rust takes to grow a graph, to compare nodes and to order them: what the proved calls are measured beside.
+//! How long the Rust takes to grow a graph, to compare nodes, to order them, to cull and to erase: what the proved
+//! calls are measured beside.
 
 use std::cmp::Ordering;
 use std::hint::black_box;
 use std::time::{Duration, Instant};
 
+use plain::samples::culls::CULLED_SHAPES;
 use plain::samples::graphs::{Node, grown, snapshot};
 use plain::samples::strength::{MEASURED_PAIRS, ORDERED_SHAPES, SHAPES, random_pairs, sibling_pairs};
 
@@ -123,4 +125,38 @@ pub struct Ordered {
 
 fn order_sum(graph: &PrimIndexGraph) -> u64 {
     (0..).zip(graph.strength_order()).map(|(place, node): (u64, &NodeId)| place * u64::from(node.0)).sum()
+}
+
+/// The times for culling a graph of this shape, for its erasable set and for erasing that, the least of many turns, and
+/// how many nodes are kept; no such shape gives nothing. Each turn has a graph of its own, made before the clock
+/// starts.
+pub fn culling(shape: &str, count: usize) -> Option<Culled> {
+    let (_, nodes) = CULLED_SHAPES.iter().find(|(name, _)| *name == shape)?;
+    let snapshot = snapshot(&nodes(count));
+    let mut culled = Culled { nanoseconds: [u128::MAX; 3], kept: 0 };
+    let begun = Instant::now();
+    while culled.kept == 0 || begun.elapsed() < CULLING {
+        let mut judge = graph_of(&snapshot).ok()?;
+        let mut set = Vec::new();
+        let turns =
+            [time(|| judge.cull()), time(|| set = judge.graph().erasable()), time(|| culled.kept = judge.erase(&set))];
+        culled.nanoseconds = [0, 1, 2].map(|at| culled.nanoseconds[at].min(turns[at]));
+        black_box(judge);
+    }
+    Some(culled)
+}
+
+/// For culling, turns go on for so long, the making of their graphs included.
+const CULLING: Duration = Duration::from_millis(400);
+
+/// What culling, the erasable set and erasing took, and the nodes that are kept.
+pub struct Culled {
+    pub nanoseconds: [u128; 3],
+    pub kept: usize,
+}
+
+fn time(run: impl FnOnce()) -> u128 {
+    let start = Instant::now();
+    run();
+    start.elapsed().as_nanos()
 }

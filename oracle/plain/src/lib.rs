@@ -3,6 +3,9 @@
 //! both are tried on, whole and damaged.
 
 pub mod arena;
+pub mod culling;
+pub mod erasing;
+pub mod graph;
 pub mod layout;
 pub mod order;
 pub mod path;

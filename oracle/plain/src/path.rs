@@ -31,6 +31,24 @@ pub fn prim_count(path: &[u8]) -> Option<u8> {
     Some(names)
 }
 
+/// A well-formed path taken back by so many steps: "each step drops all trailing selections, then takes the parent; at
+/// `/` it stays".
+pub fn back(path: &[u8], steps: usize) -> &[u8] {
+    (0..steps).fold(path, |path, _| parent(without_selections(path)))
+}
+
+fn without_selections(path: &[u8]) -> &[u8] {
+    if path.ends_with(b"}") { without_selections(parent(path)) } else { path }
+}
+
+/// "The parent of a path ending in `}` stops before the last `{`. Otherwise it stops before the last `/`, or after the
+/// last `}` if that is later; `/A` has parent `/`." Here `/` is its own.
+fn parent(path: &[u8]) -> &[u8] {
+    let last = |byte: u8| path.iter().rposition(|&other| other == byte);
+    let end = if path.ends_with(b"}") { last(b'{') } else { last(b'/').max(last(b'}').map(|at| at + 1)) };
+    &path[..end.unwrap_or(0).max(1)]
+}
+
 /// What follows the name that `bytes` begin with.
 fn name(bytes: &[u8]) -> Option<&[u8]> {
     let first = *bytes.first()?;
@@ -62,7 +80,7 @@ fn begins_name(byte: u8) -> bool {
 
 #[cfg(test)]
 mod tests {
-    use super::prim_count;
+    use super::{back, prim_count};
 
     #[test]
     fn prim_counts() {
@@ -77,6 +95,23 @@ mod tests {
         ];
         for (path, count) in counted {
             assert_eq!(prim_count(path), Some(count), "{}", String::from_utf8_lossy(path));
+        }
+    }
+
+    #[test]
+    fn paths_taken_back() {
+        let taken: [(&[u8], usize, &[u8]); 8] = [
+            (b"/A{v=x}B{w=y}", 0, b"/A{v=x}B{w=y}"),
+            (b"/A{v=x}B{w=y}", 1, b"/A{v=x}"),
+            (b"/A{v=x}B{w=y}", 2, b"/"),
+            (b"/A{v=x}B{w=y}", 9, b"/"),
+            (b"/A{v=x}{w=y}B/C", 2, b"/A{v=x}{w=y}"),
+            (b"/A/B", 1, b"/A"),
+            (b"/A", 1, b"/"),
+            (b"/", 1, b"/"),
+        ];
+        for (path, steps, left) in taken {
+            assert_eq!(back(path, steps), left, "{}", String::from_utf8_lossy(path));
         }
     }
 

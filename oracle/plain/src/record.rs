@@ -19,6 +19,7 @@ pub const HAS_SPECIALIZES: u8 = 8;
 /// Where things stand in a record.
 pub const ARC: usize = 0;
 pub const FLAGS: usize = 1;
+pub const STACK: usize = 2;
 pub const PARENT: usize = 10;
 pub const ORIGIN: usize = 14;
 pub const DEPTH: usize = 18;
@@ -44,6 +45,10 @@ impl<'a> Record<'a> {
 
     pub fn flags(self) -> u8 {
         self.fields[FLAGS]
+    }
+
+    pub fn stack(self) -> u32 {
+        u32_at(self.fields, STACK)
     }
 
     pub fn parent(self) -> u32 {

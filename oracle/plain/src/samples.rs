@@ -1,6 +1,7 @@
 //! Random graphs: as records, as snapshots and as arenas, each whole or damaged.
 
 pub mod arenas;
+pub mod culls;
 pub mod damaged_arenas;
 pub mod damaged_snapshots;
 pub mod graphs;

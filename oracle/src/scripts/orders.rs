@@ -40,7 +40,8 @@ pub fn orders_large(seed: u64, count: usize, out: &mut dyn Write) -> io::Result<
     Ok(())
 }
 
-/// So many graphs between whose siblings node numbers never decide; and each again, its nodes added in another sequence.
+/// So many graphs between whose siblings node numbers never decide; and each again, its nodes added in another
+/// sequence.
 pub fn sequences(seed: u64, count: usize, out: &mut dyn Write) -> io::Result<()> {
     list_twice(seed, count, false, out)
 }
@@ -82,12 +83,13 @@ fn order(random: &mut Random, nodes: &[Node], out: &mut dyn Write) -> io::Result
     Ok(())
 }
 
-fn read(nodes: &[Node], out: &mut dyn Write) -> io::Result<()> {
+/// The line that reads these nodes.
+pub fn read(nodes: &[Node], out: &mut dyn Write) -> io::Result<()> {
     writeln!(out, "read {}", hex(&snapshot(nodes)))
 }
 
-/// Node 0 is started with its site; its other fields are as starting has them.
-fn add_all(nodes: &[Node], out: &mut dyn Write) -> io::Result<()> {
+/// The lines that add them. Node 0 is started with its site; its other fields are as starting has them.
+pub fn add_all(nodes: &[Node], out: &mut dyn Write) -> io::Result<()> {
     let root = &nodes[0];
     writeln!(out, "new\ninit {} {} {}", root.stack, root.layer, text(root))?;
     nodes[1..].iter().try_for_each(|node| add(node, out))

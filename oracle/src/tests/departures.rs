@@ -125,6 +125,34 @@ fn erasing_answers_the_nodes_copied_there() {
 }
 
 #[test]
+fn a_root_arc_may_be_erased_there() {
+    let mut graph = started("/A");
+    graph.add_child(NodeId(0), desc(ArcType::Root));
+    graph.erase(&[false, true]);
+    assert_eq!((graph.len(), graph.local_root()), (1, NodeId::INVALID));
+    check("init 0 0 /A => 0\nadd 0 0 0 0 0 - - 0 0 0 1 /A => 1\nerase 01 => refused 11\nerase 1 => refused 11");
+}
+
+/// With its assertions the Rust panics.
+#[cfg(not(debug_assertions))]
+#[test]
+fn a_kept_origin_may_be_erased_there() {
+    let mut graph = started("/A");
+    let origin = graph.add_child(NodeId(0), desc(ArcType::Reference));
+    let mut copy = desc(ArcType::Reference);
+    copy.origin = Some(origin);
+    graph.add_child(NodeId(0), copy);
+    graph.erase(&[false, true, false]);
+    assert_eq!((graph.len(), graph.node(NodeId(1)).origin()), (2, None));
+    check(
+        "init 0 0 /A => 0
+        add 0 4 0 0 0 - - 0 0 0 1 /A => 1
+        add 0 4 0 0 0 1 - 0 0 0 1 /A => 2
+        erase 010 => refused 11",
+    );
+}
+
+#[test]
 fn spec_from_reads_0_without_specs_there() {
     let mut graph = started("/A");
     let mut without_specs = desc(ArcType::Reference);

@@ -12,14 +12,15 @@ fn bad_lines() {
         "add 4294967296 0 0 0 0 - - 0 0 0 1 /", "add - 0 0 0 0 - 65536 0 0 0 1 /", "add - 0 0 0 0 - - 65536 0 0 1 /",
         "add - 0 0 0 0 - - 0 65536 0 1 /", "add - 0 0 0 0 - - 0 0 65536 1 /", "add - 0 0 0 0 - - 0 0 0 256 /",
         "add - 0 0 0 0 - - 0 0 0 - /", "read", "read ", "read 0", "read 0g", "read 0A", "read 00 00", "write 1",
-        "compare 0", "compare 0 4294967296", "compare - 0", "sibling 0 0 0", "erase", "erase ", "erase 2", "erase 0 1",
-        "below -", "below", "intro x", "using 0", "using - /", "order\r", "list\t", "swap swap",
+        "compare 0", "compare 0 4294967296", "compare - 0", "sibling 0 0 0", "erase", "erase ", "erase -", "erase 0x",
+        "erase 0 1", "cull 1", "erasable 0", "below -", "below", "intro x", "using 0", "using - /", "order\r",
+        "list\t", "swap swap",
     ];
     for line in bad {
         assert_eq!(answers(line), ["bad line"], "{line:?}");
     }
     assert_eq!(answers(&format!("erase {}", "0".repeat(1_025))), ["bad line"]);
-    assert_eq!(answers(&format!("erase {}", "0".repeat(1_024))), ["refused 3"]);
+    assert_eq!(answers(&format!("erase {}", "9".repeat(1_024))), ["refused 3"]);
 }
 
 #[test]
@@ -57,6 +58,9 @@ fn erase_sets_of_other_lengths() {
     assert_eq!(erased("01"), "2");
     assert_eq!(erased("0111111"), "1");
     assert_eq!(erased("1"), "refused 11");
+    assert_eq!(erased("002"), "refused 11");
+    assert_eq!(erased("0002"), "3");
+    assert_eq!(erased("00129"), "2");
 }
 
 #[test]

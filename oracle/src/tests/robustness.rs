@@ -83,13 +83,15 @@ fn script(print: Script, seed: u64, count: usize) -> Vec<u8> {
 
 #[test]
 fn repeatable_scripts() {
-    let scripts: [(Script, usize); 6] = [
+    let scripts: [(Script, usize); 8] = [
         (scripts::graphs, 60),
         (scripts::arenas, 300),
         (scripts::snapshots, 300),
         (scripts::strength, 300),
         (scripts::strength_large, 2),
         (scripts::relations, 300),
+        (scripts::culls, 300),
+        (scripts::culls_large, 5),
     ];
     for (print, count) in scripts {
         let printed = script(print, 5, count);

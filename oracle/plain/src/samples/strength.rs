@@ -134,7 +134,7 @@ pub fn long_chains(random: &mut Random, count: usize) -> Vec<Node> {
 }
 
 /// Makes a graph of so many nodes.
-type Shape = fn(usize) -> Vec<Node>;
+pub type Shape = fn(usize) -> Vec<Node>;
 
 /// The shapes that are measured, and their names.
 pub const SHAPES: [(&str, Shape); 4] = [("chain", chain), ("star", star), ("mixed", mixed), ("origins", long_origins)];
@@ -152,7 +152,7 @@ pub const ORDERED_SHAPES: [(&str, Shape); 5] = [
 pub const MEASURED_PAIRS: usize = 10_000;
 
 /// `count` nodes, the third and later ones made by `child` from their numbers.
-fn shaped(count: usize, child: impl FnMut(usize) -> Node) -> Vec<Node> {
+pub fn shaped(count: usize, child: impl FnMut(usize) -> Node) -> Vec<Node> {
     let path = b"/World/Line".to_vec();
     let root = Node { arc: ROOT, flags: INERT, parent: INVALID, origin: INVALID, ..Node::reference(path.clone()) };
     let local_root = Node { arc: ROOT, ..Node::reference(path) };
