@@ -3,7 +3,7 @@
 // every lent byte is as it was. What a call answers and leaves is its one function of model/specs/Calls.antt, made a call on bytes by
 // model/specs/ArenaCalls.antt.
 // Starting and adding are in crates/adding, the calls that only read in crates/queries, the comparisons in crates/comparing, those on the order in
-// crates/finalizing; here are the two that take or give a snapshot.
+// crates/finalizing, culling and erasing in crates/erasing; here are the two that take or give a snapshot.
 pub use adding::Depth;
 pub use adding::NodeDesc;
 pub use adding::add_child;
@@ -16,6 +16,9 @@ pub use comparing::is_ancestor_of;
 pub use comparing::is_propagated_specializes;
 pub use comparing::same_site;
 pub use comparing::starting_node_of_class_hierarchy;
+pub use erasing::cull_subtrees_without_opinions;
+pub use erasing::erasable;
+pub use erasing::erase;
 pub use finalizing::finalize_strength_order;
 pub use finalizing::order_entry;
 pub use finalizing::strength_order;

@@ -1,0 +1,2 @@
+pub mod EraseCallLaws
+pub mod ErasedLaws
