@@ -36,6 +36,10 @@ fn erasable_line(arena: &[u8], out: &mut [u8], used: usize) -> usize {
     }
 }
 
+fn put_byte(out: &mut [u8], used: usize, byte: u8) -> usize {
+    put_number(out, used, byte as u64)
+}
+
 // The bytes of the first nodes, as many as were counted.
 fn put_set(set: &[u8], counted: Numbered, out: &mut [u8], used: usize) -> usize {
     let Numbered::Number(count) = counted else {
@@ -47,7 +51,7 @@ fn put_set(set: &[u8], counted: Numbered, out: &mut [u8], used: usize) -> usize 
         if set.len() <= (n as usize) {
             return end;
         }
-        end = put_number(out, end, set[n as usize] as u64);
+        end = put_byte(out, end, set[n as usize]);
         n += 1;
     }
     end
