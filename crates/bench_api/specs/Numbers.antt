@@ -8,12 +8,12 @@ use Rattle.model.specs.Lists.{bit}
 use Rattle.model.specs.Refusals.{refusalNumber, Question}
 use Rattle.model.specs.Answers.{orderingNumber}
 use Rattle.model.specs.Arena.{holdsGraph}
-use Rattle.model.specs.ArenaCalls.{isArena, Wrote, AnsweredOrder}
+use Rattle.model.specs.ArenaCalls.{isArena, Wrote, Finishes, AnsweredOrder}
 use Rattle.model.specs.Calls as calls
 use Rattle.model.specs.Calls.{Outcome}
 use Rattle.model.specs.Node.{invalid}
 use Rattle.prim_graph.specs.Snapshots.{SnapshotWritten}
-use Rattle.finalizing.specs.Orders.{Finalized}
+use Rattle.erasing.specs.Erasures.{ErasableWritten}
 use Rattle.model.specs.declared.PrimCount.{PrimCount}
 use Rattle.model.specs.declared.PrimCount.the-variants.{Names, Malformed}
 use Rattle.model.specs.declared.Numbered.{Numbered}
@@ -60,10 +60,16 @@ pub record ComparedNumber (questions : List Question) (order : Ordering) (r : �
   pub answered : AnsweredOrder questions order answer
   pub number : r ≡ orderNumber answer
 
--- the answer of ordering, as a number, and the arena after it
-pub record FinalizedNumber (before : List ℕ) (r : ℕ) (after : List ℕ) : Type 0 where
+-- the same where a call gives nothing but its refusal
+pub record FinishesNumber (o : Outcome) (before : List ℕ) (r : ℕ) (after : List ℕ) : Type 0 where
   pub answer : Finished
-  pub finalized : Finalized before answer after
+  pub finishes : Finishes o before answer after
+  pub number : r ≡ finishedNumber answer
+
+-- the answer of finding the erasable set, as a number, and the set after it
+pub record ErasableNumber (arena set : List ℕ) (r : ℕ) (after : List ℕ) : Type 0 where
+  pub answer : Finished
+  pub written : ErasableWritten arena set answer after
   pub number : r ≡ finishedNumber answer
 
 -- a Reference under `parent`, its origin and depth missing, other fields 0

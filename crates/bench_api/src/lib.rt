@@ -12,11 +12,12 @@ ghost use mathlib.Core.Path.{_≡_};
 ghost use mathlib.Core.Bool.{true, false};
 ghost use Rattle.model.specs.Arena.{decode};
 ghost use Rattle.model.specs.ArenaCalls.{onArena, intoArena, askArena};
-ghost use Rattle.model.specs.Calls.{initRoot, addChild, readInto, comparesNodes};
+ghost use Rattle.model.specs.Calls.{initRoot, addChild, readInto, comparesNodes, finalizeStrengthOrder, cull};
 ghost use Rattle.model.specs.Graph.{emptyGraph};
 ghost use Rattle.model.specs.Path.{countPrims};
 ghost use Rattle.model.specs.Strength.{view, compareNodeStrength};
-ghost use Rattle.bench_api.specs.Numbers.{countNumber, answerNumber, orderNumber, graphNumber, referenceDesc, WroteNumber, WrittenNumber, ComparedNumber, finishedNumber, FinalizedNumber};
+ghost use Rattle.bench_api.specs.Numbers.{countNumber, answerNumber, orderNumber, graphNumber, referenceDesc, WroteNumber, WrittenNumber, ComparedNumber, finishedNumber, FinishesNumber, ErasableNumber};
+ghost use Rattle.erasing.specs.Erasures.{eraseIn};
 ghost use Rattle.bench_api.specs.Pairs.{pairsNumber};
 
 // The prim count, or 65,536 where the bytes are no path.
@@ -144,7 +145,31 @@ fn finished_number(answer: Finished) -> u32
 // `finalize_strength_order`.
 #[no_mangle]
 pub extern "C" fn bench_finalize_strength_order(arena: &mut [u8]) -> u32
-    ensures { λ r. ⌜ FinalizedNumber (now (arena .entry)) r (now (arena .exit)) ⌝ }
+    ensures { λ r. ⌜ FinishesNumber (onArena finalizeStrengthOrder (now (arena .entry))) (now (arena .entry)) r (now (arena .exit)) ⌝ }
 {
     finished_number(prim_graph::finalize_strength_order(arena))
+}
+
+// `cull_subtrees_without_opinions`.
+#[no_mangle]
+pub extern "C" fn bench_cull(arena: &mut [u8]) -> u32
+    ensures { λ r. ⌜ FinishesNumber (onArena cull (now (arena .entry))) (now (arena .entry)) r (now (arena .exit)) ⌝ }
+{
+    finished_number(prim_graph::cull_subtrees_without_opinions(arena))
+}
+
+// `erasable`.
+#[no_mangle]
+pub extern "C" fn bench_erasable(arena: &[u8], set: &mut [u8]) -> u32
+    ensures { λ r. ⌜ ErasableNumber (now (arena .entry)) (now (set .entry)) r (now (set .exit)) ⌝ }
+{
+    finished_number(prim_graph::erasable(arena, set))
+}
+
+// `erase`.
+#[no_mangle]
+pub extern "C" fn bench_erase(arena: &mut [u8], set: &[u8]) -> u32
+    ensures { λ r. ⌜ WroteNumber (eraseIn (now (set .entry)) (now (arena .entry))) (now (arena .entry)) r (now (arena .exit)) ⌝ }
+{
+    number(prim_graph::erase(arena, set))
 }

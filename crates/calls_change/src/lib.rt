@@ -1,4 +1,4 @@
-// The lines that cull and erase, for the command `calls`. Each function is handed a line that has its name and its number of words, puts the answer,
+// The lines that cull, erase and append a child's name, for the command `calls`. Each function is handed a line that has its name and its number of words, puts the answer,
 // without a newline, after the first `used` bytes of `out`, and answers how many are then used. None has a `requires`.
 use calls_text::Answered;
 use calls_text::bad_line;
@@ -11,7 +11,7 @@ use calls_text::word;
 use model::Finished;
 use model::Numbered;
 
-// The answer to a line that culls or erases.
+// The answer to a line that culls, erases or appends a name.
 pub fn answer(line: &[u8], arena: &mut [u8], out: &mut [u8], used: usize) -> Answered {
     if is_call(line, b"cull", 1) {
         let culled = prim_graph::cull_subtrees_without_opinions(arena);
@@ -22,6 +22,10 @@ pub fn answer(line: &[u8], arena: &mut [u8], out: &mut [u8], used: usize) -> Ans
     }
     if is_call(line, b"erase", 2) {
         return Answered::Used(erase_line(line, arena, out, used));
+    }
+    if is_call(line, b"deepen", 2) {
+        let deepened = prim_graph::append_child_name_to_all_sites(arena, word(line, 1));
+        return Answered::Used(put_finished(out, used, deepened));
     }
     Answered::Unknown
 }

@@ -5,6 +5,9 @@ use calls_text::Answered;
 use calls_text::bad_line;
 use calls_text::is_call;
 use calls_text::put;
+use calls_text::put_refusal;
+use calls_text::word;
+use model::Finished;
 
 // What goes on from line to line: how many bytes of the output are used, and whether the second arena is the current one.
 pub struct State {
@@ -43,6 +46,12 @@ pub fn answer(
             swapped: !swapped,
         };
     }
+    if is_call(line, b"seed", 2) {
+        if swapped {
+            return seed_line(line, second, first, swapped, out, used);
+        }
+        return seed_line(line, first, second, swapped, out, used);
+    }
     if swapped {
         return State {
             used: answer_on(line, second, out, used),
@@ -52,6 +61,28 @@ pub fn answer(
     State {
         used: answer_on(line, first, out, used),
         swapped: false,
+    }
+}
+
+// `seed PATH`: the other arena filled from the current one. It then is the current one, unless the call is refused.
+fn seed_line(
+    line: &[u8],
+    current: &[u8],
+    other: &mut [u8],
+    swapped: bool,
+    out: &mut [u8],
+    used: usize,
+) -> State {
+    let seeded = prim_graph::seed_child(current, other, word(line, 1));
+    match seeded {
+        Finished::Done => State {
+            used: put(out, used, b"ok"),
+            swapped: !swapped,
+        },
+        Finished::Refused(refusal) => State {
+            used: put_refusal(out, used, refusal),
+            swapped,
+        },
     }
 }
 

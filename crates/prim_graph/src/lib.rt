@@ -3,11 +3,14 @@
 // every lent byte is as it was. What a call answers and leaves is its one function of model/specs/Calls.antt, made a call on bytes by
 // model/specs/ArenaCalls.antt.
 // Starting and adding are in crates/adding, the calls that only read in crates/queries, the comparisons in crates/comparing, those on the order in
-// crates/finalizing, culling and erasing in crates/erasing; here are the two that take or give a snapshot.
+// crates/finalizing, culling and erasing in crates/erasing, appending a child's name in crates/child_names; here are the two that take or give a
+// snapshot.
 pub use adding::Depth;
 pub use adding::NodeDesc;
 pub use adding::add_child;
 pub use adding::init_root;
+pub use child_names::append_child_name_to_all_sites;
+pub use child_names::seed_child;
 pub use comparing::HierarchyRead;
 pub use comparing::compare_node_strength;
 pub use comparing::compare_sibling_node_strength;
