@@ -28,9 +28,8 @@ use Rattle.model.proofs.ListLaws.{all-imp, every-all}
 use Rattle.adding.specs.declared.Depth.{Depth}
 use Rattle.adding.specs.declared.Depth.the-variants.{Given, Missing}
 use Rattle.snapshot.proofs.ReadBack.{written-reads-back}
-use Rattle.demand3.specs.Later.{seedIn}
-use Rattle.demand3.specs.Demand3.{Slice, DepthFits, Write, starting, adding, ordering, culling, erasing, deepening, reading, step, steps, Lent, Start, empty, read, seeded, rest, Deepened, Demand3}
-use Rattle.demand3.proofs.KeepEncodable.{Arena, arena-encodable, ArenaOf}
+use Rattle.keeping.proofs.KeepEncodable.{Arena, arena-encodable, ArenaOf}
+use Rattle.demand3.specs.Demand3.{Slice, DepthFits, Write, starting, adding, ordering, culling, erasing, deepening, reading, step, steps, Lent, seeding, Start, empty, read, seeded, rest, Deepened, Demand3}
 use Rattle.demand3.proofs.StepGraphs.{graphSteps, into-whole, steps-arena}
 use Rattle.demand3.proofs.ReachedArenas.{no-node, seed-whole}
 use Rattle.demand3.proofs.Demand3Proof.{demand3}
@@ -155,8 +154,11 @@ module _ (bs : List ℕ) (lent : Lent bs) (holds : holdsGraph bs ≡ true) (none
         (ap (λ (o : Outcome). o .refused) (into-whole (readInto (snapshot .bytes) emptyGraph) into (room .whole))
         ∙ written-reads-back (steps ten bs) (after .arena .bytes) (opened .whole) (opened .holds) .accepted) refl
 
-    ten-seeded : Start (left (seedIn (bytes "/c") (steps ten bs) into) into)
+    abbrev child : Slice
+    child = slice (bytes "/c") refl
+
+    ten-seeded : Start (left (seeding child (steps ten bs) into) into)
     ten-seeded =
-        seeded bs ten (slice (bytes "/c") refl) into (empty lent holds none) room
-        (ap (λ (o : Outcome). o .refused) (seed-whole (bytes "/c") (steps ten bs) into (after .arena .opened) (room .whole))
+        seeded bs ten child into (empty lent holds none) room
+        (ap (λ (o : Outcome). o .refused) (seed-whole child (steps ten bs) into (after .arena .opened) (room .whole))
         ∙ ap (λ (g : Graph). seedChild (bytes "/c") g emptyGraph .refused) (after .graph) ∙ seed-accepted) refl

@@ -20,10 +20,10 @@ use Rattle.model.proofs.ArenaCallLaws.{on-opened}
 use Rattle.model.proofs.EraseSets.{erasable-length}
 use Rattle.model.proofs.Demand3 as model
 use Rattle.arena.proofs.ArenaBack.{encode-decode}
-use Rattle.demand3.specs.Later.{eraseIn}
+use Rattle.erasing.specs.Erasures.{eraseIn}
+use Rattle.keeping.proofs.FitLaws.{FinalUnlessShallow}
+use Rattle.keeping.proofs.KeepEncodable.{call-keeps, Arena, arena-encodable, ArenaOf, call-arena}
 use Rattle.demand3.specs.Demand3.{Slice, ordering, deepening, comesTo, steps, Start, empty, Listed, erasingAll, rest, Afresh, Erased, Deepened, Demand3, Demand3AfterEveryList}
-use Rattle.demand3.proofs.FitLaws.{FinalUnlessShallow}
-use Rattle.demand3.proofs.KeepEncodable.{call-keeps, Arena, arena-encodable, ArenaOf, call-arena}
 use Rattle.demand3.proofs.GrownGraphs.{grown-demand}
 use Rattle.demand3.proofs.ReachedArenas.{Reached, start-reached, steps-reached}
 

@@ -12,12 +12,12 @@ use Rattle.model.specs.Arena.{arenaBytes, countIn, tabulate, nodeIn, childrenIn
 use Rattle.model.specs.ArenaCalls.{Opened, left}
 use Rattle.model.proofs.Demand3 as model
 use Rattle.arena.proofs.Encodable.{Encodable}
-use Rattle.demand3.specs.Later.{seedIn}
-use Rattle.demand3.specs.Demand3.{Slice, Write, reading, comesTo, step, steps, Lent, Start, empty, read, seeded}
-use Rattle.demand3.proofs.FitLaws.{FinalUnlessShallow}
-use Rattle.demand3.proofs.DeepeningKeeps.{seeding-leaves}
-use Rattle.demand3.proofs.ReadingKeeps.{reading-encodable, reading-unordered}
-use Rattle.demand3.proofs.KeepEncodable.{call-keeps, Arena, arena-encodable, ArenaOf, encoded-arena}
+use Rattle.child_names.specs.ChildNames.{seedFrom}
+use Rattle.keeping.proofs.FitLaws.{FinalUnlessShallow}
+use Rattle.keeping.proofs.DeepeningKeeps.{seeding-leaves}
+use Rattle.keeping.proofs.ReadingKeeps.{reading-encodable, reading-unordered}
+use Rattle.keeping.proofs.KeepEncodable.{call-keeps, Arena, arena-encodable, ArenaOf, encoded-arena}
+use Rattle.demand3.specs.Demand3.{Slice, Write, reading, comesTo, step, steps, Lent, seeding, Start, empty, read, seeded}
 use Rattle.demand3.proofs.StepGraphs.{callOf, isSized, graphStep, graphSteps, call-fits, left-accepted, into-whole, steps-arena}
 use Rattle.demand3.proofs.GrownGraphs.{Grown, grown-start, grown-call, grown-seeded}
 
@@ -79,10 +79,11 @@ no-node bs a none =
     not-finalized true e = absurd (false≢true (sym (unmarked .0) ∙ ok .final e .0))
     not-finalized false e = refl
 
-pub seed-whole : (child from into : List ℕ) → Opened from → length into ≡ arenaBytes → seedIn child from into ≡ seedChild child (decode from) emptyGraph
-unfolding seedIn
+pub seed-whole : (child : Slice) (from into : List ℕ) → Opened from → length into ≡ arenaBytes
+    → seeding child from into ≡ seedChild (child .bytes) (decode from) emptyGraph
+unfolding seedFrom
 seed-whole child from into opened whole =
-    rw (eq-eqb (length from) arenaBytes (opened .whole), eq-eqb (length into) arenaBytes whole, opened .holds)
+    into-whole (seedFrom (child .bytes) from) into whole ∙ rw (eq-eqb (length from) arenaBytes (opened .whole), opened .holds)
 
 -- an arena of any content that is filled with what an accepted call came to
 filled : (o met : Outcome) (into : List ℕ) → Lent into → o ≡ met → o .refused ≡ 0
@@ -105,11 +106,11 @@ read-reached snapshot into lent accepted =
     o : Outcome
     o = readInto (snapshot .bytes) emptyGraph
 
-seed-reached : (child : Slice) (from into : List ℕ) → Reached from → Lent into → seedIn (child .bytes) from into .refused ≡ 0
-    → Reached (left (seedIn (child .bytes) from into) into)
+seed-reached : (child : Slice) (from into : List ℕ) → Reached from → Lent into → seeding child from into .refused ≡ 0
+    → Reached (left (seeding child from into) into)
 seed-reached child from into r lent accepted =
-    filled (seedIn (child .bytes) from into) (seedChild (child .bytes) (decode from) emptyGraph) into lent
-    (seed-whole (child .bytes) from into (r .arena .opened) (lent .whole)) accepted
+    filled (seeding child from into) (seedChild (child .bytes) (decode from) emptyGraph) into lent
+    (seed-whole child from into (r .arena .opened) (lent .whole)) accepted
     (λ z. let leaves = seeding-leaves (child .bytes) (child .each) (decode from) emptyGraph (arena-encodable from (r .arena)) z in
     (leaves .0, grown-seeded (child .bytes) (decode from) emptyGraph (r .grown) z, leaves .1 (r .final)))
 

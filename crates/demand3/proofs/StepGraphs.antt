@@ -18,12 +18,12 @@ use Rattle.adding.specs.Adding.{depthOption, descOf}
 use Rattle.adding.specs.declared.NodeDesc.{NodeDesc}
 use Rattle.adding.specs.declared.Depth.{Depth}
 use Rattle.adding.specs.declared.Depth.the-variants.{Given, Missing}
-use Rattle.demand3.specs.Later.{eraseIn}
+use Rattle.erasing.specs.Erasures.{eraseIn}
+use Rattle.keeping.proofs.AddingKeeps.{DepthFits}
+use Rattle.keeping.proofs.ReadingKeeps.{reading-encodable}
+use Rattle.keeping.proofs.KeepEncodable.{CallFits, Arena, ArenaOf, encoded-arena, call-arena}
 use Rattle.demand3.specs.Demand3 as bytes
 use Rattle.demand3.specs.Demand3.{Slice, DescFits, Write, starting, adding, ordering, culling, erasing, deepening, reading, step, steps}
-use Rattle.demand3.proofs.AddingKeeps.{DepthFits}
-use Rattle.demand3.proofs.ReadingKeeps.{reading-encodable}
-use Rattle.demand3.proofs.KeepEncodable.{CallFits, Arena, ArenaOf, encoded-arena, call-arena}
 
 abbrev pub callOf : Write → Call
 callOf (starting stack layer path) = calls.starting (stack .number) (layer .number) (path .bytes)

@@ -1,5 +1,5 @@
 -- Demand 3 (document 00), of the bytes of an arena: the calls that write a graph, what a list of them leaves, where it may begin, and the claim, its
--- words beside each clause. Each call is the one function that its contract cites (proofs/Steps.antt); what an arena holds is `decode`. The theorem is
+-- words beside each clause. Each call is the one function that its contract cites (crates/demand3_steps); what an arena holds is `decode`. The theorem is
 -- `demand3` in proofs/Demand3Proof.antt.
 use mathlib.Core.Path.{_≡_}
 use mathlib.Core.Bool.{Bool, true, false}
@@ -22,7 +22,8 @@ use Rattle.adding.specs.Adding.{descOf}
 use Rattle.adding.specs.declared.NodeDesc.{NodeDesc}
 use Rattle.adding.specs.declared.Depth.{Depth}
 use Rattle.adding.specs.declared.Depth.the-variants.{Given, Missing}
-use Rattle.demand3.specs.Later.{eraseIn, seedIn}
+use Rattle.erasing.specs.Erasures.{eraseIn}
+use Rattle.child_names.specs.ChildNames.{seedFrom}
 
 -- ---- What a call is given: numbers that fit their types, and lent bytes of any length
 
@@ -86,6 +87,10 @@ steps (c ∷ cs) bs = steps cs (step c bs)
 
 -- ---- "From an empty room or one just filled by reading or seeding"
 
+-- what seeding comes to, from one arena into a second
+abbrev pub seeding : Slice → List ℕ → List ℕ → Outcome
+seeding child from into = intoArena (seedFrom (child .bytes) from) into
+
 -- bytes of an arena's length, of any content
 pub record Lent (bs : List ℕ) : Type 0 where
   pub bytes : All (λ b. b < 256) bs
@@ -98,7 +103,7 @@ pub data Start : List ℕ → Type 0 where
       → bs ≡ step (reading snapshot) into → Start bs
   -- "Seeding fills from a graph that such a list left"
   seeded : {bs : List ℕ} (from : List ℕ) (cs : List Write) (child : Slice) (into : List ℕ) → Start from → Lent into
-      → seedIn (child .bytes) (steps cs from) into .refused ≡ 0 → bs ≡ left (seedIn (child .bytes) (steps cs from) into) into → Start bs
+      → seeding child (steps cs from) into .refused ≡ 0 → bs ≡ left (seeding child (steps cs from) into) into → Start bs
 
 -- ---- "If the graph is ordered, its list has each node once, and of any two the earlier is the stronger."
 

@@ -1,4 +1,2 @@
--- Demand 3, and what it cites of calls that stand in no crate yet.
-pub mod Later
+-- Demand 3.
 pub mod Demand3
-pub mod Steps

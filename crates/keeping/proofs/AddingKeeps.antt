@@ -24,7 +24,7 @@ use Rattle.model.proofs.LegalGraphs.{Legal}
 use Rattle.model.proofs.LegalAdded.{starting-keeps-legal, adding-keeps-legal}
 use Rattle.arena.proofs.Encodable.{unordered, Encodable, legal-encodable}
 use Rattle.append.proofs.AppendEncodable.{NumbersFit}
-use Rattle.demand3.proofs.FitLaws.{fit-numbers, legal-fits, Keeps, decided-encodable}
+use Rattle.keeping.proofs.FitLaws.{fit-numbers, legal-fits, Keeps, decided-encodable}
 
 -- ---- Prim counts
 

@@ -21,7 +21,7 @@ use Rattle.model.proofs.LegalErased.{erasing-keeps-legal}
 use Rattle.model.proofs.AcceptedQuestions.{Accepted}
 use Rattle.arena.proofs.Encodable.{unordered, EachOnce, Encodable}
 use Rattle.append.proofs.AppendEncodable.{NumbersFit}
-use Rattle.demand3.proofs.FitLaws.{fit-numbers, legal-fits, Keeps, decided-encodable}
+use Rattle.keeping.proofs.FitLaws.{fit-numbers, legal-fits, Keeps, decided-encodable}
 
 -- what is kept of an order that has each of n nodes once, renumbered, has each number below how many are kept once
 pub erased-once : (kept : ℕ → Bool) (n : ℕ) (order : List ℕ) → EachOnce n order → EachOnce (newNumber kept n) (map (newNumber kept) (filter kept order))

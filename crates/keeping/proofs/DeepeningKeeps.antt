@@ -19,7 +19,7 @@ use Rattle.model.proofs.LegalGraphs.{Legal}
 use Rattle.model.proofs.LegalAlike.{deepening-keeps-legal}
 use Rattle.arena.proofs.Encodable.{unordered, EachOnce, Encodable}
 use Rattle.append.proofs.AppendEncodable.{NumbersFit}
-use Rattle.demand3.proofs.FitLaws.{fit-numbers, legal-fits, FinalUnlessShallow, Keeps, decided-encodable, decided-leaves}
+use Rattle.keeping.proofs.FitLaws.{fit-numbers, legal-fits, FinalUnlessShallow, Keeps, decided-encodable, decided-leaves}
 
 -- ---- Paths
 

@@ -15,7 +15,7 @@ use Rattle.model.proofs.LegalGraphs.{Legal}
 use Rattle.model.proofs.LegalAlike.{culling-keeps-legal}
 use Rattle.arena.proofs.Encodable.{unordered, EachOnce, Encodable}
 use Rattle.append.proofs.AppendEncodable.{NumbersFit}
-use Rattle.demand3.proofs.FitLaws.{Numbers, fit-numbers, legal-fits, Keeps, decided-encodable}
+use Rattle.keeping.proofs.FitLaws.{Numbers, fit-numbers, legal-fits, Keeps, decided-encodable}
 
 -- ---- The numbers
 

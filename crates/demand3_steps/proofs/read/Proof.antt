@@ -1,14 +1,13 @@
 -- `read` makes the call `reading`, by `read_snapshot`'s contract. Assumes nothing.
-use borrow.Author.Needs.{needs}
-use Rattle.demand3.proofs.Steps.{read-snapshot-reads}
-use Rattle.demand3.proofs.read.Statement.{statement}
-use Rattle.demand3.proofs.read.Tie as tie
+use Rattle.demand3_steps.proofs.Steps.{read-snapshot-reads}
+use Rattle.demand3_steps.proofs.read.Statement.{statement}
+use Rattle.demand3_steps.proofs.read.Tie as tie
 
 read-snapshot-requires : tie.Need-read-snapshot-requires
-read-snapshot-requires c κs = search needs
+read-snapshot-requires c κs = tt
 
 same-length : tie.Need-same-length
-same-length c = search needs
+same-length c = c .before .before .read-snapshot .kept .0
 
 returns : tie.Need-returns
 returns c = read-snapshot-reads _ _ _ _ (c .before .before .read-snapshot .ensures)

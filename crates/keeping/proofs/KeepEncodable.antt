@@ -19,14 +19,14 @@ use Rattle.arena.proofs.ArenaLaws.{decode-encode}
 use Rattle.arena.proofs.ArenaHolds.{holds-encoded}
 use Rattle.arena.proofs.HeldEncodable.{held-encodable}
 use Rattle.append.proofs.AppendEncodable.{NumbersFit}
-use Rattle.demand3.proofs.ArenaBytes.{bytes-encode}
-use Rattle.demand3.proofs.FitLaws.{Keeps}
-use Rattle.demand3.proofs.AddingKeeps.{DepthFits, starting-keeps, adding-keeps}
-use Rattle.demand3.proofs.OrderingKeeps.{ordering-keeps}
-use Rattle.demand3.proofs.CullingKeeps.{culling-keeps}
-use Rattle.demand3.proofs.ErasingKeeps.{erasing-keeps}
-use Rattle.demand3.proofs.DeepeningKeeps.{deepening-keeps}
-use Rattle.demand3.proofs.ReadingKeeps.{reading-keeps}
+use Rattle.keeping.proofs.ArenaBytes.{bytes-encode}
+use Rattle.keeping.proofs.FitLaws.{Keeps}
+use Rattle.keeping.proofs.AddingKeeps.{DepthFits, starting-keeps, adding-keeps}
+use Rattle.keeping.proofs.OrderingKeeps.{ordering-keeps}
+use Rattle.keeping.proofs.CullingKeeps.{culling-keeps}
+use Rattle.keeping.proofs.ErasingKeeps.{erasing-keeps}
+use Rattle.keeping.proofs.DeepeningKeeps.{deepening-keeps}
+use Rattle.keeping.proofs.ReadingKeeps.{reading-keeps}
 
 -- ---- The numbers that a call is given
 

@@ -13,7 +13,7 @@ use Rattle.model.proofs.LegalGraphs.{Legal}
 use Rattle.model.proofs.LegalAlike.{ordered-legal}
 use Rattle.model.proofs.AcceptedQuestions.{none-refused-accepted}
 use Rattle.arena.proofs.Encodable.{unordered, Encodable, legal-encodable}
-use Rattle.demand3.proofs.FitLaws.{FinalUnlessShallow, Keeps, decided-keeps}
+use Rattle.keeping.proofs.FitLaws.{FinalUnlessShallow, Keeps, decided-keeps}
 
 module _ (g : Graph) (ok : Encodable g) (some-node : 0 < size g) where
   -- ordering does not look at the order there was

@@ -1,14 +1,13 @@
 -- `start` makes the call `starting`, by `init_root`'s contract. Assumes nothing.
-use borrow.Author.Needs.{needs}
-use Rattle.demand3.proofs.Steps.{init-root-starts}
-use Rattle.demand3.proofs.start.Statement.{statement}
-use Rattle.demand3.proofs.start.Tie as tie
+use Rattle.demand3_steps.proofs.Steps.{init-root-starts}
+use Rattle.demand3_steps.proofs.start.Statement.{statement}
+use Rattle.demand3_steps.proofs.start.Tie as tie
 
 init-root-requires : tie.Need-init-root-requires
-init-root-requires c κs = search needs
+init-root-requires c κs = tt
 
 same-length : tie.Need-same-length
-same-length c = search needs
+same-length c = c .before .before .init-root .kept .0
 
 returns : tie.Need-returns
 returns c = init-root-starts _ _ _ _ _ _ (c .before .before .init-root .ensures)

@@ -10,7 +10,7 @@ use Rattle.model.proofs.BigEndianLaws.{Bytes}
 use Rattle.model.proofs.SnapshotLaws.{read-nodes-fit}
 use Rattle.model.proofs.SnapshotReadLaws.{accepted-read, refused-read-keeps, accepted-read-fresh}
 use Rattle.arena.proofs.Encodable.{Encodable}
-use Rattle.demand3.proofs.FitLaws.{FinalUnlessShallow, Keeps}
+use Rattle.keeping.proofs.FitLaws.{FinalUnlessShallow, Keeps}
 use Rattle.snapshot.proofs.ReadBack.{built-encodable}
 
 module _ (bytes : List ℕ) (fit : Bytes bytes) (old : Graph) where

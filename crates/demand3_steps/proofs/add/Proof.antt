@@ -1,14 +1,13 @@
 -- `add` makes the call `adding`, by `add_child`'s contract. Assumes nothing.
-use borrow.Author.Needs.{needs}
-use Rattle.demand3.proofs.Steps.{add-child-adds}
-use Rattle.demand3.proofs.add.Statement.{statement}
-use Rattle.demand3.proofs.add.Tie as tie
+use Rattle.demand3_steps.proofs.Steps.{add-child-adds}
+use Rattle.demand3_steps.proofs.add.Statement.{statement}
+use Rattle.demand3_steps.proofs.add.Tie as tie
 
 add-child-requires : tie.Need-add-child-requires
-add-child-requires c κs = search needs
+add-child-requires c κs = tt
 
 same-length : tie.Need-same-length
-same-length c = search needs
+same-length c = c .before .before .add-child .kept .0
 
 returns : tie.Need-returns
 returns c = add-child-adds _ _ _ _ _ (c .before .before .add-child .ensures)

@@ -1,0 +1,2 @@
+-- What ties crates/demand3 to the code.
+pub mod Steps
