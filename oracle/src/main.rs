@@ -41,6 +41,7 @@ usage: oracle answer                                 answer the lines on standar
        oracle script sequences-by-number SEED COUNT  print the same where node numbers decide
        oracle script culls SEED COUNT                print lines that cull COUNT small graphs and erase from them
        oracle script culls-large SEED COUNT          print the same on COUNT larger graphs and some of 1,024 nodes
+       oracle script lists SEED COUNT                print COUNT lists of calls that write, the graph shown after each
        oracle deciding SEED COUNT                    print how many pairs of `script strength` each line settles
        oracle time-adding COUNT                      print the nanoseconds that the Rust takes to add COUNT nodes
        oracle time-comparing SHAPE COUNT             print those for comparing its siblings and 10,000 pairs
@@ -67,6 +68,7 @@ fn main() -> ExitCode {
         ["script", "sequences-by-number", seed, count] => print_script(scripts::sequences_by_number, seed, count),
         ["script", "culls", seed, count] => print_script(scripts::culls, seed, count),
         ["script", "culls-large", seed, count] => print_script(scripts::culls_large, seed, count),
+        ["script", "lists", seed, count] => print_script(scripts::lists, seed, count),
         ["deciding", seed, count] => print_script(deciding::print, seed, count),
         ["time-adding", count] => {
             count.parse().ok().map(|count| print(|out| writeln!(out, "{}", timing::adding(count))))

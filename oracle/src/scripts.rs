@@ -2,7 +2,9 @@
 
 mod arenas;
 mod culls;
+mod erase_sets;
 mod graphs;
+mod lists;
 mod orders;
 mod paths;
 mod snapshots;
@@ -11,6 +13,7 @@ mod strength;
 pub use arenas::arenas;
 pub use culls::{culls, culls_large};
 pub use graphs::graphs;
+pub use lists::lists;
 pub use orders::{orders, orders_large, sequences, sequences_by_number};
 pub use paths::paths;
 pub use snapshots::snapshots;

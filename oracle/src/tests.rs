@@ -1,11 +1,13 @@
 //! The examples of document 01, the edges of the language, inputs that mean nothing, the plain reader of snapshots, the
-//! plain comparison, ordering, culling and erasing.
+//! plain comparison, ordering, culling and erasing; the scripts.
 
 mod culls;
+mod deepening;
 mod departures;
 mod erasing;
 mod examples;
 mod lines;
+mod lists;
 mod orders;
 mod paths;
 mod robustness;

@@ -9,9 +9,9 @@ use plain::random::Random;
 use plain::samples::culls::{full, small};
 use plain::samples::graphs::Node;
 
+use super::erase_sets::another_set;
 use super::orders::{add_all, read};
 use crate::calls::{Answer, Calls};
-use crate::pcp::prim_graph::{ArcType, NodeId};
 
 /// What may change but the records.
 const LISTS: [&str; 3] = ["chains", "marks", "list"];
@@ -95,7 +95,8 @@ impl Script<'_> {
         self.say_all(&["cull", self.records])?;
         let mut erasable = self.say("erasable")?.unwrap_or_default();
         if self.random.one_in(3) {
-            let set = self.another_set(erasable.as_bytes());
+            let graph = self.calls.current().graph();
+            let set = another_set(&mut self.random, graph, erasable.as_bytes());
             self.erase(&set)?;
             erasable = self.say("erasable")?.unwrap_or_default();
         }
@@ -129,42 +130,5 @@ impl Script<'_> {
     fn add_one(&mut self) -> io::Result<()> {
         let parent = self.random.below(self.calls.current().graph().len());
         self.say_all(&[&format!("add {parent} 4 0 0 0 - 0 0 0 0 1 /A"), "chains", "list"])
-    }
-
-    /// Any set, one that spares what it must but for a Root arc, or the erasable set with a digit changed or added.
-    fn another_set(&mut self, erasable: &[u8]) -> Vec<u8> {
-        let mut set = erasable.to_vec();
-        let at = self.random.below(set.len());
-        match self.random.below(8) {
-            0 => set.iter_mut().for_each(|digit| *digit = self.random.pick(b"0001")),
-            1 => set[at] = self.random.pick(b"29"),
-            2 => set.extend(self.random.pick(&[&b"1"[..], b"2", b"0019"])),
-            3 => set.truncate(at.max(1)),
-            4 => set[self.root()] = b'1',
-            5 => set[at] ^= 1,
-            _ => set = self.closed_set(at),
-        }
-        set.truncate(MAX_NODES);
-        set
-    }
-
-    /// Node 0 or the local root.
-    fn root(&mut self) -> usize {
-        let local_root = self.calls.current().graph().local_root().valid();
-        let roots = [0, local_root.map_or(0, |root| root.idx())];
-        self.random.pick(&roots)
-    }
-
-    /// The node and all that reach it by parent and origin steps. A Root arc is left out, and what reaches it only by
-    /// that.
-    fn closed_set(&self, node: usize) -> Vec<u8> {
-        let mut set = Vec::new();
-        for other in self.calls.current().graph().nodes() {
-            let goes = |link: Option<NodeId>| link.is_some_and(|link| set[link.idx()] == b'1');
-            let reaches = other.id().idx() == node || goes(other.parent()) || goes(other.origin());
-            let digit = if reaches && other.arc() != ArcType::Root { b'1' } else { b'0' };
-            set.push(digit);
-        }
-        set
     }
 }

@@ -61,7 +61,7 @@ impl Script<'_> {
     }
 
     /// Writes a line and hands back the text of its answer, if it was accepted.
-    fn ask(&mut self, line: &str) -> io::Result<Option<String>> {
+    pub fn ask(&mut self, line: &str) -> io::Result<Option<String>> {
         Ok(match self.say(line)? {
             Answer::Accepted(text) => Some(text),
             _ => None,
@@ -152,8 +152,16 @@ impl Script<'_> {
         self.say_all(&["marks", "list", "chains", "dump"])
     }
 
-    /// Deepens or seeds, mostly by a child of some node's path.
+    /// Deepens or seeds.
     fn deepen(&mut self) -> io::Result<()> {
+        let child = self.child();
+        let word = self.random.pick(&["deepen", "deepen", "seed"]);
+        self.say(&format!("{word} {child}"))?;
+        self.say_all(&["marks", "list", "dump"])
+    }
+
+    /// A path to deepen by: mostly a child of some node's path, seldom one that ends in no name or in a long one.
+    pub fn child(&mut self) -> String {
         let mut child = self.path();
         if !self.random.one_in(8) {
             child = child_of(&child, self.random.pick(&["k", "Child", "_0"]));
@@ -164,18 +172,23 @@ impl Script<'_> {
         if self.random.one_in(25) {
             child = format!("/{}", "n".repeat(self.random.between(240, 255)));
         }
-        let word = self.random.pick(&["deepen", "deepen", "seed"]);
-        self.say(&format!("{word} {child}"))?;
-        self.say_all(&["marks", "list", "dump"])
+        child
     }
 
     fn snapshot(&mut self) -> io::Result<()> {
         if self.random.one_in(60) { self.crowded_snapshot() } else { self.read_back() }
     }
 
-    /// Writes a snapshot and reads it back: as it is, with one record changed, or with one byte changed.
+    /// Writes a snapshot and reads it back, whole or damaged.
     pub fn read_back(&mut self) -> io::Result<()> {
         self.say("write")?;
+        let bytes = self.copy();
+        self.say(&format!("read {}", hex(&bytes)))?;
+        self.say_all(&["marks", "dump", "chains"])
+    }
+
+    /// The current graph's snapshot: as it is, with one record changed, or with one byte changed.
+    pub fn copy(&mut self) -> Vec<u8> {
         let mut records = self.calls.current().records();
         if self.random.one_in(2) {
             damage::change_record(self.random, &mut records);
@@ -184,8 +197,7 @@ impl Script<'_> {
         if self.random.one_in(3) {
             damage::change_bytes(self.random, &mut bytes);
         }
-        self.say(&format!("read {}", hex(&bytes)))?;
-        self.say_all(&["marks", "dump", "chains"])
+        bytes
     }
 
     /// Reads a snapshot filled up to a limit or just past it, then again the one that it was made from.

@@ -83,7 +83,7 @@ fn script(print: Script, seed: u64, count: usize) -> Vec<u8> {
 
 #[test]
 fn repeatable_scripts() {
-    let scripts: [(Script, usize); 8] = [
+    let scripts: [(Script, usize); 9] = [
         (scripts::graphs, 60),
         (scripts::arenas, 300),
         (scripts::snapshots, 300),
@@ -92,6 +92,7 @@ fn repeatable_scripts() {
         (scripts::relations, 300),
         (scripts::culls, 300),
         (scripts::culls_large, 5),
+        (scripts::lists, 200),
     ];
     for (print, count) in scripts {
         let printed = script(print, 5, count);

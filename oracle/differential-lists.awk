@@ -1,0 +1,175 @@
+# What demand 3 says of every list of calls, held to the answers in the file `answers` to the lines of `oracle script lists`: after each call the current
+# arena is shown, by `chains` last, and `check` holds what is shown to what was shown before. `seen` has the last answers of each arena, `now` those after the
+# call. Prints numbers and what they count; or the first line whose answer breaks a claim, with status 1.
+
+BEGIN { begin() }
+
+# digits are text here, not numbers
+{ if ((getline answer <answers) < 1) fail("no answer"); answer = answer "" }
+
+$1 == "" { if (lists++ && (calls < 5 || calls > 30)) fail("the list before has " calls " calls"); calls = 0; next }
+$1 == "write" { written = answer; next }
+$1 == "erasable" { erasable = answer; if (erasable != largest()) fail(erasable " is erasable"); next }
+$1 == "marks" || $1 == "list" || $1 == "compares" || $1 == "dump" { now[$1] = answer; next }
+$1 == "chains" { now[$1] = answer; check(); next }
+{
+    call = $1; set = hexadecimal = $2 ""; result = answer
+    refused = answer == "bad line" || answer ~ /^refused/
+    if (call != "swap" && call != "new") count()
+}
+
+END {
+    if (failed) exit 1
+    found["lists"] = lists
+    for (what in found) print found[what], what
+}
+
+function fail(text) { print "line " NR ": " text; failed = 1; exit }
+
+# both arenas are empty
+function begin(    r) {
+    arena = 0
+    for (r = 0; r < 2; r++) {
+        seen[r, "marks"] = "0 0 0"
+        seen[r, "list"] = seen[r, "compares"] = "refused 3"
+        seen[r, "dump"] = seen[r, "chains"] = ""
+        erased[r] = 0
+    }
+}
+
+function count() {
+    calls++
+    found[call] += !refused
+    if (answer !~ /^refused/) return
+    found["refused-" substr(answer, 9)]++
+    found[call "-refused"]++
+    found[call "-refused-7"] += answer == "refused 7"
+}
+
+function check(    from, word) {
+    from = arena
+    if (call == "new") begin()
+    if (!refused && (call == "swap" || call == "seed")) arena = !arena
+    if (refused || call == "swap" || call == "new") same(arena, "marks list compares dump chains", call " is refused or writes nothing")
+    else if (call == "erase") erasing()
+    else if (call == "order") ordering()
+    else if (call == "deepen" || call == "seed") deepening(from)
+    if (fresh && call == "order" && refused) fail("what was ordered has no order afresh")
+    if (!refused && call == "seed") seeding(from)
+    if (!refused && (call == "read" || call == "seed")) erased[arena] = 0
+    listed()
+    fresh = !refused && call == "read" && hexadecimal == written && seen[arena, "marks"] ~ /^1/
+    old_list = seen[arena, "list"]; old_chains = seen[arena, "chains"]
+    for (word in now) seen[arena, word] = now[word]
+}
+
+# these words are answered as they were in that arena
+function same(r, words, why,    n, word) {
+    for (n = split(words, word, " "); n > 0; n--) if (now[word[n]] != seen[r, word[n]]) fail(word[n] " has changed: " why)
+}
+
+# "its list has each node once, and of any two the earlier is the stronger"
+function listed(    n, node, row, i, j) {
+    if (now["marks"] ~ /^0/) {
+        if (now["list"] != "refused " (now["dump"] == "" ? 3 : 10)) fail("a list of a graph that is not ordered")
+        return
+    }
+    n = split(now["list"], node, " ")
+    if (n != split(now["compares"], row, " ")) fail("a list of " n " nodes")
+    for (i = 1; i <= n; i++) for (j = i; j <= n; j++) {
+        if (substr(row[node[i] + 1], node[j] + 1, 1) != (i == j ? "E" : "L")) fail("the list has " node[i] " before " node[j])
+    }
+    found["ordered"]++
+}
+
+# "every node that went was marked, none was parent or origin of a kept one, and every set of marked nodes that no node outside it had as parent or origin
+# lies within what went": that set of the current graph
+function largest(    n, at, record, field, path, marked, stays, parent, origin, bits) {
+    n = split(seen[arena, "dump"], record, ";")
+    for (at = 0; at < n; at++) {
+        split(record[at + 1], field, ",")
+        parent[at] = field[5]; origin[at] = field[6]; path[at] = field[12]
+        marked[at] = at && int(field[2] / 2) % 2 && !field[11] && prims(path[field[5]]) > field[7]
+    }
+    for (at = n - 1; at >= 0; at--) {
+        if (!marked[at]) stays[at] = 1
+        if (stays[at]) stays[parent[at]] = stays[origin[at]] = 1
+        bits = (stays[at] ? "0" : "1") bits
+    }
+    return n ? bits : "refused 3"
+}
+function prims(path) {
+    gsub(/[{][^}]*[}]/, "/", path)
+    return gsub(/[A-Za-z0-9_]+/, "", path)
+}
+
+function erasing(    went) {
+    went = kept()
+    if (went) erased[arena] = 1
+    if (set != erasable) { found["other-sets"] += went > 0; return }
+    found["erasable-sets"] += went > 0
+    found["erasable-sets-ordered"] += went > 0 && now["marks"] ~ /^1/
+}
+
+# "the rest stand as before, any two of them compare as before, and, where the graph was ordered, its list is the old one without what went", which holds of
+# every set that is accepted; answers how many went
+function kept(    n, at, other, record, field, chain, row, left, dump, chains, compares, cells) {
+    n = split(seen[arena, "dump"], record, ";")
+    left = 0
+    for (at = 0; at < n; at++) { goes[at] = substr(set, at + 1, 1) == "1"; number[at] = left; left += !goes[at] }
+    number["-"] = "-"; goes["-"] = 0
+    if (result != left "") fail(result " nodes are said to be kept")
+    split(seen[arena, "chains"], chain, ";"); split(seen[arena, "compares"], row, " ")
+    for (at = 0; at < n; at++) if (!goes[at]) {
+        split(record[at + 1], field, ",")
+        if (goes[field[5]] || goes[field[6]]) fail("the parent or origin of a kept node went")
+        field[5] = number[field[5]]; field[6] = number[field[6]]
+        dump = dump (at ? ";" : "") field[1]
+        for (other = 2; other <= 12; other++) dump = dump "," field[other]
+        chains = chains (at ? ";" : "") renumbered(chain[at + 1], ",")
+        cells = ""
+        for (other = 0; other < n; other++) if (!goes[other]) cells = cells substr(row[at + 1], other + 1, 1)
+        compares = compares (at ? " " : "") cells
+    }
+    if (now["dump"] != dump) fail("a kept node has changed")
+    if (now["chains"] != chains) fail("the chains have lost more than what went")
+    if (now["compares"] != compares) fail("two kept nodes do not compare as before")
+    if (now["marks"] != seen[arena, "marks"]) fail("erasing has changed the marks")
+    if (now["marks"] ~ /^1/ && now["list"] != renumbered(seen[arena, "list"], " ")) fail("the list is not the old one without what went")
+    return n - left
+}
+
+# the nodes in `text` that stay, by their new numbers
+function renumbered(text, between,    n, i, old, left, joint) {
+    n = split(text, old, between)
+    for (i = 1; i <= n; i++) if (!goes[old[i]]) { left = left joint number[old[i]]; joint = between }
+    return left
+}
+
+# "ordering afresh changes nothing", neither in the ordered graph itself nor, once it is read back, in a finalized one
+function ordering() {
+    if (seen[arena, "marks"] ~ /^1/) { same(arena, "marks list compares dump chains", "ordered again"); found["ordered-again"]++ }
+    if (fresh) {
+        if (now["list"] != old_list || now["chains"] != old_chains) fail("ordered afresh, the list is another")
+        found["ordered-afresh"]++
+    }
+}
+
+# "If instead the graph is finalized and is deepened by a child name, every pair compares as before"; another loses its order
+function deepening(from) {
+    if (seen[from, "marks"] == "1 1 0") {
+        same(from, "marks list compares chains", "a finalized graph is deepened")
+        found["finalized-" call]++
+        return
+    }
+    same(from, "chains", "deepened")
+    if (now["marks"] != "0 0 " substr(seen[from, "marks"], 5)) fail("a graph that is not finalized stays ordered")
+    found["ordered-shallow-" call] += seen[from, "marks"] == "1 0 1"
+}
+
+# the arena that is filled may have held anything
+function seeding(from) {
+    found["seeded-over-a-graph"] += seen[arena, "dump"] != ""
+    found["seeded-over-what-was-erased-from"] += erased[arena]
+    found["seeded-from-what-was-erased-from"] += erased[from]
+}
