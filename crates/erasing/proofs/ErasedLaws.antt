@@ -1,7 +1,7 @@
 -- The laws of erasable sets and erased graphs, restated for the calls. Where `erasable` is done, `erase` accepts the set that it wrote (`written-accepted`),
 -- the largest set of marked nodes that no node outside it has as parent or origin (`written-largest`). Where `erase` answers a number, it is the count of
 -- the graph whose bytes the arena then has, and what is kept stands in it as before (`left-bytes`, `left-count`, `left-stands`); that graph is the one
--- that the arena holds, where it is encodable (`erased-opened`, `erased-count`, `erased-stands`). Each law asks that the arena has bytes only, as every
+-- that the arena holds, and question 2 passes (`erased-opened`, `erased-count`, `erased-stands`). Each law asks that the arena has bytes only, as every
 -- lent buffer has. Assumes nothing.
 use mathlib.Core.Path.{_≡_, refl, sym, ap, _∙_, subst}
 use mathlib.Core.Bool.{Bool, true, false, not, and-eq-true-iff}
@@ -19,7 +19,7 @@ use Rattle.model.specs.Culling.{isErasable}
 use Rattle.model.specs.Erasing.{stays, erasable, canErase, newNumber, renumbered, erase}
 use Rattle.model.specs.Refusals.{Question, refusal}
 use Rattle.model.specs.Answers.{numberedRefusal}
-use Rattle.model.specs.Calls.{Outcome, settled, decided, eraseSet}
+use Rattle.model.specs.Calls.{Outcome, settled, decided, eraseSet, erasing}
 use Rattle.model.specs.Arena.{arenaBytes, countIn, decode, encode, holdsGraph}
 use Rattle.model.specs.ArenaCalls.{isArena, Opened, Wrote}
 use Rattle.model.specs.declared.Finished.the-variants.{Done}
@@ -36,11 +36,9 @@ use Rattle.model.proofs.EraseSets.{can-erase-iff, erasable-length, erasable-sta
 use Rattle.model.proofs.EraseLaws.{size-erased, node-erased, children-erased, order-erased, marks-erased, erase-looks-like}
 use Rattle.model.proofs.StrengthCongruence.{siblings-alike, nodes-alike}
 use Rattle.arena.proofs.Encodable.{unordered, Encodable}
-use Rattle.arena.proofs.ArenaParts.{length-encode}
-use Rattle.arena.proofs.ArenaLaws.{decode-encode}
-use Rattle.arena.proofs.ArenaHolds.{holds-encoded}
 use Rattle.arena.proofs.HeldEncodable.{held-encodable}
 use Rattle.arena.proofs.ReadNodes.{sizes}
+use Rattle.keeping.proofs.KeepEncodable.{call-keeps-encodable, ArenaOf, encoded-arena}
 use Rattle.erasing.specs.Erasures.{isSet, setQuestions, ErasableWritten, Erased}
 use Rattle.erasing.proofs.EraseCallLaws.{asks-own, eraseQuestions, eraseAll, keptCount, erase-asks}
 
@@ -187,7 +185,7 @@ module _ (set bs after : List ℕ) (n : ℕ) (bytes : Bytes bs) (erased : Erased
       alike : LooksLike (size (decode bs)) (stays set) (newNumber (stays set)) (view (decode bs .nodes)) (view (graphLeft .nodes))
       alike = erase-looks-like (stays set) (decode bs) spares (before-legal .links)
 
-  -- of the arena, where what the call leaves is encodable
+  -- of the arena, which holds what the call leaves, since that is encodable
 
   graph-left : eraseSet set (decode bs) .graph ≡ graphLeft
   unfolding eraseSet
@@ -196,21 +194,19 @@ module _ (set bs after : List ℕ) (n : ℕ) (bytes : Bytes bs) (erased : Erased
       let accepted : canErase (decode bs) set ≡ true = asked 11 in
       rw (some-node, accepted)
 
-  module _ (ok : Encodable (eraseSet set (decode bs) .graph)) where
-    left-encodable : Encodable graphLeft
-    left-encodable = subst Encodable graph-left ok
+  left-encodable : Encodable graphLeft
+  left-encodable =
+      subst Encodable graph-left
+      (call-keeps-encodable (erasing set) (decode bs) tt (held-encodable bs bytes (arena-before .whole) (arena-before .holds)))
 
-    pub erased-opened : Opened after
-    erased-opened = rw left-bytes (record {
-      whole = length-encode graphLeft bs left-encodable (arena-before .whole) ∙ arena-before .whole;
-      holds = holds-encoded graphLeft bs left-encodable (arena-before .whole);
-    })
+  arena-after : ArenaOf graphLeft after
+  arena-after = rw left-bytes (encoded-arena graphLeft bs left-encodable bytes (arena-before .whole))
 
-    erased-graph : decode after ≡ graphLeft
-    erased-graph = ap decode left-bytes ∙ decode-encode graphLeft bs left-encodable (arena-before .whole)
+  pub erased-opened : Opened after
+  erased-opened = arena-after .arena .opened
 
-    pub erased-count : n ≡ countIn after
-    erased-count = left-count ∙ ap size (sym erased-graph) ∙ sizes after erased-opened
+  pub erased-count : n ≡ countIn after
+  erased-count = left-count ∙ ap size (sym (arena-after .graph)) ∙ sizes after erased-opened
 
-    pub erased-stands : Stands set (decode bs) (decode after)
-    erased-stands = rw erased-graph left-stands
+  pub erased-stands : Stands set (decode bs) (decode after)
+  erased-stands = rw (arena-after .graph) left-stands
