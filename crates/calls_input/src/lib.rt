@@ -1,0 +1,148 @@
+// Answers the calls that standard input names, one a line, with a line for each on standard output: all of the commands `calls` and `differential`. This
+// crate parts the input into lines; `calls_lines` answers them. Nothing is proved of what is printed, only that every function is safe and ends: none has
+// a `requires`, and each does nothing with a number that does not fit the buffer beside it.
+use calls_lines::State;
+use libc::STDIN_FILENO;
+ghost use Prim.Native.Nat.{_≤_};
+
+// What is left where a block ends: how many bytes there are of the line that goes on in the next one, and whether the arenas are swapped.
+struct Rest {
+    held: usize,
+    swapped: bool,
+}
+
+// The longest line that is answered has so many bytes.
+const LONGEST: usize = 131072;
+
+// Puts `more` after the first `held` bytes of `line`, and answers how many it then holds. For a line without end that is one more than there is
+// room for, whatever follows.
+fn append(line: &mut [u8], held: usize, more: &[u8]) -> usize {
+    if line.len() < held {
+        return held;
+    }
+    if line.len() - held < more.len() {
+        return line.len() + 1;
+    }
+    bytes::copy(more, &mut line[held..]);
+    held + more.len()
+}
+
+// Puts the answer to the first `held` bytes of `line`, with a newline.
+fn answer_line(
+    line: &[u8],
+    held: usize,
+    first: &mut [u8],
+    second: &mut [u8],
+    swapped: bool,
+    out: &mut [u8],
+    used: usize,
+) -> State {
+    if LONGEST < held {
+        let end = calls_text::bad_line(out, used);
+        return State {
+            used: calls_text::put(out, end, b"\n"),
+            swapped,
+        };
+    }
+    let answer = calls_lines::answer(
+        calls_text::front(line, held),
+        first,
+        second,
+        swapped,
+        out,
+        used,
+    );
+    State {
+        used: calls_text::put(out, answer.used, b"\n"),
+        swapped: answer.swapped,
+    }
+}
+
+// Answers each line that ends in `block`, the first of them begun by `held` bytes in `line`, and writes the answers.
+fn answer_block(
+    block: &[u8],
+    line: &mut [u8],
+    rest: Rest,
+    first: &mut [u8],
+    second: &mut [u8],
+    out: &mut [u8],
+) -> Rest {
+    let mut begun = rest.held;
+    let mut swapped = rest.swapped;
+    let mut used: usize = 0;
+    let mut at: usize = 0;
+    while at < block.len() {
+        let end = bytes::scan::find(block, at, block.len(), b'\n');
+        begun = append(line, begun, &block[at..end]);
+        at = end + 1;
+        if end < block.len() {
+            let answer = answer_line(line, begun, first, second, swapped, out, used);
+            used = answer.used;
+            swapped = answer.swapped;
+            begun = 0;
+        }
+    }
+    calls_text::flush(out, used);
+    Rest {
+        held: begun,
+        swapped,
+    }
+}
+
+// The turns that are left after a block of `count` bytes: none where the input has ended.
+fn turns_left(turns: u64, count: usize) -> u64
+    ensures { λ r. ⌜ r ≤ turns ⌝ }
+{
+    if count == 0 {
+        return 0;
+    }
+    turns
+}
+
+// Answers each line that ends in a newline, block by block, until the input ends or a read fails. A proved loop has to end, and nothing says
+// that the input does: so it counts its turns down, from a number that no run uses up.
+fn answer_blocks(
+    block: &mut [u8],
+    line: &mut [u8],
+    first: &mut [u8],
+    second: &mut [u8],
+    out: &mut [u8],
+) -> Rest {
+    let mut held: usize = 0;
+    let mut swapped = false;
+    let mut turns = u64::MAX;
+    while 0 < turns {
+        let count = io::count(libc::read(STDIN_FILENO, block), block);
+        let rest = answer_block(
+            &block[0..count],
+            line,
+            Rest { held, swapped },
+            first,
+            second,
+            out,
+        );
+        held = rest.held;
+        swapped = rest.swapped;
+        turns = turns_left(turns - 1, count);
+    }
+    Rest { held, swapped }
+}
+
+// Answers a last line without a newline, where `line` holds one, and writes the answer.
+fn answer_rest(line: &[u8], rest: Rest, first: &mut [u8], second: &mut [u8], out: &mut [u8]) {
+    if 0 < rest.held {
+        let answer = answer_line(line, rest.held, first, second, rest.swapped, out, 0);
+        calls_text::flush(out, answer.used);
+    }
+}
+
+// Answers all of standard input. The buffer for a line is as long as an arena, since every further length of a large array is dear to check.
+pub fn answer_input() {
+    let mut block = io::large_buffer();
+    let mut line = buffers::zeros();
+    let mut first = buffers::zeros();
+    let mut second = buffers::zeros();
+    let mut out = io::large_buffer();
+    let rest = answer_blocks(&mut block, &mut line, &mut first, &mut second, &mut out);
+    answer_rest(&line, rest, &mut first, &mut second, &mut out);
+}
