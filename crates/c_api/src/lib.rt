@@ -11,11 +11,10 @@ ghost use lib.ListN.{getD};
 ghost use Rattle.model.specs.Answers.{orderingNumber};
 ghost use Rattle.model.specs.Arena.{countIn, decode};
 ghost use Rattle.model.specs.ArenaCalls.{onArena, intoArena, askArena};
-ghost use Rattle.model.specs.Calls.{finalizeStrengthOrder, readInto, comparesNodes, comparesSiblings};
+ghost use Rattle.model.specs.Calls.{finalizeStrengthOrder, readInto, comparesNodes, comparesSiblings, readsEntry};
 ghost use Rattle.model.specs.Graph.{emptyGraph};
 ghost use Rattle.model.specs.Refusals.{refusalNumber};
 ghost use Rattle.model.specs.Strength.{view, compareNodeStrength, compareSiblingNodeStrength};
-ghost use Rattle.finalizing.specs.Orders.{readsEntry};
 ghost use Rattle.c_api.specs.Carried.{carried, carriedNumber, carriedOrder, carriedFinish, carriedAnswer, WroteCarried, OrderCarried};
 
 // A refusal, and no value.

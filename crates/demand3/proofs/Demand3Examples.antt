@@ -7,6 +7,7 @@ use mathlib.Core.List.{List, [], _∷_, map}
 use Prim.Native.Nat.{ℕ, _<_}
 use native.Mathlib.Omega.{arith}
 use lib.Dec.{ltb}
+use lib.ListN.{replicate}
 use borrow.Author.Tests.{ltb-true}
 use Rattle.model.specs.Lists.{every, filter}
 use Rattle.model.specs.Path.{isNameStart, isWordByte, wellFormed, primCount, beforeName, nameStart, lastName, endsInName, separator, appendName, pathAtIntroDepth}
@@ -16,10 +17,10 @@ use Rattle.model.specs.Strength.{smaller, plainLines, siblingLines, nodesBy, co
 use Rattle.model.specs.Order.{isStronger, hasOrder}
 use Rattle.model.specs.Order as order
 use Rattle.model.specs.Culling.{keepsInherit, canCull, cullSubtreesWithoutOpinions, isMarked, isErasable}
-use Rattle.model.specs.Erasing.{stays, erasable, newNumber}
+use Rattle.model.specs.Erasing.{stays, canErase, erasable, newNumber}
 use Rattle.model.specs.Deepening.{deepen}
 use Rattle.model.specs.Snapshot.{writeSnapshot, readSnapshot}
-use Rattle.model.specs.Calls.{Outcome, initRoot, addChild, finalizeStrengthOrder, cull, appendChildName, seedChild, readInto}
+use Rattle.model.specs.Calls.{Outcome, initRoot, addChild, finalizeStrengthOrder, cull, eraseSet, appendChildName, seedChild, readInto}
 use Rattle.model.specs.Arena.{countIn, decode, holdsGraph}
 use Rattle.model.specs.ArenaCalls.{left}
 use Rattle.model.proofs.Text.{bytes}
@@ -70,8 +71,8 @@ add parent arc hasSpecs depth fits path = adding (record {
   has-specs = fits .2;
 }) path
 
--- Nodes 0 and 1 `/M/a`; under 1 the References 2 and 3, of which 2 has no specs, and the Inherit 4. Culling marks 2. An erase set of three bytes is
--- refused 1, and bytes that are no snapshot 12.
+-- Nodes 0 and 1 `/M/a`; under 1 the References 2 and 3, of which 2 has no specs, and the Inherit 4. Culling marks 2. An erase set with node 1, the parent
+-- of the others, is refused 11, and bytes that are no snapshot 12.
 unfoldable ten : List Write
 ten =
     starting (record { number = 0; small = omega arith }) (record { number = 0; small = omega arith }) (slice (bytes "/M/a") refl)
@@ -81,7 +82,7 @@ ten =
     ∷ add 1 1 1 (Given 1) (omega arith, omega arith, omega arith, omega arith) (slice (bytes "/C/a") refl)
     ∷ ordering
     ∷ culling
-    ∷ erasing (slice (0 ∷ 0 ∷ 1 ∷ []) refl)
+    ∷ erasing (slice (0 ∷ 1 ∷ replicate 1022 0) refl)
     ∷ deepening (slice (bytes "/b") refl)
     ∷ reading (slice (bytes "no snapshot") refl)
     ∷ []
@@ -97,7 +98,7 @@ record TenCalls (g : Graph) : Type 0 where
   pub order-left : map (newNumber (stays (erasable g))) (filter (stays (erasable g)) (g .order)) ≡ 0 ∷ 1 ∷ 3 ∷ 2 ∷ []
 
 ten-graph : TenCalls (graphSteps ten emptyGraph)
-unfolding ten initRoot addChild finalizeStrengthOrder cull appendChildName readInto readSnapshot withNode wellFormed primCount isNameStart isWordByte
+unfolding ten initRoot addChild finalizeStrengthOrder cull eraseSet canErase appendChildName readInto readSnapshot withNode wellFormed primCount isNameStart isWordByte
     beforeName nameStart lastName endsInName separator appendName pathAtIntroDepth depthBelowIntroduction pathAtIntroduction isLocalRoot
     inLocalStack smaller plainLines siblingLines nodesBy compareSiblingNodeStrength hasOrder order.ordering isStronger keepsInherit canCull
     cullSubtreesWithoutOpinions isMarked isErasable erasable deepen
@@ -111,7 +112,7 @@ ten-graph = record {
 }
 
 seed-accepted : seedChild (bytes "/c") (graphSteps ten emptyGraph) emptyGraph .refused ≡ 0
-unfolding ten initRoot addChild finalizeStrengthOrder cull appendChildName seedChild readInto readSnapshot withNode wellFormed primCount isNameStart
+unfolding ten initRoot addChild finalizeStrengthOrder cull eraseSet canErase appendChildName seedChild readInto readSnapshot withNode wellFormed primCount isNameStart
     isWordByte beforeName nameStart lastName endsInName separator appendName pathAtIntroDepth depthBelowIntroduction pathAtIntroduction
     isLocalRoot inLocalStack smaller plainLines siblingLines nodesBy compareSiblingNodeStrength hasOrder order.ordering isStronger keepsInherit
     canCull cullSubtreesWithoutOpinions deepen

@@ -3,13 +3,12 @@ use mathlib.Core.Path.{_≡_}
 use mathlib.Core.Bool.{_&&_, cond}
 use mathlib.Core.List.{List, [], _∷_, _++_}
 use Prim.Native.Nat.{ℕ}
-use lib.Dec.{eqb, ltb}
+use lib.Dec.{eqb}
 use lib.ListN.{length}
 use Rattle.model.specs.Bytes.{stored}
-use Rattle.model.specs.Graph.{Graph, size}
 use Rattle.model.specs.Snapshot.{bigEndian}
 use Rattle.model.specs.Refusals.{Question, ask, refusal}
-use Rattle.model.specs.Calls.{hasNodeZero, readsOrder, finalizeStrengthOrder}
+use Rattle.model.specs.Calls.{readsOrder, finalizeStrengthOrder}
 use Rattle.model.specs.Arena.{countIn, orderEntryIn, tabulate, decode, holdsGraph}
 use Rattle.model.specs.ArenaCalls.{isArena, onArena, Finishes, Answered}
 use Rattle.model.specs.declared.Finished.{Finished}
@@ -36,7 +35,3 @@ listQuestions arena out = ask 1 (isArena arena && eqb (length out) 4096) ∷ ask
 pub record OrderWritten (arena out : List ℕ) (r : Numbered) (after : List ℕ) : Type 0 where
   pub answer : Answered (listQuestions arena out) (length (decode arena .order)) r
   pub bytes : after ≡ cond (eqb (refusal (listQuestions arena out)) 0) (stored 0 (orderBytes (decode arena .order)) out) out
-
--- one entry by its place, which is below the count as a node's number is
-abbrev pub readsEntry : Graph → ℕ → List Question
-readsEntry g place = hasNodeZero g ∷ ask 4 (ltb place (size g)) ∷ ask 10 (g .ordered) ∷ []

@@ -9,7 +9,8 @@ ghost use lib.ListN.{length, getD};
 ghost use Rattle.model.specs.Arena.{arenaBytes, countIn, decode};
 ghost use Rattle.model.specs.ArenaCalls.{Opened, askArena, Answered};
 ghost use Rattle.model.specs.Bytes.{stored};
-ghost use Rattle.finalizing.specs.Orders.{Finalized, entriesIn, orderBytes, OrderWritten, readsEntry};
+ghost use Rattle.model.specs.Calls.{readsEntry};
+ghost use Rattle.finalizing.specs.Orders.{Finalized, entriesIn, orderBytes, OrderWritten};
 
 // Sorts each child list and walks them; a finalized graph is left as it is. Refused 1, 2, 3 and 9.
 pub fn finalize_strength_order(arena: &mut [u8]) -> Finished

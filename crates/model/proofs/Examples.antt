@@ -1,10 +1,11 @@
 -- Document 01's examples: the table of "The bond of each call", point 3, and a graph for each way in which a port goes astray, all by
--- computation. Path's own are in PathExamples.antt. Assumes nothing.
+-- computation. Path's own are in PathExamples.antt, and a line of this table. Assumes nothing.
 use mathlib.Core.Path.{_≡_, refl}
 use mathlib.Core.Bool.{true, false}
 use mathlib.Core.Option.{some}
 use mathlib.Core.List.{[], _∷_, _++_}
 use Rattle.model.proofs.Text.{bytes}
+use Rattle.model.proofs.PathExamples as path
 use Rattle.model.proofs.ExampleGraphs.{add, plain, from, node, siblings, line, four, ring, deep, oneOrigin, classDepths, rootDepths, siblingNumbers, replacedOnce, shallow, markedOrigin}
 use Rattle.model.specs.declared.Ordering.the-variants.{Less, Equal, Greater}
 use Rattle.model.specs.Path.{isNameStart, isWordByte, isSelectionByte, wellFormed, primCount, beforeName, nameStart, lastName, endsInName, separator, appendName, pathAtIntroDepth, samePath}
@@ -21,6 +22,7 @@ use Rattle.model.specs.Calls.{orders, deepening, call, initRoot, addChil
 -- ---- The table
 
 pub record Table : Type 0 where
+  pub paths : path.Table
   pub below-one : depthBelowIntroduction (from deep .nodes) 1 ≡ 1
   pub below-none : depthBelowIntroduction (from deep .nodes) 2 ≡ 0
   pub order-listed : from (four ++ orders ∷ []) .order ≡ 0 ∷ 1 ∷ 3 ∷ 2 ∷ []
@@ -53,6 +55,7 @@ unfolding initRoot addChild finalizeStrengthOrder appendChildName withNode wellF
     depthLine specializesLines plainLines siblingLines nodesBy compareSiblingNodeStrength compareNodeStrength hasOrder ordering isStronger deepen
     isMarked isErasable listing writeSnapshot recordBody
 table = record {
+  paths = path.table;
   below-one = refl;
   below-none = refl;
   order-listed = refl;

@@ -28,7 +28,7 @@ pub record Table : Type 0 where
   pub none-after-root : appendName (bytes "/") (bytes "B") ≡ bytes "/B"
   pub none-after-brace : appendName (bytes "/A{v=x}") (bytes "B") ≡ bytes "/A{v=x}B"
 
-table : Table
+pub table : Table
 unfolding wellFormed primCount isNameStart isWordByte isSelectionByte beforeName parentLength parent separator appendName pathAtIntroDepth
 table = record {
   no-name = refl;

@@ -211,3 +211,7 @@ usesSite g path = hasNodeZero g ∷ ask 5 (wellFormed path) ∷ []
 -- "Is the graph ordered (reading the order)?"
 abbrev pub readsOrder : Graph → List Question
 readsOrder g = hasNodeZero g ∷ ask 10 (g .ordered) ∷ []
+
+-- one entry by its place, which is below the count as a node's number is
+abbrev pub readsEntry : Graph → ℕ → List Question
+readsEntry g place = hasNodeZero g ∷ ask 4 (ltb place (size g)) ∷ ask 10 (g .ordered) ∷ []

@@ -302,14 +302,14 @@ fn seeding_from_what_was_erased_from() {
     ));
 }
 
-/// The ten calls of `crates/demand3/proofs/Demand3Examples.antt`, but for the erase set of three bytes, which no line
-/// can write: the graph is ordered, finalized and has a node to erase.
+/// The ten calls of `crates/demand3/proofs/Demand3Examples.antt`: the graph is ordered, finalized and has a node to erase.
 #[test]
 fn the_ten_calls_of_demand_3() {
     check(&format!(
         "{CELL}
         order => ok
         cull => ok
+        erase 01 => refused 11
         deepen /b => ok
         read 6e6f20736e617073686f74 => refused 12
         marks => 1 1 0

@@ -3,8 +3,8 @@ use borrow.Author.Needs.{needs}
 use mathlib.Core.Path.{_≡_}
 use Rattle.model.specs.Arena.{countIn, decode}
 use Rattle.model.specs.ArenaCalls.{Opened}
+use Rattle.model.specs.Calls.{readsEntry}
 use Rattle.model.proofs.ArenaCallLaws.{answered-refused, answered-more, count-number, count-refused}
-use Rattle.finalizing.specs.Orders.{readsEntry}
 use Rattle.finalizing.proofs.order_entry.Statement.{statement}
 use Rattle.finalizing.proofs.order_entry.Tie as tie
 
