@@ -13,14 +13,14 @@ ghost use Rattle.model.specs.Node.{invalid};
 ghost use Rattle.model.specs.Refusals.{pathBytes};
 ghost use Rattle.adding.specs.Adding.{numberOr, depthGiven, specsTold, descOf, DescChecked, addedRecord};
 
-// The number, or `missing` where it is no node's.
-fn number_or(number: u32, missing: u32) -> u32
-    ensures { λ r. ⌜ r ≡ numberOr number missing ⌝ }
+// The node's number, or `missing` where it is none.
+fn number_or(node: NodeId, missing: u32) -> u32
+    ensures { λ r. ⌜ r ≡ numberOr (node .0) missing ⌝ }
 {
-    if number == 4294967295 {
-        return missing;
+    if node.is_valid() {
+        return node.0;
     }
-    number
+    missing
 }
 
 // The depth that is given, or `missing`.
@@ -62,8 +62,8 @@ pub(crate) fn check_desc(arena: &[u8], count: u32, desc: NodeDesc, path: &[u8]) 
     requires { ⌜ Opened (now arena) × (count ≡ countIn (now arena)) × (0 < count) ⌝ }
     ensures { λ r. ⌜ DescChecked (decode (now (arena .entry))) (descOf desc (now (path .entry))) r ⌝ }
 {
-    let parent = number_or(desc.parent.0, 0);
-    let origin = number_or(desc.origin.0, parent);
+    let parent = number_or(desc.parent, 0);
+    let origin = number_or(desc.origin, parent);
     record_check::check_record(
         count,
         path_bytes(arena, count),
@@ -78,15 +78,15 @@ pub(crate) fn check_desc(arena: &[u8], count: u32, desc: NodeDesc, path: &[u8]) 
 }
 
 // The prim count of the parent's path, or of the node's own for a root site.
-fn default_depth(arena: &[u8], parent: u32, prims: u8) -> u16
+fn default_depth(arena: &[u8], parent: NodeId, prims: u8) -> u16
     requires { ⌜ Opened (now arena) ⌝ }
-    requires { ⌜ ((parent ≡ invalid → ⊥) → parent < 1024) ⌝ }
-    ensures { λ r. ⌜ r ≡ cond (eqb parent invalid) prims (primCountIn (now (arena .entry)) parent) ⌝ }
+    requires { ⌜ ((parent .0 ≡ invalid → ⊥) → parent .0 < 1024) ⌝ }
+    ensures { λ r. ⌜ r ≡ cond (eqb (parent .0) invalid) prims (primCountIn (now (arena .entry)) (parent .0)) ⌝ }
 {
-    if parent == 4294967295 {
-        return prims as u16;
+    if parent.is_valid() {
+        return arena::prim_count(arena, parent.0) as u16;
     }
-    arena::prim_count(arena, parent) as u16
+    prims as u16
 }
 
 // The record of the node, with what was missing put in. It has no links yet.
@@ -101,8 +101,8 @@ pub(crate) fn added_record(
     requires { ⌜ «path_length» ≤ 255 ⌝ }
     ensures { λ r. ⌜ r ≡ addedRecord (now (arena .entry)) desc prims «path_length» ⌝ }
 {
-    let parent = number_or(desc.parent.0, 0);
-    let default = default_depth(arena, desc.parent.0, prims);
+    let parent = number_or(desc.parent, 0);
+    let default = default_depth(arena, desc.parent, prims);
     let depth = desc.depth;
     arena::Node {
         first_child: NodeId::INVALID,
@@ -115,7 +115,7 @@ pub(crate) fn added_record(
         stack: desc.stack,
         layer: desc.layer,
         parent: NodeId(parent),
-        origin: NodeId(number_or(desc.origin.0, parent)),
+        origin: NodeId(number_or(desc.origin, parent)),
         depth: depth_or(depth, default),
         sibling: desc.sibling,
         restriction: desc.restriction,

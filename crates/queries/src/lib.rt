@@ -63,9 +63,9 @@ fn root_or_none(root: u32) -> NodeId
     ensures { λ r. ⌜ r .0 ≡ cond (eqb root 0) invalid root ⌝ }
 {
     if root == 0 {
-        return NodeId(4294967295);
+        return NodeId::INVALID;
     }
-    NodeId(root)
+    NodeId::new(root)
 }
 
 // The local root in the header; of an empty graph it is not read.
