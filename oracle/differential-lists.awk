@@ -1,6 +1,7 @@
 # What demand 3 says of every list of calls, held to the answers in the file `answers` to the lines of `oracle script lists`: after each call the current
 # arena is shown, by `chains` last, and `check` holds what is shown to what was shown before. `seen` has the last answers of each arena, `now` those after the
-# call. Prints numbers and what they count; or the first line whose answer breaks a claim, with status 1.
+# call. After each call the claims are also tried on the arena as it stands, between `save` and `restore`: `owed` says which are to come before the next call.
+# Prints numbers and what they count; or the first line whose answer breaks a claim, with status 1.
 
 BEGIN { begin() }
 
@@ -9,22 +10,27 @@ BEGIN { begin() }
 
 $1 == "" { if (lists++ && (calls < 5 || calls > 30)) fail("the list before has " calls " calls"); calls = 0; next }
 $1 == "write" { written = answer; next }
-$1 == "erasable" { erasable = answer; if (erasable != largest()) fail(erasable " is erasable"); next }
+$1 == "erasable" { erasable = answer; if (erasable != largest()) fail(erasable " is erasable"); owe(); next }
+$1 == "save" || $1 == "restore" { if (answer != "ok" || trial != ($1 == "save" ? "" : "save")) fail($1 " is out of place"); trial = $1; next }
+$1 == "dump" && trial == "restore" { if (answer != seen[arena, $1]) fail("another graph is restored"); trial = ""; next }
 $1 == "marks" || $1 == "list" || $1 == "compares" || $1 == "dump" { now[$1] = answer; next }
-$1 == "chains" { now[$1] = answer; check(); next }
+$1 == "chains" { now[$1] = answer; if (trial == "save") tried(); else check(); next }
 {
+    if (trial != "save") settled()
+    split("", now)
     call = $1; set = hexadecimal = $2 ""; result = answer
     refused = answer == "bad line" || answer ~ /^refused/
-    if (call != "swap" && call != "new") count()
+    if (trial == "" && call != "swap" && call != "new") count()
 }
 
 END {
+    if (!failed) settled()
     if (failed) exit 1
     found["lists"] = lists
     for (what in found) print found[what], what
 }
 
-function fail(text) { print "line " NR ": " text; failed = 1; exit }
+function fail(text) { print "line " NR ": " text; failed = 1; exit 1 }
 
 # both arenas are empty
 function begin(    r) {
@@ -53,7 +59,7 @@ function check(    from, word) {
     if (refused || call == "swap" || call == "new") same(arena, "marks list compares dump chains", call " is refused or writes nothing")
     else if (call == "erase") erasing()
     else if (call == "order") ordering()
-    else if (call == "deepen" || call == "seed") deepening(from)
+    else if (call == "deepen" || call == "seed") found["finalized-" call] += deepening(from)
     if (fresh && call == "order" && refused) fail("what was ordered has no order afresh")
     if (!refused && call == "seed") seeding(from)
     if (!refused && (call == "read" || call == "seed")) erased[arena] = 0
@@ -61,6 +67,36 @@ function check(    from, word) {
     fresh = !refused && call == "read" && hexadecimal == written && seen[arena, "marks"] ~ /^1/
     old_list = seen[arena, "list"]; old_chains = seen[arena, "chains"]
     for (word in now) seen[arena, word] = now[word]
+    owed["erasable"] = 1
+}
+
+# what is erasable is to be erased in a trial, and a finalized graph deepened
+function owe() {
+    owed["erasable"] = 0
+    owed["erase"] = erasable ~ /1/
+    owed["deepen"] = seen[arena, "marks"] ~ /^. 1/
+}
+
+# all is tried that is to be tried after a call, and the graph is restored
+function settled(    what) {
+    if (trial != "") fail("the graph is not restored")
+    for (what in owed) if (owed[what]) fail("before this call there is no " what)
+}
+
+# the claims in a trial; `seen` stays, since the graph is restored
+function tried() {
+    if (!owed[call]) fail(call " is not to be tried here")
+    owed[call] = 0
+    if (call == "erase") {
+        if (set != erasable) fail("another set is tried")
+        kept()
+        found["erasable-trials"]++
+        found["erasable-trials-ordered"] += now["marks"] ~ /^1/
+    } else if (refused) {
+        if (result != "refused 7") fail("deepening is " result)
+        same(arena, "marks list compares chains", "deepening is " result)
+        found["deepen-trials-refused"]++
+    } else found["deepen-trials"] += deepening(arena)
 }
 
 # these words are answered as they were in that arena
@@ -113,7 +149,7 @@ function erasing(    went) {
 
 # "the rest stand as before, any two of them compare as before, and, where the graph was ordered, its list is the old one without what went", which holds of
 # every set that is accepted; answers how many went
-function kept(    n, at, other, record, field, chain, row, left, dump, chains, compares, cells) {
+function kept(    n, at, other, record, field, chain, row, left, dump, chains, compares, cells, list) {
     n = split(seen[arena, "dump"], record, ";")
     left = 0
     for (at = 0; at < n; at++) { goes[at] = substr(set, at + 1, 1) == "1"; number[at] = left; left += !goes[at] }
@@ -135,7 +171,8 @@ function kept(    n, at, other, record, field, chain, row, left, dump, chains, c
     if (now["chains"] != chains) fail("the chains have lost more than what went")
     if (now["compares"] != compares) fail("two kept nodes do not compare as before")
     if (now["marks"] != seen[arena, "marks"]) fail("erasing has changed the marks")
-    if (now["marks"] ~ /^1/ && now["list"] != renumbered(seen[arena, "list"], " ")) fail("the list is not the old one without what went")
+    list = now["marks"] ~ /^1/ ? renumbered(seen[arena, "list"], " ") : seen[arena, "list"]
+    if (now["list"] != list) fail("the list is not the old one without what went")
     return n - left
 }
 
@@ -155,16 +192,16 @@ function ordering() {
     }
 }
 
-# "If instead the graph is finalized and is deepened by a child name, every pair compares as before"; another loses its order
+# "If instead the graph is finalized and is deepened by a child name, every pair compares as before"; another loses its order. Answers whether it was finalized
 function deepening(from) {
     if (seen[from, "marks"] == "1 1 0") {
         same(from, "marks list compares chains", "a finalized graph is deepened")
-        found["finalized-" call]++
-        return
+        return 1
     }
     same(from, "chains", "deepened")
     if (now["marks"] != "0 0 " substr(seen[from, "marks"], 5)) fail("a graph that is not finalized stays ordered")
     found["ordered-shallow-" call] += seen[from, "marks"] == "1 0 1"
+    return 0
 }
 
 # the arena that is filled may have held anything

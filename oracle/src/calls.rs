@@ -32,11 +32,12 @@ impl Answer {
     }
 }
 
-/// The two graphs that the lines work on (document 01: rooms).
+/// The two graphs that the lines work on (document 01: rooms), and what was saved of one of them.
 #[derive(Default)]
 pub struct Calls {
     current: Judge,
     other: Judge,
+    saved: Judge,
 }
 
 impl Calls {
@@ -85,6 +86,8 @@ impl Calls {
             Call::Deepen(child) => self.deepen(child),
             Call::Seed(child) => self.seed(child),
             Call::Swap => self.swap(),
+            Call::Save => self.save(),
+            Call::Restore => self.restore(),
             Call::Using(stack, path) => self.using(stack, path),
             Call::Below(node) => self.below(node),
             Call::Intro(node) => self.intro(node),
@@ -215,6 +218,17 @@ impl Calls {
 
     fn swap(&mut self) -> Result<String, Refusal> {
         mem::swap(&mut self.current, &mut self.other);
+        done()
+    }
+
+    /// Both graphs then hold the Rust's shared half, as after seeding, until one of them changes it.
+    fn save(&mut self) -> Result<String, Refusal> {
+        self.saved = self.current.clone();
+        done()
+    }
+
+    fn restore(&mut self) -> Result<String, Refusal> {
+        self.current = self.saved.clone();
         done()
     }
 

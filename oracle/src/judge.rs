@@ -10,7 +10,7 @@ use crate::record::Record;
 use crate::sdf::Path;
 
 /// The Rust's graph and the one mark it does not keep: whether its strength order is current (document 01: a room).
-#[derive(Default)]
+#[derive(Clone, Default)]
 pub struct Judge {
     graph: PrimIndexGraph,
     ordered: bool,

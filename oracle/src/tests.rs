@@ -11,6 +11,7 @@ mod lists;
 mod orders;
 mod paths;
 mod robustness;
+mod saving;
 mod snapshots;
 mod strength;
 

@@ -33,6 +33,7 @@ fn answer_line(
     held: usize,
     first: &mut [u8],
     second: &mut [u8],
+    saved: &mut [u8],
     swapped: bool,
     out: &mut [u8],
     used: usize,
@@ -48,6 +49,7 @@ fn answer_line(
         calls_text::front(line, held),
         first,
         second,
+        saved,
         swapped,
         out,
         used,
@@ -65,6 +67,7 @@ fn answer_block(
     rest: Rest,
     first: &mut [u8],
     second: &mut [u8],
+    saved: &mut [u8],
     out: &mut [u8],
 ) -> Rest {
     let mut begun = rest.held;
@@ -76,7 +79,7 @@ fn answer_block(
         begun = append(line, begun, &block[at..end]);
         at = end + 1;
         if end < block.len() {
-            let answer = answer_line(line, begun, first, second, swapped, out, used);
+            let answer = answer_line(line, begun, first, second, saved, swapped, out, used);
             used = answer.used;
             swapped = answer.swapped;
             begun = 0;
@@ -106,6 +109,7 @@ fn answer_blocks(
     line: &mut [u8],
     first: &mut [u8],
     second: &mut [u8],
+    saved: &mut [u8],
     out: &mut [u8],
 ) -> Rest {
     let mut held: usize = 0;
@@ -119,6 +123,7 @@ fn answer_blocks(
             Rest { held, swapped },
             first,
             second,
+            saved,
             out,
         );
         held = rest.held;
@@ -129,9 +134,16 @@ fn answer_blocks(
 }
 
 // Answers a last line without a newline, where `line` holds one, and writes the answer.
-fn answer_rest(line: &[u8], rest: Rest, first: &mut [u8], second: &mut [u8], out: &mut [u8]) {
+fn answer_rest(
+    line: &[u8],
+    rest: Rest,
+    first: &mut [u8],
+    second: &mut [u8],
+    saved: &mut [u8],
+    out: &mut [u8],
+) {
     if 0 < rest.held {
-        let answer = answer_line(line, rest.held, first, second, rest.swapped, out, 0);
+        let answer = answer_line(line, rest.held, first, second, saved, rest.swapped, out, 0);
         calls_text::flush(out, answer.used);
     }
 }
@@ -142,7 +154,15 @@ pub fn answer_input() {
     let mut line = buffers::zeros();
     let mut first = buffers::zeros();
     let mut second = buffers::zeros();
+    let mut saved = buffers::zeros();
     let mut out = io::large_buffer();
-    let rest = answer_blocks(&mut block, &mut line, &mut first, &mut second, &mut out);
-    answer_rest(&line, rest, &mut first, &mut second, &mut out);
+    let rest = answer_blocks(
+        &mut block,
+        &mut line,
+        &mut first,
+        &mut second,
+        &mut saved,
+        &mut out,
+    );
+    answer_rest(&line, rest, &mut first, &mut second, &mut saved, &mut out);
 }

@@ -1,6 +1,6 @@
-// The answer to any line of the command `calls`, and the two arenas that the lines work on. The lines about both arenas are here; the other lines
-// are answered by the crates `calls_make`, `calls_order`, `calls_change`, `calls_look`, `calls_compare`, `calls_dump` and `calls_paths`. No function has a
-// `requires`.
+// The answer to any line of the command `calls`, the two arenas that the lines work on, and a third where one of them is saved. The lines about more than one
+// arena are here; the other lines are answered by the crates `calls_make`, `calls_order`, `calls_change`, `calls_look`, `calls_compare`, `calls_dump` and
+// `calls_paths`. No function has a `requires`.
 use calls_text::Answered;
 use calls_text::bad_line;
 use calls_text::is_call;
@@ -23,11 +23,19 @@ fn clear(arena: &mut [u8]) {
     }
 }
 
+// Copies `from` over `to`; does nothing where their lengths differ.
+fn overwrite(to: &mut [u8], from: &[u8]) {
+    if from.len() == to.len() {
+        bytes::copy(from, to);
+    }
+}
+
 // Puts the answer to a line, without a newline.
 pub fn answer(
     line: &[u8],
     first: &mut [u8],
     second: &mut [u8],
+    saved: &mut [u8],
     swapped: bool,
     out: &mut [u8],
     used: usize,
@@ -35,6 +43,7 @@ pub fn answer(
     if is_call(line, b"new", 1) {
         clear(first);
         clear(second);
+        clear(saved);
         return State {
             used: put(out, used, b"ok"),
             swapped: false,
@@ -54,12 +63,12 @@ pub fn answer(
     }
     if swapped {
         return State {
-            used: answer_on(line, second, out, used),
+            used: answer_saving(line, second, saved, out, used),
             swapped: true,
         };
     }
     State {
-        used: answer_on(line, first, out, used),
+        used: answer_saving(line, first, saved, out, used),
         swapped: false,
     }
 }
@@ -84,6 +93,25 @@ fn seed_line(
             swapped,
         },
     }
+}
+
+// `save` and `restore`: the arena copied to the saved one, and back. Else the answer to a line on the arena alone.
+fn answer_saving(
+    line: &[u8],
+    arena: &mut [u8],
+    saved: &mut [u8],
+    out: &mut [u8],
+    used: usize,
+) -> usize {
+    if is_call(line, b"save", 1) {
+        overwrite(saved, arena);
+        return put(out, used, b"ok");
+    }
+    if is_call(line, b"restore", 1) {
+        overwrite(arena, saved);
+        return put(out, used, b"ok");
+    }
+    answer_on(line, arena, out, used)
 }
 
 // The answer to a line on one arena: none to an empty one. A further kind of line is a row in the crate that answers its like.

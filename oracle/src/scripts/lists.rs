@@ -1,6 +1,7 @@
 //! Lists of the calls that write graphs, refused ones among them: 5 to 30 calls on two graphs, and after each call the
-//! current graph is shown, so that what demand 3 says of every such list can be seen in the answers. Most lists end with
-//! erasing what is erasable, and ordering what is left, or with deepening. An empty line comes before each list.
+//! current graph is shown, so that what demand 3 says of every such list can be seen in the answers. What it says of
+//! erasing and of deepening is tried after each call, on the graph as it stands, which is then restored. Most lists end
+//! with erasing what is erasable, and ordering what is left, or with deepening. An empty line comes before each list.
 
 use std::io::{self, Write};
 
@@ -10,10 +11,16 @@ use plain::samples::{culls, orders};
 
 use super::erase_sets::another_set;
 use super::graphs::{Script, Style};
-use crate::calls::{Calls, hex};
+use crate::calls::{Answer, Calls, hex};
 
 /// All that a graph shows.
 const SHOWN: &str = "marks\nlist\ncompares\ndump\nchains\n";
+
+/// What deepening leaves as it is in a finalized graph.
+const UNDEEPENED: &str = "marks\nlist\ncompares\nchains\n";
+
+/// Names that fit behind nearly every path.
+const CHILDREN: [&str; 3] = ["/k", "/M/Child", "/A{v=x}_0"];
 
 /// A graph has no more nodes than this.
 const NODES: usize = 12;
@@ -64,9 +71,24 @@ impl List<'_> {
         self.show()
     }
 
-    /// The judge is not asked: these lines change nothing.
+    /// The graph and its erasable set; what it would be without that set and, where it is finalized, deepened.
     fn show(&mut self) -> io::Result<()> {
-        self.script.out.write_all(SHOWN.as_bytes())
+        write!(self.script.out, "{SHOWN}erasable\n")?;
+        let set = self.erasable();
+        if set.contains(&b'1') {
+            self.try_out(&format!("erase {}", String::from_utf8_lossy(&set)), SHOWN)?;
+        }
+        let current = self.script.calls.current();
+        if current.is_ordered() && current.is_finalized() {
+            let child = self.script.random.pick(&CHILDREN);
+            self.try_out(&format!("deepen {child}"), UNDEEPENED)?;
+        }
+        Ok(())
+    }
+
+    /// The judge is not asked: these lines leave the graph as it was.
+    fn try_out(&mut self, call: &str, shown: &str) -> io::Result<()> {
+        write!(self.script.out, "save\n{call}\n{shown}restore\ndump\n")
     }
 
     /// Now and then works on the other graph, or on none.
@@ -128,9 +150,12 @@ impl List<'_> {
         }
     }
 
-    /// A digit for each node, and one for no node.
-    fn erasable(&mut self) -> io::Result<Vec<u8>> {
-        Ok(self.script.ask("erasable")?.unwrap_or("0".into()).into_bytes())
+    /// A digit for each node, and one for no node. No line is written.
+    fn erasable(&mut self) -> Vec<u8> {
+        match self.script.calls.answer(b"erasable") {
+            Answer::Accepted(set) => set.into_bytes(),
+            _ => b"0".to_vec(),
+        }
     }
 
     fn erase(&mut self, set: &[u8]) -> io::Result<()> {
@@ -138,12 +163,12 @@ impl List<'_> {
     }
 
     fn erase_the_erasable(&mut self) -> io::Result<()> {
-        let set = self.erasable()?;
+        let set = self.erasable();
         self.erase(&set)
     }
 
     fn erase_another(&mut self) -> io::Result<()> {
-        let erasable = self.erasable()?;
+        let erasable = self.erasable();
         if self.script.count() == 0 {
             return self.erase(&erasable);
         }

@@ -14,7 +14,7 @@ fn bad_lines() {
         "add - 0 0 0 0 - - 0 0 0 - /", "read", "read ", "read 0", "read 0g", "read 0A", "read 00 00", "write 1",
         "compare 0", "compare 0 4294967296", "compare - 0", "sibling 0 0 0", "erase", "erase ", "erase -", "erase 0x",
         "erase 0 1", "cull 1", "erasable 0", "below -", "below", "intro x", "using 0", "using - /", "order\r",
-        "list\t", "swap swap",
+        "list\t", "swap swap", "save 1", "save ", "restore 0", "restored", "Save",
     ];
     for line in bad {
         assert_eq!(answers(line), ["bad line"], "{line:?}");

@@ -1,4 +1,4 @@
--- `calls_input::answer_block` is safe and ends. The invariant of its loop: the four lent buffers keep their lengths.
+-- `calls_input::answer_block` is safe and ends. The invariant of its loop: the five lent buffers keep their lengths.
 -- The measure is what is left of the block. Assumes nothing.
 use Prim.Native.Nat.{_-_}
 use mathlib.Core.Path.{_≡_}
@@ -9,10 +9,10 @@ use Rattle.calls_input.proofs.answer_block.Statement.{statement}
 use Rattle.calls_input.proofs.answer_block.Tie as tie
 
 abbrev Inv-loop : tie.InvT-loop
-Inv-loop block line₀ first₀ second₀ out₀ begun₀ swapped₀ used₀ at₀ line first second out begun swapped used at = (length line ≡ length line₀) × (length first ≡ length first₀) × (length second ≡ length second₀) × (length out ≡ length out₀)
+Inv-loop block line₀ first₀ second₀ saved₀ out₀ begun₀ swapped₀ used₀ at₀ line first second saved out begun swapped used at = (length line ≡ length line₀) × (length first ≡ length first₀) × (length second ≡ length second₀) × (length saved ≡ length saved₀) × (length out ≡ length out₀)
 
 abbrev μ-loop : tie.MeasureT-loop
-μ-loop block line₀ first₀ second₀ out₀ begun₀ swapped₀ used₀ at₀ line first second out begun swapped used at = length block - at
+μ-loop block line₀ first₀ second₀ saved₀ out₀ begun₀ swapped₀ used₀ at₀ line first second saved out begun swapped used at = length block - at
 
 loop-holds : tie.Need-loop-holds Inv-loop μ-loop
 loop-holds c = omega arith
@@ -65,6 +65,9 @@ same-length-3 c = omega arith
 same-length-4 : tie.Need-same-length-4 Inv-loop μ-loop
 same-length-4 c = omega arith
 
+same-length-5 : tie.Need-same-length-5 Inv-loop μ-loop
+same-length-5 c = omega arith
+
 returns : tie.Need-returns Inv-loop μ-loop
 returns c = search needs
 
@@ -91,4 +94,5 @@ answer-block-spec =
     same-length-2
     same-length-3
     same-length-4
+    same-length-5
     returns)

@@ -1,4 +1,4 @@
--- `calls_input::answer_blocks` is safe and ends. The invariant of its loop: the five lent buffers keep their lengths.
+-- `calls_input::answer_blocks` is safe and ends. The invariant of its loop: the six lent buffers keep their lengths.
 -- The measure is the number of turns that are left. Assumes nothing.
 use mathlib.Core.Path.{_≡_}
 use borrow.Author.Needs.{needs}
@@ -8,10 +8,10 @@ use Rattle.calls_input.proofs.answer_blocks.Statement.{statement}
 use Rattle.calls_input.proofs.answer_blocks.Tie as tie
 
 abbrev Inv-loop : tie.InvT-loop
-Inv-loop block₀ line₀ first₀ second₀ out₀ held₀ swapped₀ turns₀ block line first second out held swapped turns = (length block ≡ length block₀) × (length line ≡ length line₀) × (length first ≡ length first₀) × (length second ≡ length second₀) × (length out ≡ length out₀)
+Inv-loop block₀ line₀ first₀ second₀ saved₀ out₀ held₀ swapped₀ turns₀ block line first second saved out held swapped turns = (length block ≡ length block₀) × (length line ≡ length line₀) × (length first ≡ length first₀) × (length second ≡ length second₀) × (length saved ≡ length saved₀) × (length out ≡ length out₀)
 
 abbrev μ-loop : tie.MeasureT-loop
-μ-loop block₀ line₀ first₀ second₀ out₀ held₀ swapped₀ turns₀ block line first second out held swapped turns = turns
+μ-loop block₀ line₀ first₀ second₀ saved₀ out₀ held₀ swapped₀ turns₀ block line first second saved out held swapped turns = turns
 
 loop-holds : tie.Need-loop-holds Inv-loop μ-loop
 loop-holds c = omega arith
@@ -61,6 +61,9 @@ same-length-4 c = omega arith
 same-length-5 : tie.Need-same-length-5 Inv-loop μ-loop
 same-length-5 c = omega arith
 
+same-length-6 : tie.Need-same-length-6 Inv-loop μ-loop
+same-length-6 c = omega arith
+
 returns : tie.Need-returns Inv-loop μ-loop
 returns c = search needs
 
@@ -86,4 +89,5 @@ answer-blocks-spec =
     same-length-3
     same-length-4
     same-length-5
+    same-length-6
     returns)
