@@ -50,11 +50,18 @@ impl Calls {
         if line.is_empty() {
             return Answer::Accepted(String::new());
         }
-        match line::parse(line).map(|call| self.call(call)) {
+        match line::parse(line).map(|call| self.ask(call)) {
             Some(Ok(text)) => Answer::Accepted(text),
             Some(Err(refusal)) => Answer::Refused(refusal),
             None => Answer::BadLine,
         }
+    }
+
+    fn ask(&mut self, call: Call) -> Result<String, Refusal> {
+        if call.asks_for_a_graph() {
+            narrowing::is_graph(&self.current)?;
+        }
+        self.call(call)
     }
 
     fn call(&mut self, call: Call) -> Result<String, Refusal> {
@@ -88,6 +95,7 @@ impl Calls {
             Call::Swap => self.swap(),
             Call::Save => self.save(),
             Call::Restore => self.restore(),
+            Call::Rubbish => self.rubbish(),
             Call::Using(stack, path) => self.using(stack, path),
             Call::Below(node) => self.below(node),
             Call::Intro(node) => self.intro(node),
@@ -229,6 +237,11 @@ impl Calls {
 
     fn restore(&mut self) -> Result<String, Refusal> {
         self.current = self.saved.clone();
+        done()
+    }
+
+    fn rubbish(&mut self) -> Result<String, Refusal> {
+        self.current = Judge::rubbish();
         done()
     }
 

@@ -9,11 +9,13 @@ use crate::pcp::prim_graph::{ArcType, NodeDesc, NodeFlags, NodeId, PrimIndexGrap
 use crate::record::Record;
 use crate::sdf::Path;
 
-/// The Rust's graph and the one mark it does not keep: whether its strength order is current (document 01: a room).
+/// The Rust's graph, the one mark it does not keep, whether its strength order is current, and whether there is a graph
+/// at all (document 01: a room).
 #[derive(Clone, Default)]
 pub struct Judge {
     graph: PrimIndexGraph,
     ordered: bool,
+    rubbish: bool,
 }
 
 /// The three marks of a graph.
@@ -25,6 +27,15 @@ pub struct Marks {
 }
 
 impl Judge {
+    /// Bytes that hold no graph.
+    pub fn rubbish() -> Self {
+        Self { rubbish: true, ..Self::default() }
+    }
+
+    pub fn is_graph(&self) -> bool {
+        !self.rubbish
+    }
+
     /// The Rust's graph, to be asked.
     pub fn graph(&self) -> &PrimIndexGraph {
         &self.graph
@@ -127,7 +138,7 @@ impl Judge {
 
     /// The graph of the child prim, marked as [`deepen`](Self::deepen) marks it.
     pub fn seed_child(&self, child: &Path) -> Self {
-        Self { graph: self.graph.seed_child(child), ordered: self.is_finalized() }
+        Self { graph: self.graph.seed_child(child), ordered: self.is_finalized(), rubbish: false }
     }
 }
 

@@ -40,9 +40,18 @@ pub enum Call<'a> {
     Swap,
     Save,
     Restore,
+    Rubbish,
     Using(u32, &'a [u8]),
     Below(u32),
     Intro(u32),
+}
+
+impl Call<'_> {
+    /// Whether the call asks first that the current bytes hold a graph.
+    pub fn asks_for_a_graph(&self) -> bool {
+        use Call::*;
+        !matches!(self, Path(_) | Back(..) | Join(..) | New | Read(_) | Swap | Save | Restore | Rubbish)
+    }
 }
 
 /// The call that `line` writes. Words stand between single spaces and have at least one byte.
@@ -84,6 +93,7 @@ pub fn parse(line: &[u8]) -> Option<Call<'_>> {
         [b"swap"] => Call::Swap,
         [b"save"] => Call::Save,
         [b"restore"] => Call::Restore,
+        [b"rubbish"] => Call::Rubbish,
         [b"using", stack, path] => Call::Using(number(stack)?, path),
         [b"below", node] => Call::Below(number(node)?),
         [b"intro", node] => Call::Intro(number(node)?),

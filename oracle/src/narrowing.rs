@@ -2,12 +2,12 @@
 //! refusal but 12 comes from here, and nothing else does; it is written from document 01 alone.
 //!
 //! A function makes the checks of its call in document 01's order and hands back what has then become an argument that
-//! the Rust can take. Checks 1 and 2 cannot fail: the lines lend no buffers, and only accepted calls write a graph.
-//! Check 12 is in `snapshot.rs`.
+//! the Rust can take. Check 1 cannot fail: the lines lend no buffers. Check 12 is in `snapshot.rs`.
 
 use std::cmp::Ordering;
 
 use crate::flags::{self, CULLED, INERT};
+use crate::judge::Judge;
 use crate::pcp::LayerId;
 use crate::pcp::layer_stack::LayerStackId;
 use crate::pcp::mapping::MapFunction;
@@ -19,6 +19,7 @@ use crate::sdf::Path;
 pub const MAX_NODES: usize = 1_024;
 pub const MAX_PATH_BYTES: usize = 32_768;
 
+const NO_GRAPH: Refusal = Refusal::new(2, "the bytes hold no graph; the Rust always has one");
 const NO_NODE_0: Refusal = Refusal::new(3, "the graph is empty; the Rust returns, or is never asked");
 const STARTED: Refusal = Refusal::new(3, "there is a node 0 already; the Rust only asserts that there is none");
 const NODE_TOO_HIGH: Refusal = Refusal::new(4, "no node has this number; the Rust would stop at its array");
@@ -40,6 +41,11 @@ const NOT_ORDERED: Refusal = Refusal::new(10, "the order is not current; the Rus
 const NEITHER_GOES_NOR_STAYS: Refusal = Refusal::new(11, "a byte is 0 or 1; the Rust's type has no other");
 const ROOT_GOES: Refusal = Refusal::new(11, "a Root arc would go; the Rust erases it");
 const LINK_GOES: Refusal = Refusal::new(11, "a kept node's parent or origin would go; the Rust only asserts it stays");
+
+/// Check 2: there is a graph.
+pub fn is_graph(judge: &Judge) -> Result<(), Refusal> {
+    NO_GRAPH.unless(judge.is_graph())
+}
 
 /// Check 3: there is a node 0.
 pub fn node_0(graph: &PrimIndexGraph) -> Result<(), Refusal> {

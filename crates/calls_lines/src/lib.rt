@@ -15,10 +15,10 @@ pub struct State {
     pub swapped: bool,
 }
 
-fn clear(arena: &mut [u8]) {
+fn fill(arena: &mut [u8], byte: u8) {
     let mut i: usize = 0;
     while i < arena.len() {
-        arena[i] = 0;
+        arena[i] = byte;
         i += 1;
     }
 }
@@ -41,9 +41,9 @@ pub fn answer(
     used: usize,
 ) -> State {
     if is_call(line, b"new", 1) {
-        clear(first);
-        clear(second);
-        clear(saved);
+        fill(first, 0);
+        fill(second, 0);
+        fill(saved, 0);
         return State {
             used: put(out, used, b"ok"),
             swapped: false,
@@ -95,7 +95,7 @@ fn seed_line(
     }
 }
 
-// `save` and `restore`: the arena copied to the saved one, and back. Else the answer to a line on the arena alone.
+// `save` and `restore`: the arena copied to the saved one, and back. `rubbish`: bytes that hold no graph. Else the answer to a line on the arena alone.
 fn answer_saving(
     line: &[u8],
     arena: &mut [u8],
@@ -109,6 +109,10 @@ fn answer_saving(
     }
     if is_call(line, b"restore", 1) {
         overwrite(arena, saved);
+        return put(out, used, b"ok");
+    }
+    if is_call(line, b"rubbish", 1) {
+        fill(arena, 255);
         return put(out, used, b"ok");
     }
     answer_on(line, arena, out, used)

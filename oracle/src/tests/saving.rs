@@ -1,4 +1,4 @@
-//! `save` and `restore`: what comes back, and where.
+//! `save` and `restore`: what comes back, and where; `rubbish`: what is refused, and what fills it.
 
 use super::check;
 
@@ -92,5 +92,79 @@ fn a_saved_graph_is_restored_into_the_other_arena() {
         dump => 0,1,0,0,-,-,1,0,0,0,1,/M
         swap => ok
         dump => 0,1,0,0,-,-,1,0,0,0,1,/M/b",
+    );
+}
+
+/// Every call that works on a graph is refused 2, whatever else is wrong with it.
+#[test]
+fn rubbish_holds_no_graph() {
+    let calls = "init 0 0 /M
+        init 0 0 M
+        add - 0 0 0 0 - - 0 0 0 1 /M
+        add 9 9 9 9 9 9 9 9 9 9 9 /M
+        write
+        dump
+        chains
+        marks
+        compare 0 0
+        sibling 0 1
+        compares
+        ancestor 0 0
+        site 0 0
+        propagated 0
+        copy 0
+        class 0
+        order
+        list
+        cull
+        erasable
+        erase 2
+        deepen /
+        seed /a
+        using 0 /M
+        below 0
+        intro 0";
+    for call in calls.lines() {
+        check(&format!("rubbish => ok\n{} => refused 2", call.trim()));
+    }
+    check("rubbish => ok\npath /A => 1 / A\nback 1 /A => /\njoin /A /B => /A/B\nadd => bad line");
+}
+
+/// Reading and seeding fill it, a refused call leaves it.
+#[test]
+fn rubbish_is_filled() {
+    check(
+        "rubbish => ok
+        read 00 => refused 12
+        marks => refused 2
+        read 00000003010000 => 0
+        marks => 0 0 0
+        rubbish => ok
+        swap => ok
+        init 0 0 /M => 0
+        seed / => refused 5
+        seed /a => ok
+        dump => 0,1,0,0,-,-,1,0,0,0,1,/M/a
+        chains => 
+        swap => ok
+        dump => 0,1,0,0,-,-,1,0,0,0,1,/M",
+    );
+}
+
+#[test]
+fn rubbish_is_saved_as_a_graph_is() {
+    check(
+        "rubbish => ok
+        save => ok
+        new => ok
+        restore => ok
+        marks => 0 0 0
+        rubbish => ok
+        save => ok
+        read 00000003010000 => 0
+        restore => ok
+        list => refused 2
+        swap => ok
+        list => refused 3",
     );
 }

@@ -1,17 +1,17 @@
--- `calls_lines::clear` is safe and ends. The invariant of its loop: the arena keeps its length.
+-- `calls_lines::fill` is safe and ends. The invariant of its loop: the arena keeps its length.
 -- The measure is how many bytes are left. Assumes nothing.
 use Prim.Native.Nat.{_-_}
 use mathlib.Core.Path.{_≡_}
 use borrow.Author.Needs.{needs}
 use lib.ListN.{length}
-use Rattle.calls_lines.proofs.clear.Statement.{statement}
-use Rattle.calls_lines.proofs.clear.Tie as tie
+use Rattle.calls_lines.proofs.fill.Statement.{statement}
+use Rattle.calls_lines.proofs.fill.Tie as tie
 
 abbrev Inv-loop : tie.InvT-loop
-Inv-loop arena₀ i₀ arena i = length arena ≡ length arena₀
+Inv-loop arena₀ byte₀ i₀ arena i = length arena ≡ length arena₀
 
 abbrev μ-loop : tie.MeasureT-loop
-μ-loop arena₀ i₀ arena i = length arena₀ - i
+μ-loop arena₀ byte₀ i₀ arena i = length arena₀ - i
 
 loop-holds : tie.Need-loop-holds Inv-loop μ-loop
 loop-holds c = search needs
@@ -34,8 +34,8 @@ same-length c = search needs
 returns : tie.Need-returns Inv-loop μ-loop
 returns c = search needs
 
-pub clear-spec : {M : Type 1} → statement M
-clear-spec =
+pub fill-spec : {M : Type 1} → statement M
+fill-spec =
     tie.close
     (tie.spec
     Inv-loop
