@@ -20,9 +20,9 @@ usage: bench [paths]                measure reading paths
        bench strength               measure comparing nodes
        bench order                  measure ordering graphs
        bench culling                measure culling, the erasable set and erasing
-       bench arenas SEED COUNT      compare the check on COUNT arenas, whole and damaged
+       bench arenas SEED COUNT      compare the check on COUNT damaged arenas, and on whole ones
        bench snapshots SEED COUNT   compare the reading of COUNT snapshots, whole and damaged
-       bench orders SEED COUNT      compare the ordering of COUNT arenas
+       bench orders SEED COUNT      compare the ordering of COUNT small graphs, and of larger ones
        bench erasures SEED COUNT    compare culling and erasing in COUNT arenas";
 
 fn main() -> ExitCode {

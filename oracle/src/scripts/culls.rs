@@ -101,7 +101,8 @@ impl Script<'_> {
             erasable = self.say("erasable")?.unwrap_or_default();
         }
         self.erase(erasable.as_bytes())?;
-        self.say_all(&["order", "list", "chains"])?;
+        self.say("order")?;
+        self.show()?;
         match self.random.below(8) {
             0 | 1 => self.order_afresh(),
             2 => self.add_one(),

@@ -1,5 +1,7 @@
 //! Arenas with random graphs.
 
+use std::collections::HashMap;
+
 use super::graphs;
 use crate::layout::*;
 use crate::random::Random;
@@ -97,6 +99,12 @@ impl Arena {
 
     pub fn put_number(&mut self, at: usize, number: u32) {
         self.put(at, &number.to_be_bytes());
+    }
+
+    /// Whether some byte is another than before it was damaged.
+    pub fn is_changed(&self) -> bool {
+        let before: HashMap<usize, u8> = self.changed.iter().rev().copied().collect();
+        before.iter().any(|(&at, &byte)| self.bytes[at] != byte)
     }
 
     /// Takes all changes back.

@@ -10,7 +10,7 @@ use crate::record::{ARC, DEPTH, FIXED_BYTES, FLAGS, HAS_SPECS, ORIGIN, PARENT, R
 type Kind = fn(&mut Arena, &mut Random);
 
 /// Each kind, by what it changes.
-pub const KINDS: [(&str, Kind); 24] = [
+pub const KINDS: [(&str, Kind); 25] = [
     ("marks", marks),
     ("any byte that is used", used_byte),
     ("any byte that is not used", unused_byte),
@@ -19,7 +19,8 @@ pub const KINDS: [(&str, Kind); 24] = [
     ("last child to another node", |arena, random| link(arena, random, LAST_CHILD)),
     ("child list cut short", cut_list),
     ("child list into a cycle", close_list),
-    ("tails of two child lists crossed", cross_tails),
+    ("tails of two child lists crossed", |arena, random| exchange_tails(arena, random, false)),
+    ("tails of one child list exchanged", |arena, random| exchange_tails(arena, random, true)),
     ("link out of range", link_out_of_range),
     ("child moved to another list", move_child),
     ("parent", |arena, random| any_number(arena, random, RECORD + PARENT)),
@@ -141,9 +142,16 @@ fn close_list(arena: &mut Arena, random: &mut Random) {
     }
 }
 
-fn cross_tails(arena: &mut Arena, random: &mut Random) {
-    let one = linked_slot(arena, random, NEXT_SIBLING) + NEXT_SIBLING;
-    let other = any_slot(arena, random) + NEXT_SIBLING;
+/// Exchanges what follows two children, of one parent or of two. Changes nothing where there are no such children.
+fn exchange_tails(arena: &mut Arena, random: &mut Random, one_parent: bool) {
+    let slot = linked_slot(arena, random, NEXT_SIBLING);
+    let parent = |slot: usize| arena.number(slot + RECORD + PARENT);
+    let fits = |other: &usize| (parent(*other) == parent(slot)) == one_parent;
+    let others: Vec<usize> = (1..arena.count()).map(slot_at).filter(fits).collect();
+    if others.is_empty() {
+        return;
+    }
+    let (one, other) = (slot + NEXT_SIBLING, random.pick(&others) + NEXT_SIBLING);
     let (after_one, after_other) = (arena.number(one), arena.number(other));
     arena.put_number(one, after_other);
     arena.put_number(other, after_one);

@@ -7,9 +7,19 @@ use crate::random::Random;
 use crate::record::{FIXED_BYTES, ROOT};
 use crate::snapshot::HEADER;
 
-/// A damaged snapshot of `nodes`: fields are changed before they are written, or bytes afterwards, or both.
+/// A damaged snapshot of `nodes`, never the whole one.
 pub fn damaged(random: &mut Random, nodes: &[Node]) -> Vec<u8> {
-    let mut nodes = nodes.to_vec();
+    let whole = graphs::snapshot(nodes);
+    loop {
+        let bytes = changed(random, nodes.to_vec());
+        if bytes != whole {
+            return bytes;
+        }
+    }
+}
+
+/// Fields are changed before they are written, or bytes afterwards, or both. A change may put what was there before.
+fn changed(random: &mut Random, mut nodes: Vec<Node>) -> Vec<u8> {
     let way = random.below(8);
     if way < 6 {
         for _ in 0..random.pick(&[1, 1, 1, 2, 3]) {

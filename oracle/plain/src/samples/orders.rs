@@ -1,9 +1,10 @@
 //! Graphs to be ordered: small ones of which many have a child list without an order, larger ones, and the same graph
 //! with its nodes added in another sequence.
 
+use super::culls;
 use super::graphs::{self, Node};
 use super::strength::{self, alike, long_chains, sibling_pairs};
-use crate::layout::INVALID;
+use crate::layout::{INVALID, MAX_NODES};
 use crate::random::Random;
 use crate::record::{HAS_SPECIALIZES, SPECIALIZE};
 use crate::strength::{Line, Rule, Strength};
@@ -26,6 +27,23 @@ pub fn large(random: &mut Random, most: usize) -> Vec<Node> {
 /// So many nodes; half of the graphs so alike that most of them have an order.
 pub fn full(random: &mut Random, count: usize) -> Vec<Node> {
     let nodes = if random.one_in(2) { any(random, count, count) } else { long_chains(random, count) };
+    half_alike(random, nodes)
+}
+
+/// As many nodes as there may be. One graph in five is of [`full`], where some child lists take a second to be sorted;
+/// the others have lists of fewer than 250 nodes, and half of those are deep.
+pub fn largest(random: &mut Random) -> Vec<Node> {
+    match random.below(5) {
+        0 => full(random, MAX_NODES),
+        1 | 2 => culls::full(random, MAX_NODES, false),
+        _ => {
+            let nodes = graphs::nodes(random, MAX_NODES);
+            half_alike(random, nodes)
+        }
+    }
+}
+
+fn half_alike(random: &mut Random, nodes: Vec<Node>) -> Vec<Node> {
     if random.one_in(2) { alike(nodes) } else { nodes }
 }
 

@@ -92,11 +92,12 @@ fn damaged_arenas() {
 fn restored_arenas() {
     let mut random = Random::new(5);
     let mut arena = Arena::any(&mut random);
-    for _ in 0..50 {
+    for _ in 0..500 {
         arena.fill(&mut random);
         let before = arena.bytes().to_vec();
         damage(&mut arena, &mut random);
+        assert_eq!(arena.is_changed(), arena.bytes() != before);
         arena.restore();
-        assert!(arena.bytes() == before);
+        assert!(arena.bytes() == before && !arena.is_changed());
     }
 }

@@ -1,10 +1,10 @@
 //! Graphs whose nodes are added in another sequence, and where node numbers decide.
 
-use crate::layout::{ARENA_BYTES, INVALID};
+use crate::layout::{ARENA_BYTES, INVALID, MAX_NODES};
 use crate::random::Random;
 use crate::record::{HAS_SPECIALIZES, INERT, ROOT, SPECIALIZE};
 use crate::samples::graphs::{Node, snapshot};
-use crate::samples::orders::{numbers_decide, resequenced, small};
+use crate::samples::orders::{largest, numbers_decide, resequenced, small};
 use crate::samples::strength::ORDERED_SHAPES;
 
 /// The nodes without their links, in an order of their own.
@@ -82,4 +82,19 @@ fn shapes() {
             );
         }
     }
+}
+
+#[test]
+fn largest_graphs() {
+    let mut random = Random::new(22);
+    let mut arena = vec![0; ARENA_BYTES];
+    let mut short = 0;
+    for _ in 0..50 {
+        let nodes = largest(&mut random);
+        assert_eq!(crate::snapshot::read(&snapshot(&nodes), &mut arena), Ok(MAX_NODES));
+        let mut lengths = vec![0; MAX_NODES];
+        nodes.iter().skip(1).for_each(|node| lengths[node.parent as usize] += 1);
+        short += usize::from(lengths.iter().all(|&length| length < 250));
+    }
+    assert!((35..50).contains(&short), "{short}");
 }

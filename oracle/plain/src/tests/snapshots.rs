@@ -79,6 +79,7 @@ fn damaged_snapshots() {
         let nodes = graphs::nodes(&mut random, size);
         assert_eq!(count(&graphs::snapshot(&nodes)), Ok(size));
         let bytes = damaged(&mut random, &nodes);
+        assert_ne!(bytes, graphs::snapshot(&nodes));
         let counted = count(&bytes);
         assert_eq!(counted, definitions::read_snapshot(&bytes), "{bytes:?}");
         assert_eq!(read(&bytes, &mut arena), counted);
