@@ -8,7 +8,7 @@ BEGIN { begin() }
 # digits are text here, not numbers
 { if ((getline answer <answers) < 1) fail("no answer"); answer = answer "" }
 
-$1 == "" { if (lists++ && (calls < 5 || calls > 30)) fail("the list before has " calls " calls"); calls = 0; next }
+$1 == "" { if (lists++) ended(); calls = 0; next }
 $1 == "write" { written = answer; next }
 $1 == "erasable" { erasable = answer; if (erasable != largest()) fail(erasable " is erasable"); owe(); next }
 $1 == "save" || $1 == "restore" { if (answer != "ok" || trial != ($1 == "save" ? "" : "save")) fail($1 " is out of place"); trial = $1; next }
@@ -24,11 +24,13 @@ $1 == "chains" { now[$1] = answer; if (trial == "save") tried(); else check(); n
 }
 
 END {
-    if (!failed) settled()
+    if (!failed) { settled(); ended() }
     if (failed) exit 1
     found["lists"] = lists
     for (what in found) print found[what], what
 }
+
+function ended() { if (calls < 5 || calls > 30) fail("the list before has " calls " calls") }
 
 function fail(text) { print "line " NR ": " text; failed = 1; exit 1 }
 
