@@ -5,6 +5,7 @@ use std::process::Command;
 
 use plain::arena::holds_graph;
 use plain::layout::{ARENA_BYTES, INVALID, LOCAL_ROOT};
+use plain::order;
 use plain::path::prim_count;
 use plain::samples::graphs::{Node, grown, snapshot};
 
@@ -20,6 +21,8 @@ pub fn measure() -> bool {
     println!("nanoseconds for each node; paths of some 30 bytes\n");
     println!("checking an arena: nodes, plain Rust, proved, proved / plain");
     SIZES.iter().for_each(|&size| check(&Graph::new(size)));
+    println!("\nchecking an arena that is ordered: nodes, plain Rust, proved, proved / plain");
+    SIZES.iter().for_each(|&size| check(&Graph::new(size).ordered()));
     println!("\nreading a snapshot: nodes, copying the bytes, plain Rust, proved, proved / plain");
     SIZES.iter().for_each(|&size| read(&Graph::new(size)));
     println!("\nwriting a snapshot: nodes, copying the bytes, proved, proved / copying");
@@ -44,6 +47,13 @@ impl Graph {
         let mut arena = vec![0; ARENA_BYTES];
         assert_eq!(plain::snapshot::read(&snapshot, &mut arena), Ok(size));
         Self { size, children, snapshot, arena }
+    }
+
+    /// The same graph, ordered.
+    fn ordered(mut self) -> Self {
+        let lists = order::sorted(&nodes(&self.children)).expect("each child list has an order");
+        order::write(&lists, &mut self.arena);
+        self
     }
 
     /// Nanoseconds for each node, of two ways to do a thing.
