@@ -102,6 +102,60 @@ fn a_graph_has_no_limit_there() {
 }
 
 #[test]
+fn paths_have_no_limit_together_there() {
+    let longest = format!("/{}", "a".repeat(254));
+    let mut graph = started(&longest);
+    for _ in 1..=128 {
+        let mut long = desc(ArcType::Reference);
+        long.path = path(&longest);
+        graph.add_child(NodeId(0), long);
+    }
+    assert_eq!(graph.nodes().map(|node| node.path().as_str().len()).sum::<usize>(), 32_895);
+    let add = format!("add 0 4 0 0 0 - - 0 0 0 1 {longest}");
+    let added: Vec<String> = (1..=127).map(|node| format!("{add} => {node}")).collect();
+    check(&format!("init 0 0 {longest} => 0\n{}\n{add} => refused 7", added.join("\n")));
+}
+
+#[test]
+fn culled_may_stand_on_a_root_arc_there() {
+    let mut graph = started("/A");
+    let mut culled = desc(ArcType::Root);
+    culled.flags = NodeFlags::CULLED;
+    let root = graph.add_child(NodeId(0), culled);
+    assert!(graph.node(root).is_culled());
+    let node_0 = format!("001d0001{:016}{:f>16}{:018}2f41", 0, "", 0);
+    check(&format!("read 00000041010002{node_0}001d0002{:050}2f41 => refused 6", 0));
+    check(&format!("read 00000041010002{node_0}001d0000{:050}2f41 => 2", 0));
+}
+
+/// The set has a digit for each node: none.
+#[test]
+fn an_empty_graph_is_left_as_it_is_there() {
+    let mut graph = PrimIndexGraph::default();
+    graph.cull_subtrees_without_opinions();
+    graph.append_child_name_to_all_sites(&path("/b"));
+    assert_eq!((graph.erasable(), graph.erase(&[])), (vec![], 0));
+    assert!(graph.is_empty() && graph.seed_child(&path("/b")).is_empty());
+    check(
+        "cull => refused 3\nerasable => refused 3\nerase 0 => refused 3\ndeepen /b => refused 3\nseed /b => refused 3",
+    );
+}
+
+#[test]
+#[should_panic(expected = "index out of bounds")]
+fn a_node_that_is_not_there_stops_a_comparison_there() {
+    check("init 0 0 /A => 0\ncompare 0 1 => refused 4");
+    started("/A").compare_node_strength(NodeId(0), NodeId(1));
+}
+
+#[test]
+#[should_panic(expected = "index out of bounds")]
+fn a_parent_that_is_not_there_stops_adding_there() {
+    check("init 0 0 /A => 0\nadd 1 4 0 0 0 - - 0 0 0 1 /A => refused 4");
+    started("/A").add_child(NodeId(1), desc(ArcType::Reference));
+}
+
+#[test]
 fn any_two_nodes_are_siblings_there() {
     let mut graph = started("/A");
     let child = graph.add_child(NodeId(0), desc(ArcType::Reference));
