@@ -1,92 +1,55 @@
-// The lines that cull, erase and append a child's name, for the command `calls`. Each function is handed a line that has its name and its number of words, puts the answer,
-// without a newline, after the first `used` bytes of `out`, and answers how many are then used. None has a `requires`.
+// The lines that order a graph, cull, erase and append a child's name, for the command `calls`. Each function is handed a line that has its name and its number of
+// words, puts the answer, without a newline, after the first `used` bytes of `out`, and answers how many are then used. None has a `requires`.
+mod erasures;
+mod orders;
+
 use calls_text::Answered;
-use calls_text::bad_line;
 use calls_text::is_call;
 use calls_text::put_finished;
-use calls_text::put_number;
-use calls_text::put_numbered;
-use calls_text::put_refusal;
 use calls_text::word;
-use model::Finished;
-use model::Numbered;
 
-// The answer to a line that culls, erases or appends a name.
+// The answer to a line that changes a graph in place, or reads what such a line made.
 pub fn answer(line: &[u8], arena: &mut [u8], out: &mut [u8], used: usize) -> Answered {
+    if is_call(line, b"order", 1) {
+        return Answered::Used(order_line(arena, out, used));
+    }
     if is_call(line, b"cull", 1) {
-        let culled = prim_graph::cull_subtrees_without_opinions(arena);
-        return Answered::Used(put_finished(out, used, culled));
-    }
-    if is_call(line, b"erasable", 1) {
-        return Answered::Used(erasable_line(arena, out, used));
-    }
-    if is_call(line, b"erase", 2) {
-        return Answered::Used(erase_line(line, arena, out, used));
+        return Answered::Used(cull_line(arena, out, used));
     }
     if is_call(line, b"deepen", 2) {
-        let deepened = prim_graph::append_child_name_to_all_sites(arena, word(line, 1));
-        return Answered::Used(put_finished(out, used, deepened));
+        return Answered::Used(deepen_line(line, arena, out, used));
+    }
+    answer_of_order(line, arena, out, used)
+}
+
+// The answer to a line about the order or about erasing.
+fn answer_of_order(line: &[u8], arena: &mut [u8], out: &mut [u8], used: usize) -> Answered {
+    if is_call(line, b"list", 1) {
+        return Answered::Used(orders::list_line(arena, out, used));
+    }
+    if is_call(line, b"erasable", 1) {
+        return Answered::Used(erasures::erasable_line(arena, out, used));
+    }
+    if is_call(line, b"erase", 2) {
+        return Answered::Used(erasures::erase_line(line, arena, out, used));
     }
     Answered::Unknown
 }
 
-// `erasable`: a digit for each node, 1 for one that may go.
-fn erasable_line(arena: &[u8], out: &mut [u8], used: usize) -> usize {
-    let mut set = [0u8; 1024];
-    let found = prim_graph::erasable(arena, &mut set);
-    match found {
-        Finished::Done => put_set(&set, prim_graph::count(arena), out, used),
-        Finished::Refused(refusal) => put_refusal(out, used, refusal),
-    }
+// `order`: every child list sorted.
+fn order_line(arena: &mut [u8], out: &mut [u8], used: usize) -> usize {
+    let ordered = prim_graph::finalize_strength_order(arena);
+    put_finished(out, used, ordered)
 }
 
-fn put_byte(out: &mut [u8], used: usize, byte: u8) -> usize {
-    put_number(out, used, byte as u64)
+// `cull`: what contributes nothing marked.
+fn cull_line(arena: &mut [u8], out: &mut [u8], used: usize) -> usize {
+    let culled = prim_graph::cull_subtrees_without_opinions(arena);
+    put_finished(out, used, culled)
 }
 
-// The bytes of the first nodes, as many as were counted.
-fn put_set(set: &[u8], counted: Numbered, out: &mut [u8], used: usize) -> usize {
-    let Numbered::Number(count) = counted else {
-        return used;
-    };
-    let mut end = used;
-    let mut n: u32 = 0;
-    while n < count {
-        if set.len() <= (n as usize) {
-            return end;
-        }
-        end = put_byte(out, end, set[n as usize]);
-        n += 1;
-    }
-    end
-}
-
-// `erase BITS`: how many nodes are kept. A node that has no digit stays; any digit is taken as the byte that it is, so that a wrong one can be tried.
-fn erase_line(line: &[u8], arena: &mut [u8], out: &mut [u8], used: usize) -> usize {
-    let mut set = [0u8; 1024];
-    if !read_set(word(line, 1), &mut set) {
-        return bad_line(out, used);
-    }
-    let erased = prim_graph::erase(arena, &set);
-    put_numbered(out, used, erased)
-}
-
-// Reads a digit for each node, and answers whether there are digits only, and not more than the set has bytes.
-fn read_set(digits: &[u8], set: &mut [u8]) -> bool {
-    let mut i: usize = 0;
-    while i < digits.len() {
-        let digit = digits[i];
-        if digit < b'0' {
-            return false;
-        }
-        if b'9' < digit {
-            return false;
-        }
-        if set.len() <= i {
-            return false;
-        }
-        set[i] = digit - b'0';
-        i += 1;
-    }
-    true
+// `deepen PATH`: the path's last name appended to every site.
+fn deepen_line(line: &[u8], arena: &mut [u8], out: &mut [u8], used: usize) -> usize {
+    let deepened = prim_graph::append_child_name_to_all_sites(arena, word(line, 1));
+    put_finished(out, used, deepened)
 }

@@ -1,8 +1,10 @@
 // Answers the calls that standard input names, one a line, with a line for each on standard output: all of the commands `calls` and `differential`. This
-// crate parts the input into lines; `calls_lines` answers them. Nothing is proved of what is printed, only that every function is safe and ends: none has
+// file parts the input into lines; lines.rt answers them. Nothing is proved of what is printed, only that every function is safe and ends: none has
 // a `requires`, and each does nothing with a number that does not fit the buffer beside it.
-use calls_lines::State;
+mod lines;
+
 use libc::STDIN_FILENO;
+use lines::State;
 ghost use Prim.Native.Nat.{_≤_};
 
 // What is left where a block ends: how many bytes there are of the line that goes on in the next one, and whether the arenas are swapped.
@@ -45,7 +47,7 @@ fn answer_line(
             swapped,
         };
     }
-    let answer = calls_lines::answer(
+    let answer = lines::answer(
         calls_text::front(line, held),
         first,
         second,

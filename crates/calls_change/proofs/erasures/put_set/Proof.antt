@@ -1,11 +1,11 @@
--- `calls_change::put_set` is safe and ends. The invariant of its loop: the lent buffer keeps its length. The measure is how many nodes are left. Assumes
+-- `calls_change::erasures::put_set` is safe and ends. The invariant of its loop: the lent buffer keeps its length. The measure is how many nodes are left. Assumes
 -- nothing.
 use mathlib.Core.Path.{_≡_}
 use Prim.Native.Nat.{_-_}
 use borrow.Author.Needs.{needs}
 use lib.ListN.{length}
-use Rattle.calls_change.proofs.put_set.Statement.{statement}
-use Rattle.calls_change.proofs.put_set.Tie as tie
+use Rattle.calls_change.proofs.erasures.put_set.Statement.{statement}
+use Rattle.calls_change.proofs.erasures.put_set.Tie as tie
 
 abbrev Inv-loop : tie.InvT-loop
 Inv-loop set out₀ used count end₀ n₀ out end n = length out ≡ length out₀

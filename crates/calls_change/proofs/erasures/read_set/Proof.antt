@@ -1,11 +1,11 @@
--- `calls_change::read_set` is safe and ends. The invariant of its loop: the lent buffer keeps its length. The measure is how many digits are left. Assumes
+-- `calls_change::erasures::read_set` is safe and ends. The invariant of its loop: the lent buffer keeps its length. The measure is how many digits are left. Assumes
 -- nothing.
 use mathlib.Core.Path.{_≡_}
 use Prim.Native.Nat.{_-_}
 use borrow.Author.Needs.{needs}
 use lib.ListN.{length}
-use Rattle.calls_change.proofs.read_set.Statement.{statement}
-use Rattle.calls_change.proofs.read_set.Tie as tie
+use Rattle.calls_change.proofs.erasures.read_set.Statement.{statement}
+use Rattle.calls_change.proofs.erasures.read_set.Tie as tie
 
 abbrev Inv-loop : tie.InvT-loop
 Inv-loop digits set₀ i₀ set i = length set ≡ length set₀

@@ -1,27 +1,11 @@
-// The lines about the order, for the command `calls`. Each function is handed a line that has its name and its number of words, puts the answer, without
-// a newline, after the first `used` bytes of `out`, and answers how many are then used. None has a `requires`.
-use calls_text::Answered;
-use calls_text::is_call;
+// The line that lists an order.
 use calls_text::put_between;
-use calls_text::put_finished;
 use calls_text::put_number;
 use calls_text::put_refusal;
 use model::Numbered;
 
-// The answer to a line about the order.
-pub fn answer(line: &[u8], arena: &mut [u8], out: &mut [u8], used: usize) -> Answered {
-    if is_call(line, b"order", 1) {
-        let ordered = prim_graph::finalize_strength_order(arena);
-        return Answered::Used(put_finished(out, used, ordered));
-    }
-    if is_call(line, b"list", 1) {
-        return Answered::Used(list_line(arena, out, used));
-    }
-    Answered::Unknown
-}
-
 // `list`: the order.
-fn list_line(arena: &[u8], out: &mut [u8], used: usize) -> usize {
+pub(crate) fn list_line(arena: &[u8], out: &mut [u8], used: usize) -> usize {
     let mut order = io::buffer();
     let read = prim_graph::strength_order(arena, &mut order);
     match read {

@@ -1,11 +1,11 @@
--- `calls_order::put_entries` is safe and ends. The invariant of its loop: the lent buffer keeps its length.
+-- `calls_change::orders::put_entries` is safe and ends. The invariant of its loop: the lent buffer keeps its length.
 -- The measure is how many entries are left. Assumes nothing.
 use Prim.Native.Nat.{_-_}
 use mathlib.Core.Path.{_≡_}
 use borrow.Author.Needs.{needs}
 use lib.ListN.{length}
-use Rattle.calls_order.proofs.put_entries.Statement.{statement}
-use Rattle.calls_order.proofs.put_entries.Tie as tie
+use Rattle.calls_change.proofs.orders.put_entries.Statement.{statement}
+use Rattle.calls_change.proofs.orders.put_entries.Tie as tie
 
 abbrev Inv-loop : tie.InvT-loop
 Inv-loop order count out₀ used end₀ n₀ t9 out end n = length out ≡ length out₀

@@ -1,6 +1,5 @@
-// The answer to any line of the command `calls`, the two arenas that the lines work on, and a third where one of them is saved. The lines about more than one
-// arena are here; the other lines are answered by the crates `calls_make`, `calls_order`, `calls_change`, `calls_look`, `calls_compare`, `calls_dump` and
-// `calls_paths`. No function has a `requires`.
+// The answer to any line, the two arenas that the lines work on, and a third where one of them is saved. The lines about more than one arena are here; the
+// others are answered by the crates `calls_make`, `calls_change`, `calls_look`, `calls_compare`, `calls_dump` and `calls_paths`.
 use calls_text::Answered;
 use calls_text::bad_line;
 use calls_text::is_call;
@@ -10,9 +9,9 @@ use calls_text::word;
 use model::Finished;
 
 // What goes on from line to line: how many bytes of the output are used, and whether the second arena is the current one.
-pub struct State {
-    pub used: usize,
-    pub swapped: bool,
+pub(crate) struct State {
+    pub(crate) used: usize,
+    pub(crate) swapped: bool,
 }
 
 fn fill(arena: &mut [u8], byte: u8) {
@@ -31,7 +30,7 @@ fn overwrite(to: &mut [u8], from: &[u8]) {
 }
 
 // Puts the answer to a line, without a newline.
-pub fn answer(
+pub(crate) fn answer(
     line: &[u8],
     first: &mut [u8],
     second: &mut [u8],
@@ -125,10 +124,6 @@ fn answer_on(line: &[u8], arena: &mut [u8], out: &mut [u8], used: usize) -> usiz
     }
     let made = calls_make::answer(line, arena, out, used);
     if let Answered::Used(end) = made {
-        return end;
-    }
-    let ordered = calls_order::answer(line, arena, out, used);
-    if let Answered::Used(end) = ordered {
         return end;
     }
     let changed = calls_change::answer(line, arena, out, used);
