@@ -11,9 +11,9 @@ use Rattle.view.proofs.ViewLaws.{legal, standing-lower}
 use Rattle.walks.specs.declared.parting.Parting.{Parting}
 use Rattle.walks.specs.declared.parting.Parting.the-variants.{Apart}
 use Rattle.walks.specs.Walks.{Siblings, comparedAt, Parts}
-use Rattle.strength.specs.declared.lines.Verdict.{Verdict}
-use Rattle.strength.specs.declared.lines.Verdict.the-variants.{Ask}
-use Rattle.strength.specs.Verdicts.{Pair, resolve, Weighed}
+use Rattle.verdicts.specs.declared.Verdict.{Verdict}
+use Rattle.verdicts.specs.declared.Verdict.the-variants.{Ask}
+use Rattle.verdicts.specs.Verdicts.{Pair, resolve, Weighed}
 
 -- ---- Siblings: `v` is what the lines say, `w` its form that was matched
 

@@ -1,112 +1,44 @@
--- The lines that ask no strength of nodes: numbers, "same origin", the local line and the depth line, each from the tests that decide it.
--- Assumes nothing.
-use mathlib.Core.Path.{_≡_, refl, sym}
-use mathlib.Core.Bool.{Bool, true, false, cond, or-true, and-false}
-use Prim.Native.Nat.{ℕ, _<_}
-use native.Mathlib.Omega.{arith}
-use native.Mathlib.Decide.{decLt}
-use borrow.Author.Tests.{eq-eqb, ne-eqb, lt-ltb, le-ltb}
+-- The lines on two siblings: the list settled by a line that differs, handed on where a line is passed, or the origins asked. Assumes nothing.
+use mathlib.Core.Path.{_≡_, sym}
+use mathlib.Core.Bool.{true, false, _&&_}
+use mathlib.Core.List.{List}
+use Prim.Native.Nat.{ℕ}
 use Rattle.model.specs.declared.Ordering.{Ordering}
-use Rattle.model.specs.declared.Ordering.the-variants.{Less, Equal, Greater}
-use Rattle.model.specs.Strength.{View, first, smaller, isAuthored, originRootNode, originsAreNested, impliedOver, sameOriginLines, localLine, depthLine}
-use Rattle.walks.specs.declared.OriginRoot.{OriginRoot}
-use Rattle.walks.specs.Walks.{RootOf}
+use Rattle.model.specs.Strength.{View, smaller, specializesLines, plainLines, siblingLines}
+use Rattle.view.specs.View.{viewIn}
+use Rattle.verdicts.specs.declared.Verdict.{Verdict}
+use Rattle.verdicts.specs.declared.Verdict.the-variants.{Settled, Ask}
+use Rattle.verdicts.specs.Verdicts.{Pair, Weighed}
+use Rattle.verdicts.proofs.NumberLaws.{bySibling, passed, settles}
+use Rattle.verdicts.proofs.VerdictLaws.{origins-asked}
 
--- "sibling number, then node number"
-abbrev pub bySibling : View → ℕ → ℕ → Ordering
-bySibling u a b = first (smaller (u .sibling a) (u .sibling b)) (smaller a b)
+module _ (u : View) (bs : List ℕ) (a b : ℕ) where
+  -- "3. Larger depth."
+  pub depths-differ : {o : Ordering} → (u .depth a ≡ u .depth b → ⊥) → o ≡ smaller (u .depth b) (u .depth a) → Weighed (plainLines u) bs a b (Settled o)
+  unfolding plainLines
+  depths-differ differ e = record { agrees = λ nodes. rw (settles (u .depth b) (u .depth a) _ (λ q. differ (sym q)), plainLines) e; asks = tt }
 
-cond-same : (t : Bool) (o : Ordering) → cond t o o ≡ o
-cond-same true o = refl
-cond-same false o = refl
+  -- "1. Smaller arc."
+  pub ranks-differ : {o : Ordering} → (u .rank a ≡ u .rank b → ⊥) → o ≡ smaller (u .rank a) (u .rank b) → Weighed (siblingLines u) bs a b (Settled o)
+  unfolding siblingLines
+  ranks-differ differ e = record { agrees = λ nodes. rw (settles (u .rank a) (u .rank b) _ differ, siblingLines) e; asks = tt }
 
--- ---- Numbers
+  -- "2. Both HAS_SPECIALIZES: go to the list below."
+  pub both-special : {v : Verdict} → u .rank a ≡ u .rank b → (u .special a && u .special b) ≡ true → Weighed (specializesLines u) bs a b v
+      → Weighed (siblingLines u) bs a b v
+  unfolding siblingLines
+  both-special same e w = record { agrees = λ nodes. rw (passed (u .rank a) (u .rank b) _ same, e, siblingLines) (w .agrees nodes); asks = w .asks }
 
-pub smaller-lt : (x y : ℕ) → x < y → smaller x y ≡ Less
-unfolding smaller
-smaller-lt x y h = rw (lt-ltb x y h, smaller)
+  pub not-both-special : {v : Verdict} → u .rank a ≡ u .rank b → (u .special a && u .special b) ≡ false → Weighed (plainLines u) bs a b v
+      → Weighed (siblingLines u) bs a b v
+  unfolding siblingLines
+  not-both-special same e w = record { agrees = λ nodes. rw (passed (u .rank a) (u .rank b) _ same, e, siblingLines) (w .agrees nodes); asks = w .asks }
 
-pub smaller-eq : (x y : ℕ) → x ≡ y → smaller x y ≡ Equal
-unfolding smaller
-smaller-eq x y h = rw (le-ltb x y (omega arith), eq-eqb x y h, smaller)
-
-pub smaller-gt : (x y : ℕ) → y < x → smaller x y ≡ Greater
-unfolding smaller
-smaller-gt x y h = rw (le-ltb x y (omega arith), ne-eqb x y (λ e. omega arith), smaller)
-
--- a line that does not differ is passed
-pub passed : (x y : ℕ) (rest : Ordering) → x ≡ y → first (smaller x y) rest ≡ rest
-passed x y rest h = rw (smaller-eq x y h)
-
--- one that differs settles the list
-pub settles : (x y : ℕ) (rest : Ordering) → (x ≡ y → ⊥) → first (smaller x y) rest ≡ smaller x y
-settles x y rest h = go (decLt x y)
-  where
-    go : Dec (x < y) → first (smaller x y) rest ≡ smaller x y
-    go (yes l) = rw (smaller-lt x y l)
-    go (no l) = rw (smaller-gt x y (omega arith))
-
--- two numbers that were read compare as what they were read from
-module _ {x y m n : ℕ} (left : x ≡ m) (right : y ≡ n) where
-  pub read-same : x ≡ y → m ≡ n
-  read-same e = omega arith
-
-  pub read-other : (x ≡ y → ⊥) → m ≡ n → ⊥
-  read-other differ e = differ (omega arith)
-
-  pub read-smaller : {o : Ordering} → o ≡ smaller x y → o ≡ smaller m n
-  read-smaller e = rw (← left, ← right) e
-
--- ---- What the tests of one node or of two decide
-
-module _ (u : View) (a b : ℕ) where
-  -- "Same origin: authored, sibling number, then node number; else implied over not implied, then node number"
-
-  pub authored-left : isAuthored u a ≡ true → sameOriginLines u a b ≡ bySibling u a b
-  unfolding sameOriginLines
-  authored-left e = rw (e, sameOriginLines)
-
-  pub authored-right : isAuthored u b ≡ true → sameOriginLines u a b ≡ bySibling u a b
-  unfolding sameOriginLines
-  authored-right e = rw (e, or-true, sameOriginLines)
-
-  pub neither-authored : isAuthored u a ≡ false → isAuthored u b ≡ false → sameOriginLines u a b ≡ first (impliedOver u a b) (smaller a b)
-  unfolding sameOriginLines
-  neither-authored e f = rw (e, f, sameOriginLines)
-
-  -- "if neither is authored and both have the local root's stack, implied over not"
-
-  pub local-authored-left : isAuthored u a ≡ true → localLine u a b ≡ Equal
-  unfolding localLine
-  local-authored-left e = rw (e, localLine)
-
-  pub local-authored-right : isAuthored u b ≡ true → localLine u a b ≡ Equal
-  unfolding localLine
-  local-authored-right e = rw (e, or-true, localLine)
-
-  pub not-local-left : u .localStack a ≡ false → localLine u a b ≡ Equal
-  unfolding localLine
-  not-local-left e = rw (e, and-false, localLine)
-
-  pub not-local-right : u .localStack b ≡ false → localLine u a b ≡ Equal
-  unfolding localLine
-  not-local-right e = rw (e, and-false, and-false, localLine)
-
-  pub both-local : isAuthored u a ≡ false → isAuthored u b ≡ false → u .localStack a ≡ true → u .localStack b ≡ true → localLine u a b ≡ impliedOver u a b
-  unfolding localLine
-  both-local e f g h = rw (e, f, g, h, localLine)
-
-  -- "Unless R(a), R(b) are nested: larger depth"
-
-  pub one-depth : u .depth a ≡ u .depth b → depthLine u a b ≡ Equal
-  unfolding depthLine
-  one-depth e = rw (smaller-eq (u .depth b) (u .depth a) (sym e), depthLine) (cond-same (originsAreNested u (originRootNode u a) (originRootNode u b)) Equal)
-
-  module _ (ra rb : OriginRoot) (left : RootOf u a ra) (right : RootOf u b rb) where
-    pub roots-nested : originsAreNested u (ra .node) (rb .node) ≡ true → depthLine u a b ≡ Equal
-    unfolding depthLine
-    roots-nested e = rw (← left .node, ← right .node, e, depthLine)
-
-    pub not-nested : originsAreNested u (ra .node) (rb .node) ≡ false → depthLine u a b ≡ smaller (u .depth b) (u .depth a)
-    unfolding depthLine
-    not-nested e = rw (← left .node, ← right .node, e, depthLine)
+-- "4. Node strength of the origins. 5. Smaller sibling number, then smaller node number."
+pub origins-then-siblings : {bs : List ℕ} {root a b : ℕ} → Pair bs root a b → {x y : ℕ} {o : Ordering} → viewIn bs .depth a ≡ viewIn bs .depth b
+    → x ≡ viewIn bs .origin a → y ≡ viewIn bs .origin b → o ≡ bySibling (viewIn bs) a b → Weighed (plainLines (viewIn bs)) bs a b (Ask x y o)
+unfolding plainLines
+origins-then-siblings {bs} {root} {a} {b} pair same p q e = rw (p, q, e) record {
+  agrees = λ nodes. rw (passed (viewIn bs .depth b) (viewIn bs .depth a) _ (sym same), plainLines);
+  asks = origins-asked pair;
+}

@@ -1,19 +1,17 @@
 // The strength of two nodes: `compare_node_strength` and `compare_sibling_node_strength`, a cycle of two functions that ask each other about lower nodes.
-// Document 01's lists of lines stand outside the cycle, in lines.rt and specializes.rt: they settle two siblings, or say which two nodes to ask. It
+// Document 01's lists of lines stand outside the cycle, in lines.rt and crates/specializes: they settle two siblings, or say which two nodes to ask. It
 // never refuses and never writes: the nodes are of the graph that the arena holds, which callers prove; crates/comparing has the calls that put the
 // questions. `root` is the local root's number, 0 for none.
-// The definitions are in model/specs/Strength.antt; specs/Verdicts.antt says what an unsettled answer means.
+// The definitions are in model/specs/Strength.antt; verdicts/specs/Verdicts.antt says what an unsettled answer means.
 mod lines;
-mod orderings;
-mod specializes;
 
-pub use lines::Verdict;
 use model::Ordering;
+use verdicts::Verdict;
 use walks::Parting;
 ghost use mathlib.Core.Path.{_≡_};
 ghost use Rattle.model.specs.Strength.{compareSiblingNodeStrength, compareNodeStrength};
 ghost use Rattle.view.specs.View.{viewIn, Standing};
-ghost use Rattle.strength.specs.Verdicts.{Pair};
+ghost use Rattle.verdicts.specs.Verdicts.{Pair};
 
 // Which of two siblings is the stronger. A node asked with itself is Equal, and need not be walked.
 pub fn compare_sibling_node_strength(arena: &[u8], root: u32, a: u32, b: u32) -> Ordering
@@ -26,7 +24,7 @@ pub fn compare_sibling_node_strength(arena: &[u8], root: u32, a: u32, b: u32) ->
             if x == y {
                 return o;
             }
-            orderings::or_else(compare_node_strength(arena, root, x, y), o)
+            verdicts::or_else(compare_node_strength(arena, root, x, y), o)
         }
     }
 }

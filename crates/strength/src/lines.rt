@@ -1,51 +1,25 @@
 // Document 01's lines on two siblings, but for those on two that are HAS_SPECIALIZES.
-use crate::orderings;
-use crate::specializes;
-use model::Ordering;
+use verdicts::Verdict;
 ghost use mathlib.Core.Path.{_≡_};
 ghost use mathlib.Core.Bool.{_&&_};
 ghost use Rattle.model.specs.ArenaCalls.{Readable};
-ghost use Rattle.model.specs.Strength.{first, smaller, plainLines, siblingLines};
+ghost use Rattle.model.specs.Strength.{plainLines, siblingLines};
 ghost use Rattle.view.specs.View.{viewIn};
-ghost use Rattle.strength.specs.Verdicts.{Pair, Weighed};
-
-// What the lines say of two siblings: an answer, or the strength of two nodes with a lower sum, and the answer where those are Equal.
-pub enum Verdict {
-    Settled(Ordering),
-    Ask(u32, u32, Ordering),
-}
-
-// The namespace depth of node n, as wide as the numbers that are compared.
-pub(crate) fn depth(arena: &[u8], n: u32) -> u32
-    requires { ⌜ Readable (now arena) n ⌝ }
-    ensures { λ r. ⌜ r ≡ viewIn (now (arena .entry)) .depth n ⌝ }
-{
-    view::depth(arena, n) as u32
-}
-
-// "Smaller sibling number, then smaller node number."
-pub(crate) fn by_sibling(arena: &[u8], a: u32, b: u32) -> Ordering
-    requires { ⌜ Readable (now arena) a × Readable (now arena) b ⌝ }
-    ensures { λ r. ⌜ r ≡ first (smaller (viewIn (now (arena .entry)) .sibling a) (viewIn (now (arena .entry)) .sibling b)) (smaller a b) ⌝ }
-{
-    let x = view::sibling(arena, a) as u32;
-    let y = view::sibling(arena, b) as u32;
-    orderings::or_else(orderings::by_number(x, y), orderings::by_number(a, b))
-}
+ghost use Rattle.verdicts.specs.Verdicts.{Pair, Weighed};
 
 // "3. Larger depth. 4. Node strength of the origins. 5. Smaller sibling number, then smaller node number."
 fn weigh_plain(arena: &[u8], root: u32, a: u32, b: u32) -> Verdict
     requires { ⌜ Pair (now arena) root a b ⌝ }
     ensures { λ r. ⌜ Weighed (plainLines (viewIn (now (arena .entry)))) (now (arena .entry)) a b r ⌝ }
 {
-    let x = depth(arena, a);
-    let y = depth(arena, b);
+    let x = verdicts::depth(arena, a);
+    let y = verdicts::depth(arena, b);
     if x != y {
-        return Verdict::Settled(orderings::by_number(y, x));
+        return Verdict::Settled(verdicts::by_number(y, x));
     }
     let from = view::origin(arena, a);
     let to = view::origin(arena, b);
-    Verdict::Ask(from, to, by_sibling(arena, a, b))
+    Verdict::Ask(from, to, verdicts::by_sibling(arena, a, b))
 }
 
 // Whether both are HAS_SPECIALIZES.
@@ -67,7 +41,7 @@ pub(crate) fn weigh(arena: &[u8], root: u32, a: u32, b: u32) -> Verdict
     let x = view::rank(arena, a) as u32;
     let y = view::rank(arena, b) as u32;
     if x != y {
-        return Verdict::Settled(orderings::by_number(x, y));
+        return Verdict::Settled(verdicts::by_number(x, y));
     }
     if both_specialize(arena, a, b) {
         return specializes::weigh_specializes(arena, root, a, b);

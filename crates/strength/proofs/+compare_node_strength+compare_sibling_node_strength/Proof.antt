@@ -14,7 +14,7 @@ use Rattle.strength.proofs.compare_sibling_node_strength.Reads as sibli
 use Rattle.strength.proofs.compare_sibling_node_strength.Kinds as siblings-kinds
 use Rattle.strength.proofs.+compare_node_strength+compare_sibling_node_strength.Lts-compare_sibling_node_strength as siblings-lts
 use Rattle.strength.proofs.lines.weigh.Reads as weigh
-use Rattle.strength.proofs.orderings.or_else.Reads as or-else
+use Rattle.verdicts.proofs.or_else.Reads as or-else
 use Rattle.walks.proofs.part_chains.Reads as part-chains
 use Rattle.strength.proofs.+compare_node_strength+compare_sibling_node_strength.{statement}
 use Rattle.strength.proofs.+compare_node_strength+compare_sibling_node_strength.Tie.{close}

@@ -2,8 +2,8 @@
 use borrow.Author.Needs.{needs}
 use mathlib.Core.Path.{_≡_, sym, _∙_}
 use Rattle.view.specs.View.{viewIn}
-use Rattle.strength.proofs.LineLaws.{read-same, read-other, read-smaller}
-use Rattle.strength.proofs.VerdictLaws.{ranks-differ, both-special, not-both-special}
+use Rattle.verdicts.proofs.NumberLaws.{read-same, read-other, read-smaller}
+use Rattle.strength.proofs.LineLaws.{ranks-differ, both-special, not-both-special}
 use Rattle.strength.proofs.lines.weigh.Statement.{statement}
 use Rattle.strength.proofs.lines.weigh.Tie as tie
 
