@@ -1,10 +1,11 @@
 -- The two comparisons' answers from their parts: a verdict on two siblings, and where the chains of two nodes part. Assumes nothing.
-use mathlib.Core.Path.{_≡_, sym, ap, _∙_}
+use mathlib.Core.Path.{_≡_, refl, sym, ap, _∙_}
 use mathlib.Core.List.{List}
 use Prim.Native.Nat.{ℕ, _+_, _≤_, _<_}
 use native.Mathlib.Omega.{arith}
 use Rattle.model.specs.declared.Ordering.{Ordering}
-use Rattle.model.specs.Strength.{View, first, compareSiblingNodeStrength, compareNodeStrength, siblingLines}
+use Rattle.model.specs.declared.Ordering.the-variants.{Less, Equal, Greater}
+use Rattle.model.specs.Strength.{View, first, smaller, compareSiblingNodeStrength, compareNodeStrength, siblingLines}
 use Rattle.model.proofs.StrengthLaws.{compare-siblings-lines, compare-same}
 use Rattle.view.specs.View.{viewIn, Standing}
 use Rattle.view.proofs.ViewLaws.{legal, standing-lower}
@@ -12,8 +13,16 @@ use Rattle.walks.specs.declared.parting.Parting.{Parting}
 use Rattle.walks.specs.declared.parting.Parting.the-variants.{Apart}
 use Rattle.walks.specs.Walks.{Siblings, comparedAt, Parts}
 use Rattle.verdicts.specs.declared.Verdict.{Verdict}
-use Rattle.verdicts.specs.declared.Verdict.the-variants.{Ask}
+use Rattle.verdicts.specs.declared.Verdict.the-variants.{Settled, Ask}
 use Rattle.verdicts.specs.Verdicts.{Pair, resolve, Weighed}
+use Rattle.verdicts.proofs.NumberLaws.{smaller-eq}
+use Rattle.strength.proofs.LineLaws.{ranks-differ}
+
+pub less-not-equal : Less ≡ Equal → ⊥
+less-not-equal e = let z : _≡_ {A = ℕ} 0 1 = cc in absurd (omega arith)
+
+pub greater-not-equal : Greater ≡ Equal → ⊥
+greater-not-equal e = let z : _≡_ {A = ℕ} 0 1 = cc in absurd (omega arith)
 
 -- ---- Siblings: `v` is what the lines say, `w` its form that was matched
 
@@ -40,6 +49,13 @@ asked-lower pair v told weighed =
       record { readable = asks .1; root-read = pair .left .root-read },
       asks .2,
     )
+
+-- ranks that differ settle two siblings: `o` is what the first line says, `p` its form that was matched
+pub ranks-settle : {bs : List ℕ} {root a b : ℕ} → Pair bs root a b → (o p : Ordering) → o ≡ p → o ≡ smaller (viewIn bs .rank a) (viewIn bs .rank b)
+    → (p ≡ Equal → ⊥) → p ≡ compareSiblingNodeStrength (viewIn bs) a b
+ranks-settle {bs} {root} {a} {b} pair o p told line differ =
+    siblings-resolved pair (Settled p) (Settled p) refl
+    (ranks-differ (viewIn bs) bs a b (λ same. differ (sym told ∙ line ∙ smaller-eq _ _ same)) (sym told ∙ line))
 
 -- ---- Nodes: `p` is where their chains part, `q` its form that was matched
 

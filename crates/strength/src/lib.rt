@@ -13,9 +13,21 @@ ghost use Rattle.model.specs.Strength.{compareSiblingNodeStrength, compareNodeS
 ghost use Rattle.view.specs.View.{viewIn, Standing};
 ghost use Rattle.verdicts.specs.Verdicts.{Pair};
 
-// Which of two siblings is the stronger. A node asked with itself is Equal, and need not be walked.
+// Which of two siblings is the stronger. Those of two arcs, which are many, are settled here, outside the cycle: a caller's loop has no call for them.
 pub fn compare_sibling_node_strength(arena: &[u8], root: u32, a: u32, b: u32) -> Ordering
     requires { ⌜ Pair (now arena) root a b ⌝ }
+    ensures { λ r. ⌜ r ≡ compareSiblingNodeStrength (viewIn (now (arena .entry))) a b ⌝ }
+{
+    match lines::by_rank(arena, a, b) {
+        Ordering::Less => Ordering::Less,
+        Ordering::Equal => compare_siblings(arena, root, a, b),
+        Ordering::Greater => Ordering::Greater,
+    }
+}
+
+// The same of two whose arcs have one rank. A node asked with itself is Equal, and need not be walked.
+fn compare_siblings(arena: &[u8], root: u32, a: u32, b: u32) -> Ordering
+    requires { ⌜ Pair (now arena) root a b × (viewIn (now arena) .rank a ≡ viewIn (now arena) .rank b) ⌝ }
     ensures { λ r. ⌜ r ≡ compareSiblingNodeStrength (viewIn (now (arena .entry))) a b ⌝ }
 {
     match lines::weigh(arena, root, a, b) {
@@ -38,6 +50,10 @@ pub fn compare_node_strength(arena: &[u8], root: u32, a: u32, b: u32) -> Orderin
         Parting::Same => Ordering::Equal,
         Parting::Above => Ordering::Less,
         Parting::Below => Ordering::Greater,
-        Parting::Apart(x, y) => compare_sibling_node_strength(arena, root, x, y),
+        Parting::Apart(x, y) => match lines::by_rank(arena, x, y) {
+            Ordering::Less => Ordering::Less,
+            Ordering::Equal => compare_siblings(arena, root, x, y),
+            Ordering::Greater => Ordering::Greater,
+        },
     }
 }

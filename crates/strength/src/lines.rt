@@ -1,9 +1,10 @@
 // Document 01's lines on two siblings, but for those on two that are HAS_SPECIALIZES.
+use model::Ordering;
 use verdicts::Verdict;
 ghost use mathlib.Core.Path.{_≡_};
 ghost use mathlib.Core.Bool.{_&&_};
 ghost use Rattle.model.specs.ArenaCalls.{Readable};
-ghost use Rattle.model.specs.Strength.{plainLines, siblingLines};
+ghost use Rattle.model.specs.Strength.{smaller, plainLines, siblingLines};
 ghost use Rattle.view.specs.View.{viewIn};
 ghost use Rattle.verdicts.specs.Verdicts.{Pair, Weighed};
 
@@ -33,16 +34,21 @@ fn both_specialize(arena: &[u8], a: u32, b: u32) -> bool
     false
 }
 
-// "1. Smaller arc. 2. Both HAS_SPECIALIZES: go to the list below."
-pub(crate) fn weigh(arena: &[u8], root: u32, a: u32, b: u32) -> Verdict
-    requires { ⌜ Pair (now arena) root a b ⌝ }
-    ensures { λ r. ⌜ Weighed (siblingLines (viewIn (now (arena .entry)))) (now (arena .entry)) a b r ⌝ }
+// "1. Smaller arc."
+pub(crate) fn by_rank(arena: &[u8], a: u32, b: u32) -> Ordering
+    requires { ⌜ Readable (now arena) a × Readable (now arena) b ⌝ }
+    ensures { λ r. ⌜ r ≡ smaller (viewIn (now (arena .entry)) .rank a) (viewIn (now (arena .entry)) .rank b) ⌝ }
 {
     let x = view::rank(arena, a) as u32;
     let y = view::rank(arena, b) as u32;
-    if x != y {
-        return Verdict::Settled(verdicts::by_number(x, y));
-    }
+    verdicts::by_number(x, y)
+}
+
+// "2. Both HAS_SPECIALIZES: go to the list below." Of two whose arcs have one rank, which pass the first line.
+pub(crate) fn weigh(arena: &[u8], root: u32, a: u32, b: u32) -> Verdict
+    requires { ⌜ Pair (now arena) root a b × (viewIn (now arena) .rank a ≡ viewIn (now arena) .rank b) ⌝ }
+    ensures { λ r. ⌜ Weighed (siblingLines (viewIn (now (arena .entry)))) (now (arena .entry)) a b r ⌝ }
+{
     if both_specialize(arena, a, b) {
         return specializes::weigh_specializes(arena, root, a, b);
     }

@@ -1,23 +1,25 @@
--- The two comparisons meet their contracts: siblings ask nodes whose sum is lower, and nodes ask siblings whose sum is no higher. The measures are
--- twice the sum, and one more for nodes. Assumes nothing.
+-- The two comparisons of the cycle meet their contracts: siblings ask nodes whose sum is lower, and nodes ask siblings whose sum is no higher. The measures
+-- are twice the sum, and one more for nodes. Assumes nothing.
 use borrow.Author.Needs.{needs}
-use mathlib.Core.Path.{_∙_}
+use mathlib.Core.Path.{sym, _∙_}
 use Prim.Native.Nat.{ℕ, _+_, _*_, _<_}
 use native.Mathlib.Omega.{arith}
 use borrow.Fn.Kinds.{In}
 use borrow.Fn.PlainCycle.{Measures, is, falls, and}
-use Rattle.strength.proofs.CycleLaws.{siblings-resolved, asked-itself, asked-lower, nodes-compared, parted-pair}
+use Rattle.strength.proofs.CycleLaws.{less-not-equal, greater-not-equal, siblings-resolved, asked-itself, asked-lower, ranks-settle, nodes-compared, parted-pair}
 use Rattle.strength.proofs.compare_node_strength.Reads as nodes
 use Rattle.strength.proofs.compare_node_strength.Kinds as nodes-kinds
-use Rattle.strength.proofs.+compare_node_strength+compare_sibling_node_strength.Lts-compare_node_strength as nodes-lts
-use Rattle.strength.proofs.compare_sibling_node_strength.Reads as siblings
-use Rattle.strength.proofs.compare_sibling_node_strength.Kinds as siblings-kinds
-use Rattle.strength.proofs.+compare_node_strength+compare_sibling_node_strength.Lts-compare_sibling_node_strength as siblings-lts
+use Rattle.strength.proofs.+compare_node_strength+compare_siblings.Lts-compare_node_strength as nodes-lts
+use Rattle.strength.proofs.compare_siblings.Reads as siblings
+use Rattle.strength.proofs.compare_siblings.Kinds as siblings-kinds
+use Rattle.strength.proofs.+compare_node_strength+compare_siblings.Lts-compare_siblings as siblings-lts
+use Rattle.strength.proofs.lines.by_rank.Reads as by-rank
 use Rattle.strength.proofs.lines.weigh.Reads as weigh
+use Rattle.verdicts.proofs.NumberLaws.{smaller-equal}
 use Rattle.verdicts.proofs.or_else.Reads as or-else
 use Rattle.walks.proofs.part_chains.Reads as part-chains
-use Rattle.strength.proofs.+compare_node_strength+compare_sibling_node_strength.{statement}
-use Rattle.strength.proofs.+compare_node_strength+compare_sibling_node_strength.Tie.{close}
+use Rattle.strength.proofs.+compare_node_strength+compare_siblings.{statement}
+use Rattle.strength.proofs.+compare_node_strength+compare_siblings.Tie.{close}
 
 abbrev μ-nodes : Measures 1 nodes-kinds.ps ℕ
 μ-nodes κs a = 2 * (a .1 .1 .0 + a .1 .1 .1 .0) + 1
@@ -34,6 +36,8 @@ module _ (t : ℕ) where
   nodes-ask = (
     part-chains.Asked,
     part-chains.Learnt,
+    by-rank.Asked,
+    by-rank.Learnt,
     and 1 siblings-kinds.ps (falls 1 siblings-kinds.ps _<_ μ-siblings t) siblings.Pre,
     siblings.Post,
   )
@@ -68,11 +72,26 @@ module _ (t : ℕ) where
   known-apart : nodes-lts.Need-enum-known-x nodes-ask nodes-at nodes.Post
   known-apart c = search needs
 
-  siblings-requires : nodes-lts.Need-compare-sibling-node-strength-requires nodes-ask nodes-at nodes.Post
-  siblings-requires c κs =
+  by-rank-requires : nodes-lts.Need-by-rank-requires nodes-ask nodes-at nodes.Post
+  by-rank-requires c κs =
       let given = c .before .before .before .before .before .pre .1 in
       let parted = parted-pair (given .0) (given .1) _ (c .before .x .given .1) (c .before .before .before .part-chains .ensures) in
-      (omega (arith, c .before .before .before .before .before .pre .0, parted .1), parted .0)
+      (parted .0 .left .readable, parted .0 .right .readable)
+
+  told-less : nodes-lts.Need-enum-told-4 nodes-ask nodes-at nodes.Post
+  told-less c = search needs
+
+  told-equal : nodes-lts.Need-enum-told-5 nodes-ask nodes-at nodes.Post
+  told-equal c = search needs
+
+  siblings-requires : nodes-lts.Need-compare-siblings-requires nodes-ask nodes-at nodes.Post
+  siblings-requires c κs =
+      let given = c .before .before .before .before .before .before .before .before .pre in
+      let parted = parted-pair (given .1 .0) (given .1 .1) _ (c .before .before .before .before .x .given .1) (c .before .before .before .before .before .before .part-chains .ensures) in
+      (omega (arith, given .0, parted .1), (parted .0, smaller-equal _ _ (sym (c .before .before .by-rank .ensures) ∙ c .enum-told5 .given .1)))
+
+  told-greater : nodes-lts.Need-enum-told-6 nodes-ask nodes-at nodes.Post
+  told-greater c = search needs
 
   returns-same : nodes-lts.Need-returns nodes-ask nodes-at nodes.Post
   returns-same c = nodes-compared _ _ _ _ _ (c .enum-told .given .1) (c .before .before .part-chains .ensures)
@@ -83,12 +102,26 @@ module _ (t : ℕ) where
   returns-below : nodes-lts.Need-returns-3 nodes-ask nodes-at nodes.Post
   returns-below c = nodes-compared _ _ _ _ _ (c .enum-told3 .given .1) (c .before .before .part-chains .ensures)
 
-  returns-apart : nodes-lts.Need-returns-4 nodes-ask nodes-at nodes.Post
-  returns-apart c =
-      c .compare-sibling-node-strength .ensures
-      ∙ nodes-compared _ _ _ _ _ (c .before .before .x .given .1) (c .before .before .before .before .part-chains .ensures)
+  returns-less : nodes-lts.Need-returns-4 nodes-ask nodes-at nodes.Post
+  returns-less c =
+      let given = c .before .before .before .before .before .before .before .before .pre .1 in
+      let apart = c .before .before .before .before .x .given .1 in
+      let parts = c .before .before .before .before .before .before .part-chains .ensures in
+      ranks-settle (parted-pair (given .0) (given .1) _ apart parts .0) _ _ (c .enum-told4 .given .1) (c .before .before .by-rank .ensures) less-not-equal
+      ∙ nodes-compared _ _ _ _ _ apart parts
 
-  -- ---- compare_sibling_node_strength
+  returns-equal : nodes-lts.Need-returns-5 nodes-ask nodes-at nodes.Post
+  returns-equal c = c .compare-siblings .ensures ∙ nodes-compared _ _ _ _ _ (c .before .before .before .before .before .x .given .1) (c .before .before .before .before .before .before .before .part-chains .ensures)
+
+  returns-greater : nodes-lts.Need-returns-6 nodes-ask nodes-at nodes.Post
+  returns-greater c =
+      let given = c .before .before .before .before .before .before .before .before .pre .1 in
+      let apart = c .before .before .before .before .x .given .1 in
+      let parts = c .before .before .before .before .before .before .part-chains .ensures in
+      ranks-settle (parted-pair (given .0) (given .1) _ apart parts .0) _ _ (c .enum-told6 .given .1) (c .before .before .by-rank .ensures) greater-not-equal
+      ∙ nodes-compared _ _ _ _ _ apart parts
+
+  -- ---- compare_siblings
 
   weigh-requires : siblings-lts.Need-weigh-requires siblings-ask siblings-at siblings.Post
   weigh-requires c κs = search needs
@@ -101,13 +134,13 @@ module _ (t : ℕ) where
 
   returns-itself : siblings-lts.Need-returns siblings-ask siblings-at siblings.Post
   returns-itself c =
-      asked-itself (c .before .before .before .before .before .before .pre .1) _ (c .before .before .x .given .1) (c .if1 .taken)
+      asked-itself (c .before .before .before .before .before .before .pre .1 .0) _ (c .before .before .x .given .1) (c .if1 .taken)
       (c .before .before .before .before .weigh .ensures)
 
   nodes-requires : siblings-lts.Need-compare-node-strength-requires siblings-ask siblings-at siblings.Post
   nodes-requires c κs =
       let given = c .before .before .before .before .before .before .pre in
-      let asked = asked-lower (given .1) _ (c .before .before .x .given .1) (c .before .before .before .before .weigh .ensures) in
+      let asked = asked-lower (given .1 .0) _ (c .before .before .x .given .1) (c .before .before .before .before .weigh .ensures) in
       (omega (arith, given .0, asked .2), (asked .0, asked .1))
 
   or-else-requires : siblings-lts.Need-or-else-requires siblings-ask siblings-at siblings.Post
@@ -115,16 +148,16 @@ module _ (t : ℕ) where
 
   returns-settled : siblings-lts.Need-returns-2 siblings-ask siblings-at siblings.Post
   returns-settled c =
-      siblings-resolved (c .before .before .before .before .before .pre .1) _ _ (c .before .o .given .1) (c .before .before .before .weigh .ensures)
+      siblings-resolved (c .before .before .before .before .before .pre .1 .0) _ _ (c .before .o .given .1) (c .before .before .before .weigh .ensures)
 
   returns-asked : siblings-lts.Need-returns-3 siblings-ask siblings-at siblings.Post
   returns-asked c =
       c .or-else .ensures
       ∙ rw (c .before .compare-node-strength .ensures)
-      (siblings-resolved (c .before .before .before .before .before .before .before .before .pre .1) _ _ (c .before .before .before .before .x .given .1) (c .before .before .before .before .before .before .weigh .ensures))
+      (siblings-resolved (c .before .before .before .before .before .before .before .before .pre .1 .0) _ _ (c .before .before .before .before .x .given .1) (c .before .before .before .before .before .before .weigh .ensures))
 
-pub +compare-node-strength+compare-sibling-node-strength-spec : {M : Type 1} → statement M
-+compare-node-strength+compare-sibling-node-strength-spec =
+pub +compare-node-strength+compare-siblings-spec : {M : Type 1} → statement M
++compare-node-strength+compare-siblings-spec =
     close
     μ-nodes
     μ-siblings
@@ -137,11 +170,17 @@ pub +compare-node-strength+compare-sibling-node-strength-spec : {M : Type 1} →
     (told-above t)
     (told-below t)
     (known-apart t)
+    (by-rank-requires t)
+    (told-less t)
+    (told-equal t)
     (siblings-requires t)
+    (told-greater t)
     (returns-same t)
     (returns-above t)
     (returns-below t)
-    (returns-apart t))
+    (returns-less t)
+    (returns-equal t)
+    (returns-greater t))
     λ t. siblings-lts.spec
     (siblings-ask t)
     (siblings-at t)
