@@ -1,4 +1,5 @@
-// The strength of two nodes: `compare_node_strength` and `compare_sibling_node_strength`, a cycle of two functions that ask each other about lower nodes.
+// The strength of two nodes, `compare_node_strength`, and of two siblings, `compare_sibling_node_strength`: a cycle of functions that ask each other about lower
+// nodes. Siblings join it once their arcs have one rank (`compare_siblings`).
 // Document 01's lists of lines stand outside the cycle, in lines.rt and crates/specializes: they settle two siblings, or say which two nodes to ask. It
 // never refuses and never writes: the nodes are of the graph that the arena holds, which callers prove; crates/comparing has the calls that put the
 // questions. `root` is the local root's number, 0 for none.
