@@ -1,8 +1,7 @@
 // The calls that compare nodes: node strength and sibling strength; whether one node is another's ancestor, and whether two have one site; and of one
 // node whether it is a propagated specializes, its copy under the local root, and where its class hierarchy starts. No public function has a
-// `requires`: each puts its questions first, and is refused by the first whose answer is no; the local root is then read once. Nothing is written.
+// `requires`: each puts its questions first (crates/asking), and is refused by the first whose answer is no; the local root is then read once. Nothing is written.
 // The definitions are in model/specs/Strength.antt and Hierarchy.antt, the questions in model/specs/Calls.antt; specs/Comparisons.antt has the rest.
-mod asking;
 mod pairs;
 mod propagated;
 mod single;

@@ -1,5 +1,4 @@
 // The calls on two nodes.
-use crate::asking;
 use model::Compared;
 use model::Finished;
 use model::Ordering;

@@ -16,7 +16,7 @@ ghost use Rattle.comparing.specs.Comparisons.{HierarchyAnswered};
 pub fn is_propagated_specializes(arena: &[u8], n: u32) -> Tested
     ensures { λ r. ⌜ AnsweredTest (askArena (now (arena .entry)) (readsNode (decode (now (arena .entry))) n)) (isPropagatedSpecializes (view (decode (now (arena .entry)) .nodes)) n) r ⌝ }
 {
-    let asked = queries::ask_node(arena, n);
+    let asked = asking::ask_node(arena, n);
     match asked {
         Finished::Done => {
             let root = arena::local_root(arena);
@@ -30,7 +30,7 @@ pub fn is_propagated_specializes(arena: &[u8], n: u32) -> Tested
 pub fn get_propagated_specializes_node(arena: &[u8], n: u32) -> Numbered
     ensures { λ r. ⌜ Answered (askArena (now (arena .entry)) (readsNode (decode (now (arena .entry))) n)) (getPropagatedSpecializesNode (decode (now (arena .entry))) n) r ⌝ }
 {
-    let asked = queries::ask_node(arena, n);
+    let asked = asking::ask_node(arena, n);
     match asked {
         Finished::Done => {
             let root = arena::local_root(arena);
@@ -44,7 +44,7 @@ pub fn get_propagated_specializes_node(arena: &[u8], n: u32) -> Numbered
 pub fn starting_node_of_class_hierarchy(arena: &[u8], n: u32) -> HierarchyRead
     ensures { λ r. ⌜ HierarchyAnswered (now (arena .entry)) n r ⌝ }
 {
-    let asked = queries::ask_node(arena, n);
+    let asked = asking::ask_node(arena, n);
     match asked {
         Finished::Done => {
             let root = arena::local_root(arena);

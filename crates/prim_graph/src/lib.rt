@@ -2,13 +2,15 @@
 // may be lent, any numbers and paths given. Each puts its questions in document 01's order; the first whose answer is no is the refusal, and then
 // every lent byte is as it was. What a call answers and leaves is its one function of model/specs/Calls.antt, made a call on bytes by
 // model/specs/ArenaCalls.antt.
-// Starting and adding are in crates/adding, the calls that only read in crates/queries, the comparisons in crates/comparing, those on the order in
+// Starting and adding are in crates/adding, the count in crates/asking, what is read of the header or one node in crates/queries, the node that uses a
+// site in crates/site_queries, the comparisons in crates/comparing, the calls on the order in
 // crates/finalizing, culling and erasing in crates/erasing, appending a child's name in crates/child_names; here are the two that take or give a
 // snapshot.
 pub use adding::Depth;
 pub use adding::NodeDesc;
 pub use adding::add_child;
 pub use adding::init_root;
+pub use asking::count;
 pub use child_names::append_child_name_to_all_sites;
 pub use child_names::seed_child;
 pub use comparing::HierarchyRead;
@@ -30,13 +32,12 @@ use model::Refusal;
 pub use queries::GraphInfo;
 pub use queries::GraphRead;
 pub use queries::NodeRead;
-pub use queries::count;
 pub use queries::depth_below_introduction;
 pub use queries::graph_info;
 pub use queries::node;
-pub use queries::node_using_site;
 pub use queries::path;
 pub use queries::path_at_introduction;
+pub use site_queries::node_using_site;
 ghost use Rattle.model.specs.ArenaCalls.{intoArena, Wrote};
 ghost use Rattle.model.specs.Calls.{readInto};
 ghost use Rattle.model.specs.Graph.{emptyGraph};

@@ -4,7 +4,7 @@ use mathlib.Core.Path.{sym, ap}
 use Rattle.model.specs.Answers.{orderingNumber}
 use Rattle.model.specs.ArenaCalls.{Readable}
 use Rattle.model.proofs.ArenaCallLaws.{answered-refused, answered-number}
-use Rattle.comparing.proofs.AskingLaws.{both-readable}
+use Rattle.asking.proofs.AskingLaws.{both-readable}
 use Rattle.comparing.proofs.pairs.compare_node_strength.Statement.{statement}
 use Rattle.comparing.proofs.pairs.compare_node_strength.Tie as tie
 

@@ -3,7 +3,7 @@ use mathlib.Core.Path.{sym, ap, _∙_}
 use Rattle.model.specs.Strength.{view, compareSiblingNodeStrength}
 use Rattle.model.specs.Arena.{decode}
 use Rattle.model.proofs.StrengthFlips.{siblings-same}
-use Rattle.comparing.proofs.AskingLaws.{one-parent, left-above, right-above}
+use Rattle.comparing.proofs.SiblingLaws.{one-parent, left-above, right-above}
 use Rattle.comparing.proofs.pairs.compare_siblings.Statement.{statement}
 use Rattle.comparing.proofs.pairs.compare_siblings.Tie as tie
 
