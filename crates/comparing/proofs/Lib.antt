@@ -1,5 +1,3 @@
--- Two siblings, the child list of the local root, and the answers and their laws.
+-- Two siblings, and the laws of the answers.
 pub mod SiblingLaws
-pub mod CopyLaws
-pub mod HierarchyLaws
 pub mod ComparedLaws

@@ -3,7 +3,7 @@
 // every lent byte is as it was. What a call answers and leaves is its one function of model/specs/Calls.antt, made a call on bytes by
 // model/specs/ArenaCalls.antt.
 // Starting and adding are in crates/adding, the count in crates/asking, what is read of the header or one node in crates/queries, the node that uses a
-// site in crates/site_queries, the comparisons in crates/comparing, the calls on the order in
+// site in crates/site_queries, the comparisons in crates/comparing, class hierarchies in crates/hierarchies, the calls on the order in
 // crates/finalizing, culling and erasing in crates/erasing, appending a child's name in crates/child_names; here are the two that take or give a
 // snapshot.
 pub use adding::Depth;
@@ -13,20 +13,20 @@ pub use adding::init_root;
 pub use asking::count;
 pub use child_names::append_child_name_to_all_sites;
 pub use child_names::seed_child;
-pub use comparing::HierarchyRead;
 pub use comparing::compare_node_strength;
 pub use comparing::compare_sibling_node_strength;
-pub use comparing::get_propagated_specializes_node;
 pub use comparing::is_ancestor_of;
-pub use comparing::is_propagated_specializes;
 pub use comparing::same_site;
-pub use comparing::starting_node_of_class_hierarchy;
 pub use erasing::cull_subtrees_without_opinions;
 pub use erasing::erasable;
 pub use erasing::erase;
 pub use finalizing::finalize_strength_order;
 pub use finalizing::order_entry;
 pub use finalizing::strength_order;
+pub use hierarchies::HierarchyRead;
+pub use hierarchies::get_propagated_specializes_node;
+pub use hierarchies::is_propagated_specializes;
+pub use hierarchies::starting_node_of_class_hierarchy;
 use model::Numbered;
 use model::Refusal;
 pub use queries::GraphInfo;

@@ -1,16 +1,26 @@
-// The calls on one node.
-use crate::HierarchyRead;
-use crate::propagated;
+// The calls on where one node stands in a class hierarchy: whether it is a propagated specializes, its copy under the local root, and where its class
+// hierarchy starts. No public function has a `requires`: each puts its questions first (crates/asking), and is refused by the first whose answer is no;
+// the local root is then read once. Nothing is written.
+// The definitions are in model/specs/Strength.antt and Hierarchy.antt, the questions in model/specs/Calls.antt; specs/Hierarchies.antt has the rest.
+mod propagated;
+
 use model::Finished;
 use model::NodeId;
 use model::Numbered;
+use model::Refusal;
 use model::Tested;
 ghost use Rattle.model.specs.Arena.{decode};
 ghost use Rattle.model.specs.ArenaCalls.{askArena, Answered, AnsweredTest};
 ghost use Rattle.model.specs.Calls.{readsNode};
 ghost use Rattle.model.specs.Hierarchy.{getPropagatedSpecializesNode};
 ghost use Rattle.model.specs.Strength.{view, isPropagatedSpecializes};
-ghost use Rattle.comparing.specs.Comparisons.{HierarchyAnswered};
+ghost use Rattle.hierarchies.specs.Hierarchies.{HierarchyAnswered};
+
+// The answer of `starting_node_of_class_hierarchy`: the node that inherits or specializes, then the topmost class, `NodeId::INVALID` for none.
+pub enum HierarchyRead {
+    Hierarchy(NodeId, NodeId),
+    Refused(Refusal),
+}
 
 // Whether node n is a propagated specializes: arc Specialize, the local root as parent, and its origin's site. Refused 1 to 4.
 pub fn is_propagated_specializes(arena: &[u8], n: u32) -> Tested

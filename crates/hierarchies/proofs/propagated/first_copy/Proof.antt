@@ -8,9 +8,9 @@ use Rattle.model.specs.Arena.{countIn, childrenIn}
 use Rattle.model.specs.ArenaCalls.{Readable}
 use Rattle.arena.proofs.ReadNodes.{has-slot}
 use Rattle.view.specs.View.{viewIn}
-use Rattle.comparing.proofs.CopyLaws.{copyFrom, copy-taken, copy-passed, copies-end}
-use Rattle.comparing.proofs.propagated.first_copy.Statement.{statement}
-use Rattle.comparing.proofs.propagated.first_copy.Tie as tie
+use Rattle.hierarchies.proofs.CopyLaws.{copyFrom, copy-taken, copy-passed, copies-end}
+use Rattle.hierarchies.proofs.propagated.first_copy.Statement.{statement}
+use Rattle.hierarchies.proofs.propagated.first_copy.Tie as tie
 
 abbrev Inv-loop : tie.InvT-loop
 Inv-loop arena root n count child₀ left₀ child left = copyFrom arena n left child ≡ firstIn (isCopy (viewIn arena) n) (childrenIn arena root)

@@ -1,9 +1,9 @@
 -- `find_copy` meets its contract: the tests are the definition's, in its order. Assumes nothing.
 use mathlib.Core.Path.{sym, _∙_}
 use Rattle.view.proofs.LocalRootLaws.{root-readable}
-use Rattle.comparing.proofs.CopyLaws.{no-copy-of-arc, no-copy-without-root, copy-in-list}
-use Rattle.comparing.proofs.propagated.find_copy.Statement.{statement}
-use Rattle.comparing.proofs.propagated.find_copy.Tie as tie
+use Rattle.hierarchies.proofs.CopyLaws.{no-copy-of-arc, no-copy-without-root, copy-in-list}
+use Rattle.hierarchies.proofs.propagated.find_copy.Statement.{statement}
+use Rattle.hierarchies.proofs.propagated.find_copy.Tie as tie
 
 arc-requires : tie.Need-arc-requires
 arc-requires c κs = c .before .pre .readable

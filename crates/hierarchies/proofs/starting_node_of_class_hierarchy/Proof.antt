@@ -3,9 +3,9 @@ use borrow.Author.Needs.{needs}
 use mathlib.Core.Path.{sym}
 use Rattle.model.specs.ArenaCalls.{Readable}
 use Rattle.arena.proofs.ReadNodes.{readable}
-use Rattle.comparing.proofs.HierarchyLaws.{no-hierarchy, one-hierarchy}
-use Rattle.comparing.proofs.single.starting_node_of_class_hierarchy.Statement.{statement}
-use Rattle.comparing.proofs.single.starting_node_of_class_hierarchy.Tie as tie
+use Rattle.hierarchies.proofs.HierarchyLaws.{no-hierarchy, one-hierarchy}
+use Rattle.hierarchies.proofs.starting_node_of_class_hierarchy.Statement.{statement}
+use Rattle.hierarchies.proofs.starting_node_of_class_hierarchy.Tie as tie
 
 -- questions 1 to 4 pass
 reads-it : (c : tie.After-enum-told) → Readable (c .before .before .before .before .args .arena .now) (c .before .before .before .before .args .n)

@@ -10,8 +10,8 @@ use Rattle.model.specs.Arena.{decode}
 use Rattle.model.specs.ArenaCalls.{askArena}
 use Rattle.model.specs.declared.NodeId.{NodeId}
 use Rattle.model.specs.declared.Refusal.{Refusal}
-use Rattle.comparing.specs.declared.HierarchyRead.the-variants.{Hierarchy, Refused}
-use Rattle.comparing.specs.Comparisons.{HierarchyShown, HierarchyAnswered}
+use Rattle.hierarchies.specs.declared.HierarchyRead.the-variants.{Hierarchy, Refused}
+use Rattle.hierarchies.specs.Hierarchies.{HierarchyShown, HierarchyAnswered}
 
 module _ (bs : List ℕ) (n : ℕ) where
   pub no-hierarchy : (r : Refusal) → refusalNumber r ≡ refusal (askArena bs (readsNode (decode bs) n)) → HierarchyAnswered bs n (Refused r)

@@ -4,8 +4,8 @@ use Rattle.model.specs.Strength.{view, compareSiblingNodeStrength}
 use Rattle.model.specs.Arena.{decode}
 use Rattle.model.proofs.StrengthFlips.{siblings-same}
 use Rattle.comparing.proofs.SiblingLaws.{one-parent, left-above, right-above}
-use Rattle.comparing.proofs.pairs.compare_siblings.Statement.{statement}
-use Rattle.comparing.proofs.pairs.compare_siblings.Tie as tie
+use Rattle.comparing.proofs.compare_siblings.Statement.{statement}
+use Rattle.comparing.proofs.compare_siblings.Tie as tie
 
 returns : tie.Need-returns
 returns c =

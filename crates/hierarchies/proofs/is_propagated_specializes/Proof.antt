@@ -5,8 +5,8 @@ use Rattle.model.specs.Lists.{bit}
 use Rattle.model.specs.ArenaCalls.{Readable}
 use Rattle.model.proofs.ArenaCallLaws.{answered-refused, answered-number}
 use Rattle.arena.proofs.ReadNodes.{readable}
-use Rattle.comparing.proofs.single.is_propagated_specializes.Statement.{statement}
-use Rattle.comparing.proofs.single.is_propagated_specializes.Tie as tie
+use Rattle.hierarchies.proofs.is_propagated_specializes.Statement.{statement}
+use Rattle.hierarchies.proofs.is_propagated_specializes.Tie as tie
 
 -- questions 1 to 4 pass
 reads-it : (c : tie.After-enum-told) → Readable (c .before .before .before .before .args .arena .now) (c .before .before .before .before .args .n)

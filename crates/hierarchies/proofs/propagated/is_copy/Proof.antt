@@ -3,8 +3,8 @@ use borrow.Author.Needs.{needs}
 use mathlib.Core.Path.{sym, _∙_}
 use borrow.Author.Tests.{eq-eqb, ne-eqb}
 use Rattle.view.specs.View.{viewIn}
-use Rattle.comparing.proofs.propagated.is_copy.Statement.{statement}
-use Rattle.comparing.proofs.propagated.is_copy.Tie as tie
+use Rattle.hierarchies.proofs.propagated.is_copy.Statement.{statement}
+use Rattle.hierarchies.proofs.propagated.is_copy.Tie as tie
 
 origin-requires : tie.Need-origin-requires
 origin-requires c κs = c .before .pre .readable

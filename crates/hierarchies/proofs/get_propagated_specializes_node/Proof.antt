@@ -4,8 +4,8 @@ use mathlib.Core.Path.{sym}
 use Rattle.model.specs.ArenaCalls.{Readable}
 use Rattle.model.proofs.ArenaCallLaws.{answered-refused, answered-number}
 use Rattle.arena.proofs.ReadNodes.{readable}
-use Rattle.comparing.proofs.single.get_propagated_specializes_node.Statement.{statement}
-use Rattle.comparing.proofs.single.get_propagated_specializes_node.Tie as tie
+use Rattle.hierarchies.proofs.get_propagated_specializes_node.Statement.{statement}
+use Rattle.hierarchies.proofs.get_propagated_specializes_node.Tie as tie
 
 -- questions 1 to 4 pass
 reads-it : (c : tie.After-enum-told) → Readable (c .before .before .before .before .args .arena .now) (c .before .before .before .before .args .n)

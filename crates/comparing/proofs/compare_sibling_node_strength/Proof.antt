@@ -4,8 +4,8 @@ use mathlib.Core.Path.{sym, ap}
 use Rattle.model.specs.Answers.{orderingNumber}
 use Rattle.model.proofs.ArenaCallLaws.{answered-refused, answered-number}
 use Rattle.comparing.proofs.SiblingLaws.{siblings-known}
-use Rattle.comparing.proofs.pairs.compare_sibling_node_strength.Statement.{statement}
-use Rattle.comparing.proofs.pairs.compare_sibling_node_strength.Tie as tie
+use Rattle.comparing.proofs.compare_sibling_node_strength.Statement.{statement}
+use Rattle.comparing.proofs.compare_sibling_node_strength.Tie as tie
 
 ask-siblings-requires : tie.Need-ask-siblings-requires
 ask-siblings-requires c κs = search needs

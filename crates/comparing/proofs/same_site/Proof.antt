@@ -5,8 +5,8 @@ use Rattle.model.specs.Lists.{bit}
 use Rattle.model.specs.ArenaCalls.{Readable}
 use Rattle.model.proofs.ArenaCallLaws.{answered-refused, answered-number}
 use Rattle.asking.proofs.AskingLaws.{both-readable}
-use Rattle.comparing.proofs.pairs.same_site.Statement.{statement}
-use Rattle.comparing.proofs.pairs.same_site.Tie as tie
+use Rattle.comparing.proofs.same_site.Statement.{statement}
+use Rattle.comparing.proofs.same_site.Tie as tie
 
 -- questions 1 to 4 pass
 reads-both : (c : tie.After-enum-told)
