@@ -12,7 +12,7 @@ use calls_text::put_number;
 use calls_text::put_refusal;
 use calls_text::read_number;
 use calls_text::word;
-use comparing::HierarchyRead;
+use hierarchies::HierarchyRead;
 use model::Tested;
 
 // The answer to such a line.

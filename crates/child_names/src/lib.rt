@@ -16,7 +16,7 @@ ghost use Rattle.child_names.specs.ChildNames.{Deepened, Seeded};
 fn ask(arena: &[u8], child: &[u8]) -> Finished
     ensures { λ r. ⌜ finishedRefusal r ≡ refusal (askArena (now (arena .entry)) (deepenQuestions (now (child .entry)) (decode (now (arena .entry))))) ⌝ }
 {
-    let counted = queries::count(arena);
+    let counted = asking::count(arena);
     match counted {
         Numbered::Number(nodes) => ask_opened(arena, nodes, child),
         Numbered::Refused(refusal) => Finished::Refused(refusal),

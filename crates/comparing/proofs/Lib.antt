@@ -1,5 +1,3 @@
--- What the questions of this crate's calls say, the child list of the local root, and the answers and their laws.
-pub mod AskingLaws
-pub mod CopyLaws
-pub mod HierarchyLaws
+-- Two siblings, and the laws of the answers.
+pub mod SiblingLaws
 pub mod ComparedLaws

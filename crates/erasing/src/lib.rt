@@ -14,7 +14,7 @@ ghost use Rattle.erasing.specs.Erasures.{Culled, ErasableWritten, Erased
 pub fn cull_subtrees_without_opinions(arena: &mut [u8]) -> Finished
     ensures { λ r. ⌜ Culled (now (arena .entry)) r (now (arena .exit)) ⌝ }
 {
-    let counted = queries::count(arena);
+    let counted = asking::count(arena);
     match counted {
         Numbered::Number(nodes) => cull_asked(arena, nodes),
         Numbered::Refused(refusal) => Finished::Refused(refusal),
@@ -40,7 +40,7 @@ pub fn erasable(arena: &[u8], set: &mut [u8]) -> Finished
     if set.len() != 1024 {
         return Finished::Refused(Refusal::Size);
     }
-    let counted = queries::count(arena);
+    let counted = asking::count(arena);
     match counted {
         Numbered::Number(nodes) => erasable_asked(arena, nodes, set),
         Numbered::Refused(refusal) => Finished::Refused(refusal),
@@ -68,7 +68,7 @@ pub fn erase(arena: &mut [u8], set: &[u8]) -> Numbered
     if set.len() != 1024 {
         return Numbered::Refused(Refusal::Size);
     }
-    let counted = queries::count(arena);
+    let counted = asking::count(arena);
     match counted {
         Numbered::Number(nodes) => erase_asked(arena, nodes, set),
         Numbered::Refused(refusal) => Numbered::Refused(refusal),

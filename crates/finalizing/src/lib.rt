@@ -16,7 +16,7 @@ ghost use Rattle.finalizing.specs.Orders.{Finalized, entriesIn, orderByt
 pub fn finalize_strength_order(arena: &mut [u8]) -> Finished
     ensures { λ r. ⌜ Finalized (now (arena .entry)) r (now (arena .exit)) ⌝ }
 {
-    let counted = queries::count(arena);
+    let counted = asking::count(arena);
     match counted {
         Numbered::Number(nodes) => finalize_asked(arena, nodes),
         Numbered::Refused(refusal) => Finished::Refused(refusal),
@@ -55,7 +55,7 @@ pub fn strength_order(arena: &[u8], out: &mut [u8]) -> Numbered
     if out.len() != 4096 {
         return Numbered::Refused(Refusal::Size);
     }
-    let counted = queries::count(arena);
+    let counted = asking::count(arena);
     match counted {
         Numbered::Number(nodes) => order_asked(arena, nodes, out),
         Numbered::Refused(refusal) => Numbered::Refused(refusal),
@@ -94,7 +94,7 @@ fn write_entries(arena: &[u8], count: u32, out: &mut [u8])
 pub fn order_entry(arena: &[u8], place: u32) -> Numbered
     ensures { λ r. ⌜ Answered (askArena (now (arena .entry)) (readsEntry (decode (now (arena .entry))) place)) (getD (decode (now (arena .entry)) .order) place 0) r ⌝ }
 {
-    let counted = queries::count(arena);
+    let counted = asking::count(arena);
     match counted {
         Numbered::Number(nodes) => entry_asked(arena, nodes, place),
         Numbered::Refused(refusal) => Numbered::Refused(refusal),

@@ -2,41 +2,42 @@
 // may be lent, any numbers and paths given. Each puts its questions in document 01's order; the first whose answer is no is the refusal, and then
 // every lent byte is as it was. What a call answers and leaves is its one function of model/specs/Calls.antt, made a call on bytes by
 // model/specs/ArenaCalls.antt.
-// Starting and adding are in crates/adding, the calls that only read in crates/queries, the comparisons in crates/comparing, those on the order in
+// Starting and adding are in crates/adding, the count in crates/asking, what is read of the header or one node in crates/queries, the node that uses a
+// site in crates/site_queries, the comparisons in crates/comparing, class hierarchies in crates/hierarchies, the calls on the order in
 // crates/finalizing, culling and erasing in crates/erasing, appending a child's name in crates/child_names; here are the two that take or give a
 // snapshot.
 pub use adding::Depth;
 pub use adding::NodeDesc;
 pub use adding::add_child;
 pub use adding::init_root;
+pub use asking::count;
 pub use child_names::append_child_name_to_all_sites;
 pub use child_names::seed_child;
-pub use comparing::HierarchyRead;
 pub use comparing::compare_node_strength;
 pub use comparing::compare_sibling_node_strength;
-pub use comparing::get_propagated_specializes_node;
 pub use comparing::is_ancestor_of;
-pub use comparing::is_propagated_specializes;
 pub use comparing::same_site;
-pub use comparing::starting_node_of_class_hierarchy;
 pub use erasing::cull_subtrees_without_opinions;
 pub use erasing::erasable;
 pub use erasing::erase;
 pub use finalizing::finalize_strength_order;
 pub use finalizing::order_entry;
 pub use finalizing::strength_order;
+pub use hierarchies::HierarchyRead;
+pub use hierarchies::get_propagated_specializes_node;
+pub use hierarchies::is_propagated_specializes;
+pub use hierarchies::starting_node_of_class_hierarchy;
 use model::Numbered;
 use model::Refusal;
 pub use queries::GraphInfo;
 pub use queries::GraphRead;
 pub use queries::NodeRead;
-pub use queries::count;
 pub use queries::depth_below_introduction;
 pub use queries::graph_info;
 pub use queries::node;
-pub use queries::node_using_site;
 pub use queries::path;
 pub use queries::path_at_introduction;
+pub use site_queries::node_using_site;
 ghost use Rattle.model.specs.ArenaCalls.{intoArena, Wrote};
 ghost use Rattle.model.specs.Calls.{readInto};
 ghost use Rattle.model.specs.Graph.{emptyGraph};

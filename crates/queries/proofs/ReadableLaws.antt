@@ -1,19 +1,17 @@
--- What the fields of an arena that holds a graph say of it: of one node (`shown`), of the header (`graph-shown`) and of all nodes one after
--- the other (`lowest-starts`, `lowest-steps`, `lowest-ends`). Assumes nothing.
+-- What the fields of an arena that holds a graph say of it: of one node (`shown`) and of the header (`graph-shown`). Assumes nothing.
 use mathlib.Core.Path.{_≡_, refl, sym, ap, _∙_}
 use mathlib.Core.Bool.{Bool, true, false, not, cond}
 use mathlib.Core.List.{List}
-use Prim.Native.Nat.{ℕ, suc, _+_, _-_, _≤_, _<_}
+use Prim.Native.Nat.{ℕ}
 use native.Mathlib.Omega.{arith}
-use native.Mathlib.Numerals.{add-one}
 use lib.Dec.{eqb}
 use lib.ListN.{length}
 use borrow.Author.Tests.{eqb-true, eqb-false}
 use Rattle.model.specs.Lists.{anyBelow}
 use Rattle.model.specs.Node as model
 use Rattle.model.specs.Node.{invalid}
-use Rattle.model.specs.Graph.{isLocalRoot, usesSite, siteFrom, nodeUsingSite}
-use Rattle.model.specs.Arena.{countIn, nodeIn, tabulate, localRootBelow, localRootOf, localRootIn, orderedIn, finalizedIn, shallowIn, decode}
+use Rattle.model.specs.Graph.{isLocalRoot}
+use Rattle.model.specs.Arena.{countIn, localRootBelow, localRootOf, localRootIn, orderedIn, finalizedIn, shallowIn, decode}
 use Rattle.model.specs.ArenaCalls.{Opened, Readable}
 use Rattle.arena.specs.declared.Node.{Node}
 use Rattle.arena.specs.Slot.{Loaded}
@@ -73,27 +71,3 @@ module _ (bs : List ℕ) (o : Opened bs) where
   unfolding decode
   graph-shown x count ordered finalized shallow root =
       record { count = count ∙ sym (sizes bs o); ordered = ordered; finalized = finalized; shallow = shallow; «local-root» = root }
-
--- ---- The nodes one after the other
-
-module _ (bs : List ℕ) (stack : ℕ) (path : List ℕ) where
-  -- the lowest node from n on that uses the site
-  abbrev pub lowestFrom : ℕ → ℕ
-  lowestFrom n = siteFrom n stack path (tabulate (nodeIn bs) n (countIn bs - n))
-
-  pub lowest-starts : lowestFrom 0 ≡ nodeUsingSite stack path (decode bs)
-  unfolding nodeUsingSite decode
-  lowest-starts =
-      let whole : countIn bs - 0 ≡ countIn bs = omega arith in
-      ap (λ (k : ℕ). siteFrom 0 stack path (tabulate (nodeIn bs) 0 k)) whole
-
-  pub lowest-steps : (n : ℕ) → n < countIn bs → lowestFrom n ≡ cond (usesSite stack path (nodeIn bs n)) n (lowestFrom (n + 1))
-  lowest-steps n h =
-      let more : countIn bs - n ≡ suc (countIn bs - (n + 1)) = omega arith in
-      ap (λ (k : ℕ). siteFrom n stack path (tabulate (nodeIn bs) n k)) more
-      ∙ ap (λ (m : ℕ). cond (usesSite stack path (nodeIn bs n)) n (siteFrom m stack path (tabulate (nodeIn bs) m (countIn bs - (n + 1))))) (sym (add-one n))
-
-  pub lowest-ends : (n : ℕ) → countIn bs ≤ n → lowestFrom n ≡ invalid
-  lowest-ends n h =
-      let none : countIn bs - n ≡ 0 = omega arith in
-      ap (λ (k : ℕ). siteFrom n stack path (tabulate (nodeIn bs) n k)) none

@@ -1,12 +1,10 @@
-// The calls that only read an arena: the count, the marks and the local root; a node's fields, links and path; its depth below introduction and its
-// introduction path; and the lowest node that uses a site. No public function has a `requires`: each puts its questions, the size of the buffer
-// and whether it holds a graph first, and is refused by the first whose answer is no. Nothing is written or copied: a path is handed back as a part
-// of the arena, and no bytes of it where the call is refused.
+// The calls that read the header or one node: the count, the marks and the local root; a node's fields, links and path; its depth below introduction and
+// its introduction path. No public function has a `requires`: each puts its questions, the size of the buffer and whether it holds a graph first
+// (crates/asking), and is refused by the first whose answer is no. Nothing is written or copied: a path is handed back as a part of the arena, and no
+// bytes of it where the call is refused.
 // specs/Queries.antt says what each answers; the questions are in model/specs/Calls.antt and ArenaCalls.antt.
 mod fields;
-mod sites;
 
-pub use fields::ask_node;
 pub use fields::depth_below_introduction;
 pub use fields::node;
 pub use fields::path;
@@ -14,13 +12,11 @@ pub use fields::path_at_introduction;
 use model::NodeId;
 use model::Numbered;
 use model::Refusal;
-pub use sites::node_using_site;
 ghost use mathlib.Core.Path.{_≡_};
 ghost use mathlib.Core.Bool.{cond};
-ghost use mathlib.Core.List.{[]};
 ghost use lib.Dec.{eqb};
 ghost use Rattle.model.specs.Arena.{countIn, localRootIn, decode};
-ghost use Rattle.model.specs.ArenaCalls.{Opened, askArena, Answered};
+ghost use Rattle.model.specs.ArenaCalls.{Opened};
 ghost use Rattle.model.specs.Node.{invalid};
 ghost use Rattle.queries.specs.Queries.{GraphShown, GraphAnswered};
 
@@ -43,19 +39,6 @@ pub enum GraphRead {
 pub enum NodeRead {
     Node(arena::Node),
     Refused(Refusal),
-}
-
-// How many nodes the graph has: none in an empty one. Refused 1 or 2.
-pub fn count(arena: &[u8]) -> Numbered
-    ensures { λ r. ⌜ Answered (askArena (now (arena .entry)) []) (countIn (now (arena .entry))) r ⌝ }
-{
-    if arena.len() != 327744 {
-        return Numbered::Refused(Refusal::Size);
-    }
-    if !validate::is_graph(arena) {
-        return Numbered::Refused(Refusal::NotAGraph);
-    }
-    Numbered::Number(arena::count(arena))
 }
 
 // The local root's number: node 0 is never it, and stands for none in the header.
@@ -97,7 +80,7 @@ fn read_info(arena: &[u8], count: u32) -> GraphInfo
 pub fn graph_info(arena: &[u8]) -> GraphRead
     ensures { λ r. ⌜ GraphAnswered (now (arena .entry)) r ⌝ }
 {
-    let counted = count(arena);
+    let counted = asking::count(arena);
     match counted {
         Numbered::Number(nodes) => GraphRead::Graph(read_info(arena, nodes)),
         Numbered::Refused(refusal) => GraphRead::Refused(refusal),
