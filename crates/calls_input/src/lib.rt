@@ -5,7 +5,6 @@ mod lines;
 
 use libc::STDIN_FILENO;
 use lines::State;
-ghost use Prim.Native.Nat.{_≤_};
 
 // What is left where a block ends: how many bytes there are of the line that goes on in the next one, and whether the arenas are swapped.
 struct Rest {
@@ -15,19 +14,6 @@ struct Rest {
 
 // The longest line that is answered has so many bytes.
 const LONGEST: usize = 131072;
-
-// Puts `more` after the first `held` bytes of `line`, and answers how many it then holds. For a line without end that is one more than there is
-// room for, whatever follows.
-fn append(line: &mut [u8], held: usize, more: &[u8]) -> usize {
-    if line.len() < held {
-        return held;
-    }
-    if line.len() - held < more.len() {
-        return line.len() + 1;
-    }
-    bytes::copy(more, &mut line[held..]);
-    held + more.len()
-}
 
 // Puts the answer to the first `held` bytes of `line`, with a newline.
 fn answer_line(
@@ -78,7 +64,7 @@ fn answer_block(
     let mut at: usize = 0;
     while at < block.len() {
         let end = bytes::scan::find(block, at, block.len(), b'\n');
-        begun = append(line, begun, &block[at..end]);
+        begun = buffers::append(line, begun, &block[at..end]);
         at = end + 1;
         if end < block.len() {
             let answer = answer_line(line, begun, first, second, saved, swapped, out, used);
@@ -92,16 +78,6 @@ fn answer_block(
         held: begun,
         swapped,
     }
-}
-
-// The turns that are left after a block of `count` bytes: none where the input has ended.
-fn turns_left(turns: u64, count: usize) -> u64
-    ensures { λ r. ⌜ r ≤ turns ⌝ }
-{
-    if count == 0 {
-        return 0;
-    }
-    turns
 }
 
 // Answers each line that ends in a newline, block by block, until the input ends or a read fails. A proved loop has to end, and nothing says
@@ -130,7 +106,7 @@ fn answer_blocks(
         );
         held = rest.held;
         swapped = rest.swapped;
-        turns = turns_left(turns - 1, count);
+        turns = calls_text::turns_left(turns - 1, count);
     }
     Rest { held, swapped }
 }

@@ -3,6 +3,7 @@
 // number that does not fit the buffer beside it.
 mod answers;
 mod hex;
+mod input;
 mod output;
 mod words;
 
@@ -16,6 +17,7 @@ pub use answers::put_refusal;
 pub use hex::Bytes;
 pub use hex::put_bytes;
 pub use hex::read_bytes;
+pub use input::turns_left;
 pub use output::flush;
 pub use output::front;
 pub use output::put;
