@@ -1,4 +1,4 @@
-// Answers the calls that standard input names, one a line, with a line for each on standard output: all of the commands `calls` and `differential`. This
+// Answers the calls that standard input names, one a line, with a line for each on standard output: all of the command `calls`. This
 // file parts the input into lines; lines.rt answers them. Nothing is proved of what is printed, only that every function is safe and ends: none has
 // a `requires`, and each does nothing with a number that does not fit the buffer beside it.
 mod lines;
