@@ -1,5 +1,8 @@
 // The lines that look at a graph, for the command `calls`. Each function is handed a line that has its name and its number of words, puts the
 // answer, without a newline, after the first `used` bytes of `out`, and answers how many are then used. None has a `requires`.
+mod children;
+mod records;
+
 use calls_text::Answered;
 use calls_text::Number;
 use calls_text::bad_line;
@@ -15,13 +18,24 @@ use calls_text::word;
 use model::Numbered;
 use prim_graph::GraphRead;
 
-// The answer to a line that looks at the whole graph, or at one node.
+// The answer to a line that looks at the whole graph, or at its nodes.
 pub fn answer(line: &[u8], arena: &[u8], out: &mut [u8], used: usize) -> Answered {
     if is_call(line, b"write", 1) {
         return Answered::Used(write_line(arena, out, used));
     }
     if is_call(line, b"marks", 1) {
         return Answered::Used(marks_line(arena, out, used));
+    }
+    answer_of_nodes(line, arena, out, used)
+}
+
+// The answer to a line that looks at every node, or at one.
+fn answer_of_nodes(line: &[u8], arena: &[u8], out: &mut [u8], used: usize) -> Answered {
+    if is_call(line, b"dump", 1) {
+        return Answered::Used(records::dump_line(arena, out, used));
+    }
+    if is_call(line, b"chains", 1) {
+        return Answered::Used(children::chains_line(arena, out, used));
     }
     answer_of_node(line, arena, out, used)
 }

@@ -1,11 +1,11 @@
--- `calls_input::answer_blocks` is safe and ends. The invariant of its loop: the six lent buffers keep their lengths.
+-- `calls::input::answer_blocks` is safe and ends. The invariant of its loop: the six lent buffers keep their lengths.
 -- The measure is the number of turns that are left. Assumes nothing.
 use mathlib.Core.Path.{_≡_}
 use borrow.Author.Needs.{needs}
 use native.Mathlib.Omega.{arith}
 use lib.ListN.{length}
-use Rattle.calls_input.proofs.answer_blocks.Statement.{statement}
-use Rattle.calls_input.proofs.answer_blocks.Tie as tie
+use Rattle.calls.proofs.input.answer_blocks.Statement.{statement}
+use Rattle.calls.proofs.input.answer_blocks.Tie as tie
 
 abbrev Inv-loop : tie.InvT-loop
 Inv-loop block₀ line₀ first₀ second₀ saved₀ out₀ held₀ swapped₀ turns₀ block line first second saved out held swapped turns = (length block ≡ length block₀) × (length line ≡ length line₀) × (length first ≡ length first₀) × (length second ≡ length second₀) × (length saved ≡ length saved₀) × (length out ≡ length out₀)

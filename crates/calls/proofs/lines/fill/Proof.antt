@@ -1,11 +1,11 @@
--- `calls_input::lines::fill` is safe and ends. The invariant of its loop: the arena keeps its length.
+-- `calls::lines::fill` is safe and ends. The invariant of its loop: the arena keeps its length.
 -- The measure is how many bytes are left. Assumes nothing.
 use Prim.Native.Nat.{_-_}
 use mathlib.Core.Path.{_≡_}
 use borrow.Author.Needs.{needs}
 use lib.ListN.{length}
-use Rattle.calls_input.proofs.lines.fill.Statement.{statement}
-use Rattle.calls_input.proofs.lines.fill.Tie as tie
+use Rattle.calls.proofs.lines.fill.Statement.{statement}
+use Rattle.calls.proofs.lines.fill.Tie as tie
 
 abbrev Inv-loop : tie.InvT-loop
 Inv-loop arena₀ byte₀ i₀ arena i = length arena ≡ length arena₀

@@ -1,11 +1,11 @@
--- `calls_dump::records::put_nodes` is safe and ends. The invariant of its loop: the lent buffer keeps its length.
+-- `calls_look::records::put_nodes` is safe and ends. The invariant of its loop: the lent buffer keeps its length.
 -- The measure is how many nodes are left. Assumes nothing.
 use Prim.Native.Nat.{_-_}
 use mathlib.Core.Path.{_≡_}
 use borrow.Author.Needs.{needs}
 use lib.ListN.{length}
-use Rattle.calls_dump.proofs.records.put_nodes.Statement.{statement}
-use Rattle.calls_dump.proofs.records.put_nodes.Tie as tie
+use Rattle.calls_look.proofs.records.put_nodes.Statement.{statement}
+use Rattle.calls_look.proofs.records.put_nodes.Tie as tie
 
 abbrev Inv-loop : tie.InvT-loop
 Inv-loop arena count out₀ used end₀ n₀ t8 out end n = length out ≡ length out₀

@@ -1,11 +1,11 @@
--- `calls_dump::records::put_numbers` is safe and ends. The invariant of its loop: the lent buffer keeps its length.
+-- `calls_look::records::put_numbers` is safe and ends. The invariant of its loop: the lent buffer keeps its length.
 -- The measure is how many numbers are left. Assumes nothing.
 use Prim.Native.Nat.{_-_}
 use mathlib.Core.Path.{_≡_}
 use borrow.Author.Needs.{needs}
 use lib.ListN.{length}
-use Rattle.calls_dump.proofs.records.put_numbers.Statement.{statement}
-use Rattle.calls_dump.proofs.records.put_numbers.Tie as tie
+use Rattle.calls_look.proofs.records.put_numbers.Statement.{statement}
+use Rattle.calls_look.proofs.records.put_numbers.Tie as tie
 
 abbrev Inv-loop : tie.InvT-loop
 Inv-loop numbers out₀ used end₀ i₀ out end i = length out ≡ length out₀

@@ -1,5 +1,5 @@
 // The answer to any line, the two arenas that the lines work on, and a third where one of them is saved. The lines about more than one arena are here; the
-// others are answered by the crates `calls_make`, `calls_change`, `calls_look`, `calls_compare`, `calls_dump` and `calls_paths`.
+// others are answered by the crates `calls_make`, `calls_change`, `calls_look`, `calls_compare` and `calls_paths`.
 use calls_text::Answered;
 use calls_text::bad_line;
 use calls_text::is_call;
@@ -141,10 +141,6 @@ fn answer_seen(line: &[u8], arena: &[u8], out: &mut [u8], used: usize) -> usize 
     }
     let compared = calls_compare::answer(line, arena, out, used);
     if let Answered::Used(end) = compared {
-        return end;
-    }
-    let printed = calls_dump::answer(line, arena, out, used);
-    if let Answered::Used(end) = printed {
         return end;
     }
     let path = calls_paths::answer(line, out, used);

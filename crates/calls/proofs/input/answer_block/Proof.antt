@@ -1,12 +1,12 @@
--- `calls_input::answer_block` is safe and ends. The invariant of its loop: the five lent buffers keep their lengths.
+-- `calls::input::answer_block` is safe and ends. The invariant of its loop: the five lent buffers keep their lengths.
 -- The measure is what is left of the block. Assumes nothing.
 use Prim.Native.Nat.{_-_}
 use mathlib.Core.Path.{_≡_}
 use borrow.Author.Needs.{needs}
 use native.Mathlib.Omega.{arith}
 use lib.ListN.{length}
-use Rattle.calls_input.proofs.answer_block.Statement.{statement}
-use Rattle.calls_input.proofs.answer_block.Tie as tie
+use Rattle.calls.proofs.input.answer_block.Statement.{statement}
+use Rattle.calls.proofs.input.answer_block.Tie as tie
 
 abbrev Inv-loop : tie.InvT-loop
 Inv-loop block line₀ first₀ second₀ saved₀ out₀ begun₀ swapped₀ used₀ at₀ line first second saved out begun swapped used at = (length line ≡ length line₀) × (length first ≡ length first₀) × (length second ≡ length second₀) × (length saved ≡ length saved₀) × (length out ≡ length out₀)

@@ -1,11 +1,11 @@
--- `calls_dump::children::put_each` is safe and ends. The invariant of its loop: the lent buffer keeps its length.
+-- `calls_look::children::put_each` is safe and ends. The invariant of its loop: the lent buffer keeps its length.
 -- The measure is how many nodes are left. Assumes nothing.
 use Prim.Native.Nat.{_-_}
 use mathlib.Core.Path.{_≡_}
 use borrow.Author.Needs.{needs}
 use lib.ListN.{length}
-use Rattle.calls_dump.proofs.children.put_each.Statement.{statement}
-use Rattle.calls_dump.proofs.children.put_each.Tie as tie
+use Rattle.calls_look.proofs.children.put_each.Statement.{statement}
+use Rattle.calls_look.proofs.children.put_each.Tie as tie
 
 abbrev Inv-loop : tie.InvT-loop
 Inv-loop first next count out₀ used end₀ n₀ t9 out end n = length out ≡ length out₀

@@ -1,10 +1,7 @@
-// Answers the calls that standard input names, one a line, with a line for each on standard output: all of the command `calls`. This
-// file parts the input into lines; lines.rt answers them. Nothing is proved of what is printed, only that every function is safe and ends: none has
-// a `requires`, and each does nothing with a number that does not fit the buffer beside it.
-mod lines;
-
+// The input, parted into lines, each with its answer on standard output.
+use crate::lines;
+use crate::lines::State;
 use libc::STDIN_FILENO;
-use lines::State;
 
 // What is left where a block ends: how many bytes there are of the line that goes on in the next one, and whether the arenas are swapped.
 struct Rest {
@@ -127,7 +124,7 @@ fn answer_rest(
 }
 
 // Answers all of standard input. The buffer for a line is as long as an arena, since every further length of a large array is dear to check.
-pub fn answer_input() {
+pub(crate) fn answer_input() {
     let mut block = io::large_buffer();
     let mut line = buffers::zeros();
     let mut first = buffers::zeros();

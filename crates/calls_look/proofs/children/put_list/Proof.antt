@@ -1,11 +1,11 @@
--- `calls_dump::children::put_list` is safe and ends. The invariant of its loop: the lent buffer keeps its length, and `left` is a number of nodes.
+-- `calls_look::children::put_list` is safe and ends. The invariant of its loop: the lent buffer keeps its length, and `left` is a number of nodes.
 -- The measure is how many nodes the list can still have. Assumes nothing.
 use Prim.Native.Nat.{_≤_}
 use mathlib.Core.Path.{_≡_}
 use borrow.Author.Needs.{needs}
 use lib.ListN.{length}
-use Rattle.calls_dump.proofs.children.put_list.Statement.{statement}
-use Rattle.calls_dump.proofs.children.put_list.Tie as tie
+use Rattle.calls_look.proofs.children.put_list.Statement.{statement}
+use Rattle.calls_look.proofs.children.put_list.Tie as tie
 
 abbrev Inv-loop : tie.InvT-loop
 Inv-loop first next out₀ used end₀ child₀ left₀ t9 out end child left = (length out ≡ length out₀) × (left ≤ length next)

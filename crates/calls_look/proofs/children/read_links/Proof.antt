@@ -1,11 +1,11 @@
--- `calls_dump::children::read_links` is safe and ends. The invariant of its loop: the lent links keep their lengths.
+-- `calls_look::children::read_links` is safe and ends. The invariant of its loop: the lent links keep their lengths.
 -- The measure is how many nodes are left. Assumes nothing.
 use Prim.Native.Nat.{_-_}
 use mathlib.Core.Path.{_≡_}
 use borrow.Author.Needs.{needs}
 use lib.ListN.{length}
-use Rattle.calls_dump.proofs.children.read_links.Statement.{statement}
-use Rattle.calls_dump.proofs.children.read_links.Tie as tie
+use Rattle.calls_look.proofs.children.read_links.Statement.{statement}
+use Rattle.calls_look.proofs.children.read_links.Tie as tie
 
 abbrev Inv-loop : tie.InvT-loop
 Inv-loop arena count first₀ next₀ n₀ first next n = (length first ≡ length first₀) × (length next ≡ length next₀)
