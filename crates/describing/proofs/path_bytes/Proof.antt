@@ -8,9 +8,9 @@ use Rattle.model.specs.Arena.{decode}
 use Rattle.model.specs.Refusals.{pathBytes}
 use Rattle.model.specs.ArenaCalls.{Readable}
 use Rattle.arena.proofs.ReadNodes.{has-slot, has-path}
-use Rattle.adding.proofs.AddingLaws.{bytesFrom, bytes-start, bytes-step, bytes-end, few-bytes}
-use Rattle.adding.proofs.describing.path_bytes.Statement.{statement}
-use Rattle.adding.proofs.describing.path_bytes.Tie as tie
+use Rattle.describing.proofs.DescribingLaws.{bytesFrom, bytes-start, bytes-step, bytes-end, few-bytes}
+use Rattle.describing.proofs.path_bytes.Statement.{statement}
+use Rattle.describing.proofs.path_bytes.Tie as tie
 
 abbrev Inv-loop : tie.InvT-loop
 Inv-loop arena count sum₀ n₀ sum n = (n ≤ count) × (sum + bytesFrom arena n ≡ pathBytes (decode arena .nodes))

@@ -1,6 +1,5 @@
-// A node that is to be added: what is missing of it, the questions that it is put, and its record.
-use crate::Depth;
-use crate::NodeDesc;
+// A node that is to be added, `NodeDesc`: what is missing of it, questions 4 to 7 of document 01, and its record. No byte is written, and no arena
+// checked: the caller has put the questions before these. specs/Describing.antt ties `NodeDesc` to that of model/specs/Calls.antt and has the record.
 use model::NodeId;
 use record_check::Checked;
 ghost use mathlib.Core.Path.{_≡_};
@@ -11,7 +10,29 @@ ghost use Rattle.model.specs.Arena.{countIn, primCountIn, decode};
 ghost use Rattle.model.specs.ArenaCalls.{Opened};
 ghost use Rattle.model.specs.Node.{invalid};
 ghost use Rattle.model.specs.Refusals.{pathBytes};
-ghost use Rattle.adding.specs.Adding.{numberOr, depthGiven, specsTold, descOf, DescChecked, addedRecord};
+ghost use Rattle.describing.specs.Describing.{numberOr, depthGiven, specsTold, descOf, DescChecked, addedRecord};
+
+// A namespace depth, or that none is given.
+pub enum Depth {
+    Given(u16),
+    Missing,
+}
+
+// A node to be added. `NodeId::INVALID` stands for a missing parent, which makes it a root site, and for a missing origin. Its path is handed over
+// beside it.
+pub struct NodeDesc {
+    pub arc: u8,
+    pub flags: u8,
+    pub stack: u32,
+    pub layer: u32,
+    pub parent: NodeId,
+    pub origin: NodeId,
+    pub depth: Depth,
+    pub sibling: u16,
+    pub restriction: u16,
+    pub spec_from: u16,
+    pub has_specs: u8,
+}
 
 // The node's number, or `missing` where it is none.
 fn number_or(node: NodeId, missing: u32) -> u32
@@ -58,7 +79,7 @@ fn specs_told(flags: u8, has_specs: u8) -> u8
 }
 
 // Questions 4 to 7 of a node that is to be added to a graph of `count` nodes: its prim count where all pass.
-pub(crate) fn check_desc(arena: &[u8], count: u32, desc: NodeDesc, path: &[u8]) -> Checked
+pub fn check_desc(arena: &[u8], count: u32, desc: NodeDesc, path: &[u8]) -> Checked
     requires { ⌜ Opened (now arena) × (count ≡ countIn (now arena)) × (0 < count) ⌝ }
     ensures { λ r. ⌜ DescChecked (decode (now (arena .entry))) (descOf desc (now (path .entry))) r ⌝ }
 {
@@ -90,12 +111,7 @@ fn default_depth(arena: &[u8], parent: NodeId, prims: u8) -> u16
 }
 
 // The record of the node, with what was missing put in. It has no links yet.
-pub(crate) fn added_record(
-    arena: &[u8],
-    desc: NodeDesc,
-    prims: u8,
-    path_length: usize,
-) -> arena::Node
+pub fn added_record(arena: &[u8], desc: NodeDesc, prims: u8, path_length: usize) -> arena::Node
     requires { ⌜ Opened (now arena) ⌝ }
     requires { ⌜ ((desc .parent .0 ≡ invalid → ⊥) → desc .parent .0 < 1024) ⌝ }
     requires { ⌜ «path_length» ≤ 255 ⌝ }

@@ -4,8 +4,8 @@ use borrow.Author.Tests.{not-true, not-false}
 use mathlib.Core.Path.{sym, _∙_}
 use lib.Dec.{eqb}
 use Rattle.model.specs.Node.{invalid}
-use Rattle.adding.proofs.describing.number_or.Statement.{statement}
-use Rattle.adding.proofs.describing.number_or.Tie as tie
+use Rattle.describing.proofs.number_or.Statement.{statement}
+use Rattle.describing.proofs.number_or.Tie as tie
 
 is-valid-requires : tie.Need-is-valid-requires
 is-valid-requires c κs = search needs

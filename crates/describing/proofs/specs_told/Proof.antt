@@ -1,8 +1,8 @@
 -- `specs_told` meets its contract. Assumes nothing.
 use borrow.Author.Needs.{needs}
 use mathlib.Core.Path.{sym, _∙_}
-use Rattle.adding.proofs.describing.specs_told.Statement.{statement}
-use Rattle.adding.proofs.describing.specs_told.Tie as tie
+use Rattle.describing.proofs.specs_told.Statement.{statement}
+use Rattle.describing.proofs.specs_told.Tie as tie
 
 is-culled-requires : tie.Need-is-culled-requires
 is-culled-requires c κs = search needs

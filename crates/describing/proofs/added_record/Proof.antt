@@ -1,9 +1,9 @@
 -- `added_record` meets its contract: what was missing is put in. Assumes nothing.
 use borrow.Author.Needs.{needs}
 use mathlib.Core.Path.{ap, _∙_}
-use Rattle.adding.specs.Adding.{numberOr, depthGiven, addedRecord}
-use Rattle.adding.proofs.describing.added_record.Statement.{statement}
-use Rattle.adding.proofs.describing.added_record.Tie as tie
+use Rattle.describing.specs.Describing.{numberOr, depthGiven, addedRecord}
+use Rattle.describing.proofs.added_record.Statement.{statement}
+use Rattle.describing.proofs.added_record.Tie as tie
 
 number-or-requires : tie.Need-number-or-requires
 number-or-requires c κs = search needs

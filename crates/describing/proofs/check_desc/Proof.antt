@@ -5,9 +5,9 @@ use mathlib.Core.Bool.{not}
 use Prim.Native.Nat.{ℕ}
 use native.Mathlib.Omega.{arith}
 use lib.Dec.{eqb}
-use Rattle.adding.proofs.AddingLaws.{desc-checked}
-use Rattle.adding.proofs.describing.check_desc.Statement.{statement}
-use Rattle.adding.proofs.describing.check_desc.Tie as tie
+use Rattle.describing.proofs.DescribingLaws.{desc-checked}
+use Rattle.describing.proofs.check_desc.Statement.{statement}
+use Rattle.describing.proofs.check_desc.Tie as tie
 
 number-or-requires : tie.Need-number-or-requires
 number-or-requires c κs = search needs

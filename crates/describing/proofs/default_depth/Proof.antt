@@ -4,8 +4,8 @@ use borrow.Author.Tests.{not-true, not-false, eqb-false}
 use mathlib.Core.Path.{sym, _∙_}
 use lib.Dec.{eqb}
 use Rattle.model.specs.Node.{invalid}
-use Rattle.adding.proofs.describing.default_depth.Statement.{statement}
-use Rattle.adding.proofs.describing.default_depth.Tie as tie
+use Rattle.describing.proofs.default_depth.Statement.{statement}
+use Rattle.describing.proofs.default_depth.Tie as tie
 
 is-valid-requires : tie.Need-is-valid-requires
 is-valid-requires c κs = search needs
