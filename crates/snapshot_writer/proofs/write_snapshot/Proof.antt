@@ -5,9 +5,9 @@ use native.Mathlib.Omega.{arith}
 use Rattle.model.specs.Arena.{decode}
 use Rattle.model.proofs.BigEndianLaws.{Bytes}
 use Rattle.model.proofs.StoredLaws.{bytes-by-place}
-use Rattle.snapshot.proofs.WriterLaws.{counted, few, snapshot-short, snapshot-stored, snapshot-length}
-use Rattle.snapshot.proofs.writer.write_snapshot.Statement.{statement}
-use Rattle.snapshot.proofs.writer.write_snapshot.Tie as tie
+use Rattle.snapshot_writer.proofs.WriterLaws.{counted, few, snapshot-short, snapshot-stored, snapshot-length}
+use Rattle.snapshot_writer.proofs.write_snapshot.Statement.{statement}
+use Rattle.snapshot_writer.proofs.write_snapshot.Tie as tie
 
 arena-bytes : (c : tie.After-shared-slice-known) → Bytes (c .before .args .arena .now)
 arena-bytes c = bytes-by-place (c .before .args .arena .now) (λ k. c .shared-slice-known .given k .fits)

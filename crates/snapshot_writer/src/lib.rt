@@ -1,11 +1,13 @@
-// The writer: the records of an arena one after the other, and then the seven bytes before them.
+// The writer of snapshots (document 01): it copies the records of an arena into lent bytes, one after the other, and then stores the seven bytes before
+// them. It puts no question and never changes the arena. What a snapshot is stands in model/specs/Snapshot.antt; specs/Writing.antt has what the writer
+// asks of its callers, and crates/snapshot's proofs/ReadBack.antt says that what is written reads back.
 ghost use mathlib.Core.Path.{_≡_};
 ghost use Prim.Native.Nat.{_+_, _-_};
 ghost use lib.ListN.{length};
 ghost use Rattle.model.specs.Arena.{decode};
 ghost use Rattle.model.specs.Bytes.{stored};
 ghost use Rattle.model.specs.Snapshot.{recordsBytes, writeSnapshot};
-ghost use Rattle.snapshot.specs.Writing.{CanWrite, frontBytes};
+ghost use Rattle.snapshot_writer.specs.Writing.{CanWrite, frontBytes};
 
 // Copies the records behind the place of the front, and answers where they end.
 fn write_records(arena: &[u8], out: &mut [u8]) -> usize

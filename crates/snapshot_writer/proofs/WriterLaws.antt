@@ -20,7 +20,7 @@ use Rattle.arena.specs.Slot.{HasPath}
 use Rattle.arena.proofs.HeldArenas.{held}
 use Rattle.arena.proofs.ArenaBack.{size-decode, body-written}
 use Rattle.arena.proofs.HeldEncodable.{held-encodable}
-use Rattle.snapshot.specs.Writing.{CanWrite, frontBytes}
+use Rattle.snapshot_writer.specs.Writing.{CanWrite, frontBytes}
 
 -- ---- Records
 

@@ -4,9 +4,9 @@ use borrow.Author.Needs.{needs}
 use native.Mathlib.Omega.{arith}
 use Rattle.model.specs.Bytes.{stored}
 use Rattle.model.specs.Snapshot.{bigEndian}
-use Rattle.snapshot.proofs.WriterLaws.{front-stored}
-use Rattle.snapshot.proofs.writer.write_front.Statement.{statement}
-use Rattle.snapshot.proofs.writer.write_front.Tie as tie
+use Rattle.snapshot_writer.proofs.WriterLaws.{front-stored}
+use Rattle.snapshot_writer.proofs.write_front.Statement.{statement}
+use Rattle.snapshot_writer.proofs.write_front.Tie as tie
 
 write-u32-requires : tie.Need-write-u32-requires
 write-u32-requires c κs = search needs

@@ -8,9 +8,9 @@ use lib.ListN.{length}
 use Rattle.model.specs.Arena.{countIn}
 use Rattle.model.proofs.BigEndianLaws.{Bytes}
 use Rattle.model.proofs.StoredLaws.{bytes-by-place}
-use Rattle.snapshot.proofs.WriterLaws.{has-record, Copied, copied-none, copied-more, copied-all, copied-length, piece-fits}
-use Rattle.snapshot.proofs.writer.write_records.Statement.{statement}
-use Rattle.snapshot.proofs.writer.write_records.Tie as tie
+use Rattle.snapshot_writer.proofs.WriterLaws.{has-record, Copied, copied-none, copied-more, copied-all, copied-length, piece-fits}
+use Rattle.snapshot_writer.proofs.write_records.Statement.{statement}
+use Rattle.snapshot_writer.proofs.write_records.Tie as tie
 
 abbrev Inv-loop : tie.InvT-loop
 Inv-loop arena out₀ count at₀ n₀ out at n = Copied arena out₀ out at n
