@@ -1,22 +1,21 @@
--- The questions that the two calls put are document 01's: `start-accepted`, `add-questions`, `add-accepted`; the records that they append are the
--- definitions' nodes: `start-node`, `added-node`; and the sum of the path bytes, one node after the other: `bytes-start`, `bytes-step`. Assumes nothing.
+-- The questions that the two calls put are document 01's: `start-accepted`, `add-accepted`; the records that they append are the definitions' nodes:
+-- `start-node`, `added-node`. Assumes nothing.
 use mathlib.Core.Path.{_≡_, refl, sym, ap, _∙_}
-use mathlib.Core.Bool.{Bool, true, false, not, _||_, _&&_, cond, and-eq-true-iff}
+use mathlib.Core.Bool.{Bool, true, false, not, _&&_, cond, and-eq-true-iff}
 use mathlib.Core.List.{List, [], _∷_}
-use Prim.Native.Nat.{ℕ, suc, _+_, _-_, _≤_, _<_}
+use Prim.Native.Nat.{ℕ, _+_, _≤_, _<_}
 use native.Mathlib.Omega.{arith}
-use native.Mathlib.Numerals.{add-one}
 use lib.Dec.{eqb, ltb, leb}
 use lib.ListN.{length}
 use borrow.Author.Tests.{eq-eqb, ne-eqb, eqb-false, lt-ltb, ltb-true, le-leb, le-ltb}
 use Rattle.model.specs.Path.{wellFormed, primCount}
 use Rattle.model.specs.Node as model
 use Rattle.model.specs.Node.{invalid, rootArc, isCulled}
-use Rattle.model.specs.Graph.{Graph, size, nodeAt, hasLocalRoot, withNode}
-use Rattle.model.specs.Refusals.{refusalNumber, Question, ask, refusal, pathBytes, hasRoom, arcAllowed, linksAllowed, recordQuestions}
+use Rattle.model.specs.Graph.{Graph, size, nodeAt, withNode}
+use Rattle.model.specs.Refusals.{refusalNumber, Question, ask, refusal, pathBytes, arcAllowed, linksAllowed, recordQuestions}
 use Rattle.model.specs.Calls as calls
 use Rattle.model.specs.Calls.{hasNodeZero, initRoot, given, givenBelow, depthOr, defaultDepth, addedNode, rootNode, addChild}
-use Rattle.model.specs.Arena.{countIn, recordLengthIn, primCountIn, nodeIn, tabulate, decode, encode, localRootIn}
+use Rattle.model.specs.Arena.{countIn, primCountIn, decode, encode}
 use Rattle.model.specs.ArenaCalls.{Opened, Readable, onArena, Wrote}
 use Rattle.model.specs.declared.Refusal.{Refusal}
 use Rattle.model.specs.declared.Refusal.the-variants.{NodeZero, Path}
@@ -26,52 +25,14 @@ use Rattle.model.proofs.AcceptedQuestions.{none-refused-accepted}
 use Rattle.model.proofs.PathGrammar.{well-formed-length}
 use Rattle.arena.specs.Slot.{nodeOf}
 use Rattle.arena.proofs.HeldArenas.{held}
-use Rattle.arena.proofs.ArenaBack.{fresh-legal, fresh-nodes}
-use Rattle.arena.proofs.SlotLaws.{path-length}
-use Rattle.arena.proofs.ReadNodes.{sizes, has-path, node-read, root-found, root-held}
+use Rattle.arena.proofs.ReadNodes.{sizes, node-read}
 use Rattle.append.specs.Append.{CanAppend}
-use Rattle.record_check.specs.declared.Checked.{Checked}
-use Rattle.record_check.specs.RecordCheck.{linksAt, questionsAt, RecordChecked}
-use Rattle.adding.specs.declared.NodeDesc.{NodeDesc}
-use Rattle.adding.specs.declared.Depth.{Depth}
-use Rattle.adding.specs.declared.Depth.the-variants.{Given, Missing}
-use Rattle.adding.specs.Adding.{depthOption, descOf, addQuestions, DescChecked, numberOr, depthGiven, specsTold, startRecord, addedRecord}
-
--- ---- The path bytes
-
-module _ (bs : List ℕ) where
-  -- those of the nodes from n on
-  abbrev pub bytesFrom : ℕ → ℕ
-  bytesFrom n = pathBytes (tabulate (nodeIn bs) n (countIn bs - n))
-
-  pub bytes-start : bytesFrom 0 ≡ pathBytes (decode bs .nodes)
-  unfolding decode
-  bytes-start =
-      let whole : countIn bs - 0 ≡ countIn bs = omega arith in
-      ap (λ (k : ℕ). pathBytes (tabulate (nodeIn bs) 0 k)) whole
-
-  pub bytes-step : (n : ℕ) → Readable bs n → bytesFrom n ≡ (recordLengthIn bs n - 27) + bytesFrom (n + 1)
-  bytes-step n r =
-      let more : countIn bs - n ≡ suc (countIn bs - (n + 1)) = omega (arith, r .below) in
-      let long : recordLengthIn bs n - 27 ≡ length (nodeIn bs n .path) = omega (arith, path-length bs n (has-path bs n r)) in
-      ap (λ (k : ℕ). pathBytes (tabulate (nodeIn bs) n k)) more
-      ∙ ap (λ (m : ℕ). length (nodeIn bs n .path) + pathBytes (tabulate (nodeIn bs) m (countIn bs - (n + 1)))) (sym (add-one n))
-      ∙ ap (λ (l : ℕ). l + bytesFrom (n + 1)) (sym long)
-
-  pub bytes-end : (n : ℕ) → countIn bs ≤ n → bytesFrom n ≡ 0
-  bytes-end n h =
-      let none : countIn bs - n ≡ 0 = omega arith in
-      ap (λ (k : ℕ). pathBytes (tabulate (nodeIn bs) n k)) none
-
-  pub few-bytes : Opened bs → pathBytes (decode bs .nodes) ≤ 32768
-  few-bytes o =
-      let all = held bs (o .holds) in
-      rw (fresh-nodes bs all) at (fresh-legal bs all .few-path-bytes)
-
--- ---- The local root
-
-pub has-root : (bs : List ℕ) → Opened bs → 0 < countIn bs → not (eqb (localRootIn bs) 0) ≡ hasLocalRoot (decode bs .nodes)
-has-root bs o h = ap (λ (n : ℕ). not (eqb n 0)) (root-held bs o h) ∙ root-found (decode bs .nodes) (length (decode bs .nodes))
+use Rattle.describing.specs.declared.NodeDesc.{NodeDesc}
+use Rattle.describing.specs.declared.Depth.{Depth}
+use Rattle.describing.specs.declared.Depth.the-variants.{Given, Missing}
+use Rattle.describing.specs.Describing.{depthOption, descOf, addQuestions, numberOr, depthGiven, addedRecord}
+use Rattle.describing.proofs.DescribingLaws.{links-asked, turned}
+use Rattle.adding.specs.Adding.{startRecord}
 
 -- ---- Starting
 
@@ -94,53 +55,11 @@ module _ (g : Graph) (d : calls.NodeDesc) (some : 0 < size g) where
   abbrev x : model.Node
   x = addedNode g d
 
-  -- question 4, of the parent and the origin that are there in the end
-  links-asked : (ltb (x .parent) (size g) && ltb (x .origin) (size g)) ≡ (givenBelow (size g) (d .fields .parent) && givenBelow (size g) (d .fields .origin))
-  links-asked = go (eqb (d .fields .parent) invalid) (eqb (d .fields .origin) invalid)
-    where
-      same : (t : Bool) → (t && t) ≡ (t && true)
-      same true = refl
-      same false = refl
-
-      go : (p o : Bool)
-          → (ltb (cond (not p) (d .fields .parent) 0) (size g)
-          && ltb (cond (not o) (d .fields .origin) (cond (not p) (d .fields .parent) 0)) (size g))
-          ≡ ((not (not p) || ltb (d .fields .parent) (size g)) && (not (not o) || ltb (d .fields .origin) (size g)))
-      go true true = rw (lt-ltb 0 (size g) some)
-      go true false = rw (lt-ltb 0 (size g) some)
-      go false true = same (ltb (d .fields .parent) (size g))
-      go false false = refl
-
-  -- question 6, where the check is told 2 of a culled node's has-specs
-  kind-asked : (arcs : Bool)
-      → (arcs && (not (eqb (x .arc) rootArc && isCulled x) && leb (specsTold (x .flags) (x .hasSpecs)) 1))
-      ≡ (arcs && (not (isCulled x) && leb (x .hasSpecs) 1))
-  kind-asked arcs = go (eqb (x .arc) rootArc) (isCulled x)
-    where
-      go : (a c : Bool) → (arcs && (not (a && c) && leb (cond c 2 (x .hasSpecs)) 1)) ≡ (arcs && (not c && leb (x .hasSpecs) 1))
-      go true true = refl
-      go false true = refl
-      go true false = refl
-      go false false = refl
-
-  pub add-questions :
-      refusal (questionsAt (size g) (pathBytes (g .nodes)) (hasLocalRoot (g .nodes)) (x .arc) (x .flags) (x .parent) (x .origin)
-      (specsTold (x .flags) (x .hasSpecs)) (x .path))
-      ≡ refusal (addQuestions g d)
-  add-questions =
-      let links : linksAt (size g) (x .arc) (x .flags) (x .parent) (x .origin) ≡ (givenBelow (size g) (d .fields .parent) && givenBelow (size g) (d .fields .origin)) =
-      rw (ne-eqb (size g) 0 (λ z. omega arith)) links-asked in
-      ap (λ (t : Bool). refusal (ask 4 t ∷ ask 5 (wellFormed (x .path))
-      ∷ ask 6 (arcAllowed g x && (not (eqb (x .arc) rootArc && isCulled x) && leb (specsTold (x .flags) (x .hasSpecs)) 1)) ∷ ask 7 (hasRoom g x) ∷ []))
-      links
-      ∙ ap (λ (t : Bool). refusal (ask 4 (givenBelow (size g) (d .fields .parent) && givenBelow (size g) (d .fields .origin)) ∷ ask 5 (wellFormed (x .path))
-      ∷ ask 6 t ∷ ask 7 (hasRoom g x) ∷ [])) (kind-asked (arcAllowed g x))
-
   -- what may be added may be read
   pub add-accepted : refusal (addQuestions g d) ≡ 0 → refusal (recordQuestions g x) ≡ 0
   add-accepted e =
       let passes = none-refused-accepted (addQuestions g d) refl e in
-      let links : linksAllowed g x ≡ true = rw (ne-eqb (size g) 0 (λ z. omega arith)) (links-asked ∙ passes 4) in
+      let links : linksAllowed g x ≡ true = rw (ne-eqb (size g) 0 (λ z. omega arith)) (links-asked g d some ∙ passes 4) in
       rw (links, passes 5, added-read (arcAllowed g x) (isCulled x) (leb (x .hasSpecs) 1) (passes 6), passes 7)
     where
       added-read : (arcs culled specs : Bool) → (arcs && (not culled && specs)) ≡ true → (arcs && (not (eqb (x .arc) rootArc && culled) && specs)) ≡ true
@@ -153,10 +72,6 @@ module _ (g : Graph) (d : calls.NodeDesc) (some : 0 < size g) where
       added-read false culled specs k = k
 
 -- ---- The record of a node that is added
-
-turned : (t : Bool) (a b : ℕ) → cond t a b ≡ cond (not t) b a
-turned true a b = refl
-turned false a b = refl
 
 depth-same : (depth : Depth) (default read : ℕ) → read ≡ default → depthGiven depth read ≡ depthOr (depthOption depth) default
 depth-same (Given k) default read e = refl
@@ -211,26 +126,6 @@ module _ (bs : List ℕ) (o : Opened bs) (desc : NodeDesc) (path : List ℕ) (so
         specFrom = desc .«spec_from»;
         hasSpecs = desc .«has_specs»;
         path = path;
-      }
-
-  -- the check of a record, put the node with what was missing put in, has put it `addChild`'s questions
-  pub desc-checked : (count sum parent origin told : ℕ) (root : Bool) (r : Checked) → count ≡ countIn bs → sum ≡ pathBytes (g .nodes)
-      → root ≡ not (eqb (localRootIn bs) 0) → parent ≡ numberOr (desc .parent .0) 0 → origin ≡ numberOr (desc .origin .0) parent
-      → told ≡ specsTold (desc .flags) (desc .«has_specs»)
-      → RecordChecked (questionsAt count sum root (desc .arc) (desc .flags) parent origin told path) path r → DescChecked g d r
-  desc-checked count sum parent origin told root r count-is sum-is root-is parent-is origin-is told-is checked =
-      let counted : count ≡ size g = count-is ∙ sym (sizes bs o) in
-      let rooted : root ≡ hasLocalRoot (g .nodes) = root-is ∙ has-root bs o some in
-      let above : parent ≡ addedNode g d .parent = parent-is ∙ turned (eqb (desc .parent .0) invalid) 0 (desc .parent .0) in
-      let from : origin ≡ addedNode g d .origin =
-      origin-is ∙ turned (eqb (desc .origin .0) invalid) parent (desc .origin .0) ∙ ap (λ (q : ℕ). cond (given (desc .origin .0)) (desc .origin .0) q) above in
-      let same : questionsAt count sum root (desc .arc) (desc .flags) parent origin told path
-      ≡ questionsAt (size g) (pathBytes (g .nodes)) (hasLocalRoot (g .nodes)) (desc .arc) (desc .flags) (addedNode g d .parent) (addedNode g d .origin)
-      (specsTold (desc .flags) (desc .«has_specs»)) path =
-      λ i. questionsAt (counted i) (sum-is i) (rooted i) (desc .arc) (desc .flags) (above i) (from i) (told-is i) path in
-      record {
-        refused = checked .refused ∙ ap refusal same ∙ add-questions g d (omega (arith, sizes bs o));
-        prims = checked .prims;
       }
 
   pub can-add : (prims count : ℕ) → refusal (addQuestions g d) ≡ 0 → prims ≡ primCount path → count ≡ countIn bs

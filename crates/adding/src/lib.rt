@@ -1,9 +1,9 @@
 // The calls that start a graph and add to it. No public function has a `requires`: each puts its questions in document 01's order and is refused by the
 // first whose answer is no; then no byte has changed, because nothing is written before all have passed.
-// The calls are model/specs/Calls.antt's `initRoot` and `addChild`, on an arena as model/specs/ArenaCalls.antt has it; specs/Adding.antt ties
-// `NodeDesc` to them.
-mod describing;
-
+// The calls are model/specs/Calls.antt's `initRoot` and `addChild`, on an arena as model/specs/ArenaCalls.antt has it; specs/Adding.antt has
+// node 0's record. What is asked of a node to be added, and its record, are in crates/describing.
+pub use describing::Depth;
+pub use describing::NodeDesc;
 use model::NodeId;
 use model::Numbered;
 use model::PrimCount;
@@ -13,29 +13,8 @@ ghost use mathlib.Core.Path.{_≡_};
 ghost use Prim.Native.Nat.{_≤_};
 ghost use Rattle.model.specs.ArenaCalls.{onArena, Wrote};
 ghost use Rattle.model.specs.Calls.{initRoot, addChild};
-ghost use Rattle.adding.specs.Adding.{startRecord, descOf};
-
-// A namespace depth, or that none is given.
-pub enum Depth {
-    Given(u16),
-    Missing,
-}
-
-// A node to be added. `NodeId::INVALID` stands for a missing parent, which makes it a root site, and for a missing origin. Its path is handed over
-// beside it.
-pub struct NodeDesc {
-    pub arc: u8,
-    pub flags: u8,
-    pub stack: u32,
-    pub layer: u32,
-    pub parent: NodeId,
-    pub origin: NodeId,
-    pub depth: Depth,
-    pub sibling: u16,
-    pub restriction: u16,
-    pub spec_from: u16,
-    pub has_specs: u8,
-}
+ghost use Rattle.describing.specs.Describing.{descOf};
+ghost use Rattle.adding.specs.Adding.{startRecord};
 
 // The record of node 0: arc Root, INERT, with specs, its depth its own prim count.
 fn start_record(stack: u32, layer: u32, prims: u16, path_length: usize) -> arena::Node

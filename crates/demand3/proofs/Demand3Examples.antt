@@ -26,8 +26,8 @@ use Rattle.model.specs.ArenaCalls.{left}
 use Rattle.model.proofs.Text.{bytes}
 use Rattle.model.proofs.SnapshotLaws.{written-bytes}
 use Rattle.model.proofs.ListLaws.{all-imp, every-all}
-use Rattle.adding.specs.declared.Depth.{Depth}
-use Rattle.adding.specs.declared.Depth.the-variants.{Given, Missing}
+use Rattle.describing.specs.declared.Depth.{Depth}
+use Rattle.describing.specs.declared.Depth.the-variants.{Given, Missing}
 use Rattle.snapshot.proofs.ReadBack.{written-reads-back}
 use Rattle.keeping.proofs.KeepEncodable.{Arena, arena-encodable, ArenaOf}
 use Rattle.demand3.specs.Demand3.{Slice, DepthFits, Write, starting, adding, ordering, culling, erasing, deepening, reading, step, steps, Lent, seeding, Start, empty, read, seeded, rest, Deepened, Demand3}

@@ -14,10 +14,10 @@ use Rattle.model.specs.Calls.{Outcome, unchanged, Call, call, readInto, eraseSe
 use Rattle.model.specs.Arena.{arenaBytes, decode, encode}
 use Rattle.model.specs.ArenaCalls.{onArena, intoArena, left}
 use Rattle.model.proofs.SnapshotReadLaws.{accepted-read, grown-read, refused-read-keeps}
-use Rattle.adding.specs.Adding.{depthOption, descOf}
-use Rattle.adding.specs.declared.NodeDesc.{NodeDesc}
-use Rattle.adding.specs.declared.Depth.{Depth}
-use Rattle.adding.specs.declared.Depth.the-variants.{Given, Missing}
+use Rattle.describing.specs.Describing.{depthOption, descOf}
+use Rattle.describing.specs.declared.NodeDesc.{NodeDesc}
+use Rattle.describing.specs.declared.Depth.{Depth}
+use Rattle.describing.specs.declared.Depth.the-variants.{Given, Missing}
 use Rattle.erasing.specs.Erasures.{eraseIn}
 use Rattle.keeping.proofs.AddingKeeps.{DepthFits}
 use Rattle.keeping.proofs.ReadingKeeps.{reading-encodable}

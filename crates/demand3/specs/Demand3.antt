@@ -18,10 +18,10 @@ use Rattle.model.specs.Erasing.{stays, erasable, newNumber, renumbered}
 use Rattle.model.specs.Calls.{Outcome, initRoot, addChild, finalizeStrengthOrder, cull, appendChildName, readInto}
 use Rattle.model.specs.Arena.{arenaBytes, countIn, decode, holdsGraph}
 use Rattle.model.specs.ArenaCalls.{Opened, onArena, intoArena, left}
-use Rattle.adding.specs.Adding.{descOf}
-use Rattle.adding.specs.declared.NodeDesc.{NodeDesc}
-use Rattle.adding.specs.declared.Depth.{Depth}
-use Rattle.adding.specs.declared.Depth.the-variants.{Given, Missing}
+use Rattle.describing.specs.Describing.{descOf}
+use Rattle.describing.specs.declared.NodeDesc.{NodeDesc}
+use Rattle.describing.specs.declared.Depth.{Depth}
+use Rattle.describing.specs.declared.Depth.the-variants.{Given, Missing}
 use Rattle.erasing.specs.Erasures.{eraseIn}
 use Rattle.child_names.specs.ChildNames.{seedFrom}
 
@@ -42,7 +42,7 @@ abbrev pub DepthFits : Depth → Type 0
 DepthFits (Given d) = d < 65536
 DepthFits Missing = Unit {0}
 
--- crates/adding's `NodeDesc`
+-- crates/describing's `NodeDesc`
 pub record DescFits (d : NodeDesc) : Type 0 where
   pub arc : d .arc < 256
   pub flags : d .flags < 256

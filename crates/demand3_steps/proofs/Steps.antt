@@ -16,8 +16,8 @@ use Rattle.model.specs.Answers.{finishedRefusal, numberedRefusal}
 use Rattle.model.specs.ArenaCalls.{Opened, onArena, intoArena, Wrote}
 use Rattle.model.specs.declared.Finished.{Finished}
 use Rattle.model.specs.declared.Numbered.{Numbered}
-use Rattle.adding.specs.Adding.{descOf}
-use Rattle.adding.specs.declared.NodeDesc.{NodeDesc}
+use Rattle.describing.specs.Describing.{descOf}
+use Rattle.describing.specs.declared.NodeDesc.{NodeDesc}
 use Rattle.finalizing.specs.Orders.{Finalized}
 use Rattle.erasing.specs.Erasures.{Culled, setQuestions, ErasableWritten, eraseIn, Erased}
 use Rattle.child_names.specs.ChildNames.{Deepened, Seeded}

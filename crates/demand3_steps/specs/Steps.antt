@@ -5,7 +5,7 @@ use mathlib.Core.List.{List}
 use Prim.Native.Nat.{ℕ}
 use Rattle.model.specs.ArenaCalls.{Finishes}
 use Rattle.model.specs.declared.Finished.{Finished}
-use Rattle.adding.specs.declared.NodeDesc.{NodeDesc}
+use Rattle.describing.specs.declared.NodeDesc.{NodeDesc}
 use Rattle.demand3.specs.Demand3.{U32, Slice, DescFits, starting, adding, ordering, culling, erasing, deepening, reading, step, seeding}
 
 abbrev pub Starts : ℕ → ℕ → List ℕ → List ℕ → List ℕ → Type 0

@@ -1,6 +1,6 @@
 // Each function makes one of the calls of crates/demand3's specs/Demand3.antt and no more, to say by its contract that what the code leaves is the step of
 // the list (specs/Steps.antt).
-use adding::NodeDesc;
+use describing::NodeDesc;
 use model::Finished;
 use model::Numbered;
 ghost use Rattle.demand3_steps.specs.Steps.{Starts, Adds, Orders, Culls, Erases, Deepens, Reads, Seeds};

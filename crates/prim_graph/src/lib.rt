@@ -67,5 +67,5 @@ pub fn write_snapshot(arena: &[u8], out: &mut [u8]) -> Numbered
     if !validate::is_graph(arena) {
         return Numbered::Refused(Refusal::NotAGraph);
     }
-    Numbered::Number(snapshot::write_snapshot(arena, out))
+    Numbered::Number(snapshot_writer::write_snapshot(arena, out))
 }

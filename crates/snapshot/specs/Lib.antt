@@ -1,4 +1,3 @@
 -- The names that this crate's contracts cite.
 pub mod Reading
 pub mod Filling
-pub mod Writing

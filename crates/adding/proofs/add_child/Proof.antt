@@ -15,7 +15,7 @@ use Rattle.model.specs.Arena.{arenaBytes, countIn, decode, encode}
 use Rattle.model.specs.ArenaCalls.{Opened}
 use Rattle.model.proofs.ArenaCallLaws.{wrote-not-arena, wrote-not-graph}
 use Rattle.arena.proofs.ReadNodes.{has-slot}
-use Rattle.adding.specs.Adding.{descOf, addQuestions}
+use Rattle.describing.specs.Describing.{descOf, addQuestions}
 use Rattle.adding.proofs.AddingLaws.{parent-below, can-add, short-path, added-node, add-to-none, add-refused, add-done}
 use Rattle.adding.proofs.add_child.Statement.{statement}
 use Rattle.adding.proofs.add_child.Tie as tie
