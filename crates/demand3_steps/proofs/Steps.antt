@@ -18,7 +18,7 @@ use Rattle.model.specs.declared.Finished.{Finished}
 use Rattle.model.specs.declared.Numbered.{Numbered}
 use Rattle.adding.specs.Adding.{descOf}
 use Rattle.adding.specs.declared.NodeDesc.{NodeDesc}
-use Rattle.finalizing.specs.Orders.{Finalized}
+use Rattle.finalizing.specs.Finalizing.{Finalized}
 use Rattle.erasing.specs.Erasures.{Culled, setQuestions, ErasableWritten, eraseIn, Erased}
 use Rattle.child_names.specs.ChildNames.{Deepened, Seeded}
 use Rattle.demand3.specs.Demand3.{Slice, Write, steps, Lent, Start, read, seeded, erasingAll}

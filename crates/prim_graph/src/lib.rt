@@ -3,9 +3,9 @@
 // every lent byte is as it was. What a call answers and leaves is its one function of model/specs/Calls.antt, made a call on bytes by
 // model/specs/ArenaCalls.antt.
 // Starting and adding are in crates/adding, the count in crates/asking, what is read of the header or one node in crates/queries, the node that uses a
-// site in crates/site_queries, the comparisons in crates/comparing, class hierarchies in crates/hierarchies, the calls on the order in
-// crates/finalizing, culling and erasing in crates/erasing, appending a child's name in crates/child_names; here are the two that take or give a
-// snapshot.
+// site in crates/site_queries, the comparisons in crates/comparing, class hierarchies in crates/hierarchies, ordering in crates/finalizing, reading the
+// order in crates/order_reading, culling and erasing in crates/erasing, appending a child's name in crates/child_names; here are the two that take or
+// give a snapshot.
 pub use adding::Depth;
 pub use adding::NodeDesc;
 pub use adding::add_child;
@@ -21,14 +21,14 @@ pub use erasing::cull_subtrees_without_opinions;
 pub use erasing::erasable;
 pub use erasing::erase;
 pub use finalizing::finalize_strength_order;
-pub use finalizing::order_entry;
-pub use finalizing::strength_order;
 pub use hierarchies::HierarchyRead;
 pub use hierarchies::get_propagated_specializes_node;
 pub use hierarchies::is_propagated_specializes;
 pub use hierarchies::starting_node_of_class_hierarchy;
 use model::Numbered;
 use model::Refusal;
+pub use order_reading::order_entry;
+pub use order_reading::strength_order;
 pub use queries::GraphInfo;
 pub use queries::GraphRead;
 pub use queries::NodeRead;
