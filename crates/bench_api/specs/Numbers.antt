@@ -12,7 +12,7 @@ use Rattle.model.specs.ArenaCalls.{isArena, Wrote, Finishes, AnsweredOrder}
 use Rattle.model.specs.Calls as calls
 use Rattle.model.specs.Calls.{Outcome}
 use Rattle.model.specs.Node.{invalid}
-use Rattle.prim_graph.specs.Snapshots.{SnapshotWritten}
+use Rattle.snapshots.specs.Snapshots.{SnapshotWritten}
 use Rattle.erasing.specs.Erasures.{ErasableWritten}
 use Rattle.model.specs.declared.PrimCount.{PrimCount}
 use Rattle.model.specs.declared.PrimCount.the-variants.{Names, Malformed}

@@ -15,7 +15,7 @@ use Rattle.model.specs.ArenaCalls.{left, valueUnless}
 use Rattle.model.specs.declared.Numbered.{Numbered}
 use Rattle.model.specs.declared.Compared.{Compared}
 use Rattle.model.specs.declared.Finished.{Finished}
-use Rattle.finalizing.specs.Orders.{orderBytes, listQuestions}
+use Rattle.order_reading.specs.Orders.{orderBytes, listQuestions}
 
 -- "refusal's number times 4,294,967,296 plus the value"
 abbrev pub carried : ℕ → ℕ → ℕ

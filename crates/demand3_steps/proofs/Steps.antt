@@ -1,6 +1,6 @@
 -- What ties demand 3 to the code: a call's contract leaves the arena that its step in crates/demand3's specs/Demand3.antt does. Each law takes the
 -- contract as the source has it: crates/adding's `init_root` and `add_child`, crates/finalizing's `finalize_strength_order`, crates/erasing's
--- `cull_subtrees_without_opinions` and `erase`, crates/child_names' `append_child_name_to_all_sites` and `seed_child`, crates/prim_graph's
+-- `cull_subtrees_without_opinions` and `erase`, crates/child_names' `append_child_name_to_all_sites` and `seed_child`, crates/snapshots'
 -- `read_snapshot`. Where the code reads or seeds and is not refused, a list may begin; and the set that demand 3 erases is the one that crates/erasing's
 -- `erasable` writes. Assumes nothing.
 use mathlib.Core.Path.{_≡_, sym, ap, _∙_}
@@ -18,7 +18,7 @@ use Rattle.model.specs.declared.Finished.{Finished}
 use Rattle.model.specs.declared.Numbered.{Numbered}
 use Rattle.describing.specs.Describing.{descOf}
 use Rattle.describing.specs.declared.NodeDesc.{NodeDesc}
-use Rattle.finalizing.specs.Orders.{Finalized}
+use Rattle.finalizing.specs.Finalizing.{Finalized}
 use Rattle.erasing.specs.Erasures.{Culled, setQuestions, ErasableWritten, eraseIn, Erased}
 use Rattle.child_names.specs.ChildNames.{Deepened, Seeded}
 use Rattle.demand3.specs.Demand3.{Slice, Write, steps, Lent, Start, read, seeded, erasingAll}

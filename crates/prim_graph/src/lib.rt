@@ -3,9 +3,9 @@
 // every lent byte is as it was. What a call answers and leaves is its one function of model/specs/Calls.antt, made a call on bytes by
 // model/specs/ArenaCalls.antt.
 // Starting and adding are in crates/adding, the count in crates/asking, what is read of the header or one node in crates/queries, the node that uses a
-// site in crates/site_queries, the comparisons in crates/comparing, class hierarchies in crates/hierarchies, the calls on the order in
-// crates/finalizing, culling and erasing in crates/erasing, appending a child's name in crates/child_names; here are the two that take or give a
-// snapshot.
+// site in crates/site_queries, the comparisons in crates/comparing, class hierarchies in crates/hierarchies, ordering in crates/finalizing, reading the
+// order in crates/order_reading, culling and erasing in crates/erasing, appending a child's name in crates/child_names, reading and writing a snapshot in
+// crates/snapshots. Nothing is defined here.
 pub use adding::Depth;
 pub use adding::NodeDesc;
 pub use adding::add_child;
@@ -21,14 +21,12 @@ pub use erasing::cull_subtrees_without_opinions;
 pub use erasing::erasable;
 pub use erasing::erase;
 pub use finalizing::finalize_strength_order;
-pub use finalizing::order_entry;
-pub use finalizing::strength_order;
 pub use hierarchies::HierarchyRead;
 pub use hierarchies::get_propagated_specializes_node;
 pub use hierarchies::is_propagated_specializes;
 pub use hierarchies::starting_node_of_class_hierarchy;
-use model::Numbered;
-use model::Refusal;
+pub use order_reading::order_entry;
+pub use order_reading::strength_order;
 pub use queries::GraphInfo;
 pub use queries::GraphRead;
 pub use queries::NodeRead;
@@ -38,34 +36,5 @@ pub use queries::node;
 pub use queries::path;
 pub use queries::path_at_introduction;
 pub use site_queries::node_using_site;
-ghost use Rattle.model.specs.ArenaCalls.{intoArena, Wrote};
-ghost use Rattle.model.specs.Calls.{readInto};
-ghost use Rattle.model.specs.Graph.{emptyGraph};
-ghost use Rattle.prim_graph.specs.Snapshots.{SnapshotWritten};
-
-// Reads a snapshot into the arena, whatever it held, and answers how many nodes it has: child lists in node order, not ordered, shallow found anew.
-// Refused 1, 12, then 4 to 7 record by record.
-pub fn read_snapshot(arena: &mut [u8], bytes: &[u8]) -> Numbered
-    ensures { λ r. ⌜ Wrote (intoArena (readInto (now (bytes .entry)) emptyGraph) (now (arena .entry))) (now (arena .entry)) r (now (arena .exit)) ⌝ }
-{
-    if arena.len() != 327744 {
-        return Numbered::Refused(Refusal::Size);
-    }
-    snapshot::read_snapshot(arena, bytes)
-}
-
-// Writes the graph as a snapshot to the front of `out`, which has 65,536 bytes, and answers how many it took. Refused 1 or 2.
-pub fn write_snapshot(arena: &[u8], out: &mut [u8]) -> Numbered
-    ensures { λ r. ⌜ SnapshotWritten (now (arena .entry)) (now (out .entry)) r (now (out .exit)) ⌝ }
-{
-    if arena.len() != 327744 {
-        return Numbered::Refused(Refusal::Size);
-    }
-    if out.len() != 65536 {
-        return Numbered::Refused(Refusal::Size);
-    }
-    if !validate::is_graph(arena) {
-        return Numbered::Refused(Refusal::NotAGraph);
-    }
-    Numbered::Number(snapshot_writer::write_snapshot(arena, out))
-}
+pub use snapshots::read_snapshot;
+pub use snapshots::write_snapshot;

@@ -10,7 +10,7 @@ use Rattle.model.specs.declared.Refusal.the-variants.{NodeZero}
 use Rattle.model.proofs.StoredLaws.{bytes-by-place}
 use Rattle.model.proofs.ArenaCallLaws.{asked-on}
 use Rattle.arena.proofs.ReadNodes.{sizes}
-use Rattle.finalizing.proofs.OrderCallLaws.{finalizeQuestions, finalize-refused, finalize-again, no-order, finalize-done}
+use Rattle.finalizing.proofs.FinalizeLaws.{finalizeQuestions, finalize-refused, finalize-again, no-order, finalize-done}
 use Rattle.finalizing.proofs.finalize_asked.Statement.{statement}
 use Rattle.finalizing.proofs.finalize_asked.Tie as tie
 

@@ -2,7 +2,7 @@
 use borrow.Author.Needs.{needs}
 use Rattle.model.specs.Arena.{countIn, decode}
 use Rattle.model.proofs.ArenaCallLaws.{count-number, count-refused}
-use Rattle.finalizing.proofs.OrderCallLaws.{finalizeQuestions, finalize-refused}
+use Rattle.finalizing.proofs.FinalizeLaws.{finalizeQuestions, finalize-refused}
 use Rattle.finalizing.proofs.finalize_strength_order.Statement.{statement}
 use Rattle.finalizing.proofs.finalize_strength_order.Tie as tie
 

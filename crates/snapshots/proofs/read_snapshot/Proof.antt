@@ -1,8 +1,8 @@
 -- `read_snapshot` meets its contract: question 1, and then the reader. Assumes nothing.
 use borrow.Author.Needs.{needs}
-use Rattle.prim_graph.proofs.SnapshotCallLaws.{read-not-arena, read-into}
-use Rattle.prim_graph.proofs.read_snapshot.Statement.{statement}
-use Rattle.prim_graph.proofs.read_snapshot.Tie as tie
+use Rattle.snapshots.proofs.SnapshotCallLaws.{read-not-arena, read-into}
+use Rattle.snapshots.proofs.read_snapshot.Statement.{statement}
+use Rattle.snapshots.proofs.read_snapshot.Tie as tie
 
 returns : tie.Need-returns
 returns c = read-not-arena _ _ (c .if1 .taken)

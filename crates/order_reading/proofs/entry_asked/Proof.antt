@@ -11,10 +11,10 @@ use Rattle.model.specs.Arena.{countIn, decode}
 use Rattle.model.specs.declared.Refusal.the-variants.{NodeZero, Node as NodeNumber, NotOrdered}
 use Rattle.model.proofs.ArenaCallLaws.{answered-refused, answered-number}
 use Rattle.arena.proofs.ReadNodes.{sizes, has-slot}
-use Rattle.finalizing.proofs.EntryLaws.{entry-read}
-use Rattle.finalizing.proofs.OrderCallLaws.{node-zero}
-use Rattle.finalizing.proofs.entry_asked.Statement.{statement}
-use Rattle.finalizing.proofs.entry_asked.Tie as tie
+use Rattle.order_reading.proofs.EntryLaws.{entry-read}
+use Rattle.order_reading.proofs.OrderCallLaws.{node-zero}
+use Rattle.order_reading.proofs.entry_asked.Statement.{statement}
+use Rattle.order_reading.proofs.entry_asked.Tie as tie
 
 -- there are as many nodes as the count says
 counted : (s : tie.Start) → size (decode (s .args .arena .now)) ≡ s .args .count

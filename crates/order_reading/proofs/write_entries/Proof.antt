@@ -8,9 +8,9 @@ use Rattle.model.specs.Arena.{countIn}
 use Rattle.model.specs.Bytes.{stored}
 use Rattle.model.specs.Snapshot.{bigEndian}
 use Rattle.arena.proofs.ReadNodes.{has-slot}
-use Rattle.finalizing.proofs.EntryLaws.{few, Listed, listed-none, listed-length, listed-all, listed-more}
-use Rattle.finalizing.proofs.write_entries.Statement.{statement}
-use Rattle.finalizing.proofs.write_entries.Tie as tie
+use Rattle.order_reading.proofs.EntryLaws.{few, Listed, listed-none, listed-length, listed-all, listed-more}
+use Rattle.order_reading.proofs.write_entries.Statement.{statement}
+use Rattle.order_reading.proofs.write_entries.Tie as tie
 
 abbrev Inv-loop : tie.InvT-loop
 Inv-loop arena count out₀ n₀ out n = Listed arena out₀ out n

@@ -2,9 +2,9 @@
 use borrow.Author.Needs.{needs}
 use mathlib.Core.Path.{sym, _∙_}
 use borrow.Author.Tests.{not-true, not-false}
-use Rattle.prim_graph.proofs.SnapshotCallLaws.{write-not-arena, write-not-buffer, write-no-graph, written}
-use Rattle.prim_graph.proofs.write_snapshot.Statement.{statement}
-use Rattle.prim_graph.proofs.write_snapshot.Tie as tie
+use Rattle.snapshots.proofs.SnapshotCallLaws.{write-not-arena, write-not-buffer, write-no-graph, written}
+use Rattle.snapshots.proofs.write_snapshot.Statement.{statement}
+use Rattle.snapshots.proofs.write_snapshot.Tie as tie
 
 returns : tie.Need-returns
 returns c = write-not-arena _ _ (c .if1 .taken)

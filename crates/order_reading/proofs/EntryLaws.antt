@@ -16,7 +16,7 @@ use Rattle.model.specs.ArenaCalls.{Opened}
 use Rattle.model.proofs.StoredLaws.{length-stored, stored-next}
 use Rattle.arena.proofs.HeldArenas.{held}
 use Rattle.arena.proofs.TabulateLaws.{tabulate-length, tabulate-at}
-use Rattle.finalizing.specs.Orders.{orderBytes, entriesIn}
+use Rattle.order_reading.specs.Orders.{orderBytes, entriesIn}
 
 -- ---- The order of an ordered graph
 

@@ -3,9 +3,9 @@ use borrow.Author.Needs.{needs}
 use mathlib.Core.Path.{ap, _∙_}
 use Prim.Native.Nat.{ℕ}
 use lib.Dec.{eqb}
-use Rattle.finalizing.proofs.EntryLaws.{ordered-read}
-use Rattle.finalizing.proofs.is_ordered.Statement.{statement}
-use Rattle.finalizing.proofs.is_ordered.Tie as tie
+use Rattle.order_reading.proofs.EntryLaws.{ordered-read}
+use Rattle.order_reading.proofs.is_ordered.Statement.{statement}
+use Rattle.order_reading.proofs.is_ordered.Tie as tie
 
 ordered-requires : tie.Need-ordered-requires
 ordered-requires c κs = search needs

@@ -1,33 +1,26 @@
--- The ways that the calls on the order end: ordering (`finalize-refused`, `finalize-done`) and reading the whole order (`list-refused`, `list-done`).
--- Assumes nothing.
+-- The ways that ordering a graph ends: refused (`finalize-refused`, `no-order`) and done (`finalize-again`, `finalize-done`). Assumes nothing.
 use mathlib.Core.Path.{_≡_, refl, sym, ap, _∙_}
-use mathlib.Core.Bool.{Bool, true, false, _||_, _&&_, cond}
+use mathlib.Core.Bool.{Bool, true, false, _||_, cond}
 use mathlib.Core.List.{List, [], _∷_}
 use Prim.Native.Nat.{ℕ, zero, suc, _<_}
 use native.Mathlib.Omega.{arith}
 use lib.Dec.{eqb, ltb}
-use lib.ListN.{length}
 use borrow.Author.Tests.{eq-eqb, ne-eqb, lt-ltb}
-use Rattle.model.specs.Bytes.{stored}
 use Rattle.model.specs.Graph.{Graph, size}
 use Rattle.model.specs.Order.{hasOrder, ordering}
 use Rattle.model.specs.Refusals.{refusalNumber, Question, ask, refusal}
-use Rattle.model.specs.Calls.{unchanged, settled, decided, hasNodeZero, readsOrder, finalizeStrengthOrder}
+use Rattle.model.specs.Calls.{unchanged, settled, decided, hasNodeZero, finalizeStrengthOrder}
 use Rattle.model.specs.Arena.{countIn, finalizedIn, decode, encode, holdsGraph}
 use Rattle.model.specs.ArenaCalls.{isArena, Opened, onArena, askArena}
 use Rattle.model.specs.declared.Refusal.{Refusal}
-use Rattle.model.specs.declared.Refusal.the-variants.{Size, NoOrder}
-use Rattle.model.specs.declared.Finished.the-variants.{Done, Refused as FinishRefused}
-use Rattle.model.specs.declared.Numbered.the-variants.{Number, Refused as NumberRefused}
+use Rattle.model.specs.declared.Refusal.the-variants.{NoOrder}
+use Rattle.model.specs.declared.Finished.the-variants.{Done, Refused}
 use Rattle.model.proofs.BigEndianLaws.{Bytes}
-use Rattle.model.proofs.ArenaCallLaws.{refusal-some, answered-refused, answered-number, asked-on, on-opened, decided-accepted}
+use Rattle.model.proofs.ArenaCallLaws.{refusal-some, asked-on, on-opened, decided-accepted}
 use Rattle.arena.proofs.ArenaBack.{encode-decode}
 use Rattle.arena.proofs.ReadNodes.{sizes}
 use Rattle.ordering.specs.Ordering.{OrderedArena}
-use Rattle.finalizing.specs.Orders.{Finalized, entriesIn, orderBytes, listQuestions, OrderWritten}
-use Rattle.finalizing.proofs.EntryLaws.{order-entries, order-length}
-
--- ---- Ordering
+use Rattle.finalizing.specs.Finalizing.{Finalized}
 
 finalized-read : (bs : List ℕ) → decode bs .finalized ≡ eqb (finalizedIn bs) 1
 unfolding decode
@@ -55,13 +48,13 @@ finalize-asks bs = go (isArena bs) (holdsGraph bs)
     go true false = refl
     go false h = refl
 
-pub finalize-refused : (bs : List ℕ) (r : Refusal) → refusalNumber r ≡ refusal (askArena bs (finalizeQuestions (decode bs))) → Finalized bs (FinishRefused r) bs
+pub finalize-refused : (bs : List ℕ) (r : Refusal) → refusalNumber r ≡ refusal (askArena bs (finalizeQuestions (decode bs))) → Finalized bs (Refused r) bs
 finalize-refused bs r e =
     let q = e ∙ sym (finalize-asks bs) in
     record { refused = q; arena = rw (ne-eqb (onArena finalizeStrengthOrder bs .refused) 0 (λ z. refusal-some r (q ∙ z))) }
 
 module _ (bs : List ℕ) (o : Opened bs) (some : 0 < countIn bs) where
-  pub node-zero : ltb 0 (size (decode bs)) ≡ true
+  node-zero : ltb 0 (size (decode bs)) ≡ true
   node-zero = lt-ltb 0 (size (decode bs)) (omega (arith, sizes bs o))
 
   abbrev result : Bool → Graph
@@ -96,7 +89,7 @@ module _ (bs : List ℕ) (o : Opened bs) (some : 0 < countIn bs) where
       bytes-of : (t : Bool) → answer ≡ t → after ≡ cond t (encode (ordering (decode bs)) bs) bs
       bytes-of t e = ordered .bytes ∙ ap (λ (b : Bool). cond b (encode (ordering (decode bs)) bs) bs) e
 
-      pub no-order : answer ≡ false → Finalized bs (FinishRefused NoOrder) after
+      pub no-order : answer ≡ false → Finalized bs (Refused NoOrder) after
       no-order e =
           let asks : refusal (askArena bs (finalizeQuestions (decode bs))) ≡ 9 =
           asked-on bs (finalizeQuestions (decode bs)) o ∙ rw (node-zero, asked false (sym (ordered .answer) ∙ e)) in
@@ -104,43 +97,3 @@ module _ (bs : List ℕ) (o : Opened bs) (some : 0 < countIn bs) where
 
       pub finalize-done : answer ≡ true → Finalized bs Done after
       finalize-done e = done (asked true (sym (ordered .answer) ∙ e)) false unmarked after (bytes-of true e)
-
--- ---- Reading the order
-
-module _ (bs out : List ℕ) where
-  pub list-refused : (r : Refusal) → refusalNumber r ≡ refusal (listQuestions bs out) → OrderWritten bs out (NumberRefused r) out
-  list-refused r e = record {
-    answer = answered-refused (listQuestions bs out) _ r e;
-    bytes = rw (ne-eqb (refusal (listQuestions bs out)) 0 (λ z. refusal-some r (e ∙ z)));
-  }
-
-  pub list-not-buffer : (length out ≡ 4096 → ⊥) → OrderWritten bs out (NumberRefused Size) out
-  list-not-buffer h = list-refused Size (rw (ne-eqb (length out) 4096 h) (go (isArena bs)))
-    where
-      go : (s : Bool) → 1 ≡ refusal (ask 1 (s && false) ∷ ask 2 (holdsGraph bs) ∷ readsOrder (decode bs))
-      go true = refl
-      go false = refl
-
-  module _ (large : length out ≡ 4096) where
-    -- a buffer of the right size leaves the questions of a call that only reads
-    pub list-asks : refusal (listQuestions bs out) ≡ refusal (askArena bs (readsOrder (decode bs)))
-    list-asks = rw (eq-eqb (length out) 4096 large) (go (isArena bs))
-      where
-        go : (s : Bool)
-            → refusal (ask 1 (s && true) ∷ ask 2 (holdsGraph bs) ∷ readsOrder (decode bs))
-            ≡ refusal (ask 1 s ∷ ask 2 (holdsGraph bs) ∷ readsOrder (decode bs))
-        go true = refl
-        go false = refl
-
-    module _ (o : Opened bs) where
-      pub list-asks-own : refusal (listQuestions bs out) ≡ refusal (readsOrder (decode bs))
-      list-asks-own = list-asks ∙ asked-on bs (readsOrder (decode bs)) o
-
-      pub list-done : 0 < countIn bs → decode bs .ordered ≡ true → (n : ℕ) (after : List ℕ) → n ≡ countIn bs → after ≡ stored 0 (orderBytes (entriesIn bs)) out
-          → OrderWritten bs out (Number n) after
-      list-done some e n after c a =
-          let passes : refusal (listQuestions bs out) ≡ 0 = list-asks-own ∙ rw (node-zero bs o some, e) in
-          record {
-            answer = answered-number (listQuestions bs out) _ n passes (c ∙ sym (order-length bs e));
-            bytes = rw (eq-eqb (refusal (listQuestions bs out)) 0 passes) (a ∙ ap (λ (l : List ℕ). stored 0 (orderBytes l) out) (sym (order-entries bs e)));
-          }

@@ -8,9 +8,9 @@ use Rattle.model.specs.Graph.{size}
 use Rattle.model.specs.Arena.{countIn, decode}
 use Rattle.model.specs.declared.Refusal.the-variants.{NodeZero, NotOrdered}
 use Rattle.arena.proofs.ReadNodes.{sizes}
-use Rattle.finalizing.proofs.OrderCallLaws.{node-zero, list-refused, list-asks-own, list-done}
-use Rattle.finalizing.proofs.order_asked.Statement.{statement}
-use Rattle.finalizing.proofs.order_asked.Tie as tie
+use Rattle.order_reading.proofs.OrderCallLaws.{node-zero, list-refused, list-asks-own, list-done}
+use Rattle.order_reading.proofs.order_asked.Statement.{statement}
+use Rattle.order_reading.proofs.order_asked.Tie as tie
 
 -- past the first test there is a node
 some-node : (c : tie.Else1) → 0 < countIn (c .before .before .before .args .arena .now)

@@ -14,7 +14,7 @@ use Rattle.model.specs.declared.Refusal.the-variants.{Size, NotAGraph}
 use Rattle.model.specs.declared.Numbered.{Numbered}
 use Rattle.model.specs.declared.Numbered.the-variants.{Number, Refused}
 use Rattle.model.proofs.ArenaCallLaws.{answered-refused, answered-number, wrote-refused}
-use Rattle.prim_graph.specs.Snapshots.{writeQuestions, SnapshotWritten}
+use Rattle.snapshots.specs.Snapshots.{writeQuestions, SnapshotWritten}
 
 module _ (o : Outcome) (bs : List ℕ) where
   pub read-not-arena : (length bs ≡ arenaBytes → ⊥) → Wrote (intoArena o bs) bs (Refused Size) bs

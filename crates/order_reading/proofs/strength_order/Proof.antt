@@ -4,9 +4,9 @@ use mathlib.Core.Path.{sym, _∙_}
 use Rattle.model.specs.Arena.{countIn, decode}
 use Rattle.model.specs.Calls.{readsOrder}
 use Rattle.model.proofs.ArenaCallLaws.{count-number, count-refused}
-use Rattle.finalizing.proofs.OrderCallLaws.{list-refused, list-not-buffer, list-asks}
-use Rattle.finalizing.proofs.strength_order.Statement.{statement}
-use Rattle.finalizing.proofs.strength_order.Tie as tie
+use Rattle.order_reading.proofs.OrderCallLaws.{list-refused, list-not-buffer, list-asks}
+use Rattle.order_reading.proofs.strength_order.Statement.{statement}
+use Rattle.order_reading.proofs.strength_order.Tie as tie
 
 returns : tie.Need-returns
 returns c = list-not-buffer _ _ (c .if1 .taken)

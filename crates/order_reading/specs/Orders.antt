@@ -1,4 +1,4 @@
--- What the calls on the order answer and leave, by model/specs/Calls.antt and ArenaCalls.antt.
+-- What the calls that read the order answer and leave, by model/specs/Calls.antt and ArenaCalls.antt.
 use mathlib.Core.Path.{_≡_}
 use mathlib.Core.Bool.{_&&_, cond}
 use mathlib.Core.List.{List, [], _∷_, _++_}
@@ -8,15 +8,10 @@ use lib.ListN.{length}
 use Rattle.model.specs.Bytes.{stored}
 use Rattle.model.specs.Snapshot.{bigEndian}
 use Rattle.model.specs.Refusals.{Question, ask, refusal}
-use Rattle.model.specs.Calls.{readsOrder, finalizeStrengthOrder}
+use Rattle.model.specs.Calls.{readsOrder}
 use Rattle.model.specs.Arena.{countIn, orderEntryIn, tabulate, decode, holdsGraph}
-use Rattle.model.specs.ArenaCalls.{isArena, onArena, Finishes, Answered}
-use Rattle.model.specs.declared.Finished.{Finished}
+use Rattle.model.specs.ArenaCalls.{isArena, Answered}
 use Rattle.model.specs.declared.Numbered.{Numbered}
-
--- ordering: the refusal, and the arena after it
-abbrev pub Finalized : List ℕ → Finished → List ℕ → Type 0
-Finalized before r after = Finishes (onArena finalizeStrengthOrder before) before r after
 
 -- the order as bytes: a node's number in 4 bytes each
 abbrev pub orderBytes : List ℕ → List ℕ

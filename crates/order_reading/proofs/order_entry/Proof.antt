@@ -5,8 +5,8 @@ use Rattle.model.specs.Arena.{countIn, decode}
 use Rattle.model.specs.ArenaCalls.{Opened}
 use Rattle.model.specs.Calls.{readsEntry}
 use Rattle.model.proofs.ArenaCallLaws.{answered-refused, answered-more, count-number, count-refused}
-use Rattle.finalizing.proofs.order_entry.Statement.{statement}
-use Rattle.finalizing.proofs.order_entry.Tie as tie
+use Rattle.order_reading.proofs.order_entry.Statement.{statement}
+use Rattle.order_reading.proofs.order_entry.Tie as tie
 
 -- where the count is answered, the arena holds a graph and that is its count
 opened : (c : tie.After-known-told)
