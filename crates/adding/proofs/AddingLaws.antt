@@ -7,7 +7,7 @@ use Prim.Native.Nat.{ℕ, _+_, _≤_, _<_}
 use native.Mathlib.Omega.{arith}
 use lib.Dec.{eqb, ltb, leb}
 use lib.ListN.{length}
-use borrow.Author.Tests.{eq-eqb, ne-eqb, eqb-false, lt-ltb, ltb-true, le-leb, le-ltb}
+use borrow.Author.Tests.{eq-eqb, ne-eqb, eqb-false, lt-ltb, ltb-true, le-leb}
 use Rattle.model.specs.Path.{wellFormed, primCount}
 use Rattle.model.specs.Node as model
 use Rattle.model.specs.Node.{invalid, rootArc, isCulled}
@@ -25,7 +25,7 @@ use Rattle.model.proofs.AcceptedQuestions.{none-refused-accepted}
 use Rattle.model.proofs.PathGrammar.{well-formed-length}
 use Rattle.arena.specs.Slot.{nodeOf}
 use Rattle.arena.proofs.HeldArenas.{held}
-use Rattle.arena.proofs.ReadNodes.{sizes, node-read}
+use Rattle.arena.proofs.ReadNodes.{sizes, node-zero, no-node, node-read}
 use Rattle.append.specs.Append.{CanAppend}
 use Rattle.describing.specs.declared.NodeDesc.{NodeDesc}
 use Rattle.describing.specs.declared.Depth.{Depth}
@@ -147,12 +147,12 @@ module _ (bs : List ℕ) (o : Opened bs) (d : calls.NodeDesc) where
   pub add-to-none : countIn bs ≡ 0 → Wrote (onArena (addChild d) bs) bs (NumberRefused NodeZero) bs
   unfolding addChild
   add-to-none e =
-      let none : 3 ≡ refusal (hasNodeZero (decode bs) ∷ addQuestions (decode bs) d) = rw (le-ltb 0 (size (decode bs)) (omega (arith, sizes bs o))) in
+      let none : 3 ≡ refusal (hasNodeZero (decode bs) ∷ addQuestions (decode bs) d) = rw (no-node bs o e) in
       rw (on-opened bs (addChild d) o) (wrote-decided-refused (hasNodeZero (decode bs) ∷ addQuestions (decode bs) d) (decode bs) _ _ bs NodeZero none)
 
   module _ (some : 0 < countIn bs) where
     asked : refusal (hasNodeZero (decode bs) ∷ addQuestions (decode bs) d) ≡ refusal (addQuestions (decode bs) d)
-    asked = rw (lt-ltb 0 (size (decode bs)) (omega (arith, sizes bs o)))
+    asked = rw (node-zero bs o some)
 
     pub add-refused : (r : Refusal) → refusalNumber r ≡ refusal (addQuestions (decode bs) d) → Wrote (onArena (addChild d) bs) bs (NumberRefused r) bs
     unfolding addChild

@@ -7,7 +7,7 @@ use Prim.Native.Nat.{ℕ, zero, suc, _-_, _<_}
 use native.Mathlib.Omega.{arith}
 use lib.Dec.{eqb, ltb}
 use lib.ListN.{length}
-use borrow.Author.Tests.{eqb-true, ne-eqb, ltb-true}
+use borrow.Author.Tests.{eqb-true, ne-eqb, lt-ltb, le-ltb, ltb-true}
 use Rattle.model.specs.Lists.{anyBelow}
 use Rattle.model.specs.Node.{Node}
 use Rattle.model.specs.Graph.{size, nodeAt, isLocalRoot}
@@ -22,6 +22,13 @@ use Rattle.arena.proofs.ArenaBack.{size-decode, node-decode, parent-low
 
 pub sizes : (bs : List ℕ) → Opened bs → size (decode bs) ≡ countIn bs
 sizes bs o = size-decode bs (held bs (o .holds))
+
+-- the count answers question 3
+pub node-zero : (bs : List ℕ) → Opened bs → 0 < countIn bs → ltb 0 (size (decode bs)) ≡ true
+node-zero bs o some = lt-ltb 0 (size (decode bs)) (omega (arith, some, sizes bs o))
+
+pub no-node : (bs : List ℕ) → Opened bs → countIn bs ≡ 0 → ltb 0 (size (decode bs)) ≡ false
+no-node bs o none = le-ltb 0 (size (decode bs)) (omega (arith, none, sizes bs o))
 
 -- where questions 1 to 4 pass, the node can be read
 pub readable : (bs : List ℕ) (n : ℕ) → refusal (askArena bs (readsNode (decode bs) n)) ≡ 0 → Readable bs n

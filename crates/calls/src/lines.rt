@@ -2,10 +2,10 @@
 // others are answered by the crates `calls_make`, `calls_change`, `calls_look`, `calls_compare` and `calls_paths`.
 use calls_text::Answered;
 use calls_text::bad_line;
-use calls_text::is_call;
 use calls_text::put;
 use calls_text::put_refusal;
-use calls_text::word;
+use calls_words::is_call;
+use calls_words::word;
 use model::Finished;
 
 // What goes on from line to line: how many bytes of the output are used, and whether the second arena is the current one.

@@ -3,7 +3,7 @@ use calls_text::bad_line;
 use calls_text::put_number;
 use calls_text::put_numbered;
 use calls_text::put_refusal;
-use calls_text::word;
+use calls_words::word;
 use model::Finished;
 use model::Numbered;
 

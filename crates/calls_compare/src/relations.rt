@@ -2,16 +2,16 @@
 use crate::Pair;
 use crate::read_pair;
 use calls_text::Answered;
-use calls_text::Number;
 use calls_text::bad_line;
-use calls_text::is_call;
 use calls_text::put;
 use calls_text::put_found;
 use calls_text::put_node;
 use calls_text::put_number;
 use calls_text::put_refusal;
-use calls_text::read_number;
-use calls_text::word;
+use calls_words::Number;
+use calls_words::is_call;
+use calls_words::read_number;
+use calls_words::word;
 use hierarchies::HierarchyRead;
 use model::Tested;
 

@@ -4,17 +4,17 @@ mod children;
 mod records;
 
 use calls_text::Answered;
-use calls_text::Number;
 use calls_text::bad_line;
 use calls_text::front;
-use calls_text::is_call;
 use calls_text::put;
 use calls_text::put_bytes;
 use calls_text::put_found;
 use calls_text::put_numbered;
 use calls_text::put_refusal;
-use calls_text::read_number;
-use calls_text::word;
+use calls_words::Number;
+use calls_words::is_call;
+use calls_words::read_number;
+use calls_words::word;
 use model::Numbered;
 use prim_graph::GraphRead;
 

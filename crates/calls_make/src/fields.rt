@@ -1,7 +1,7 @@
 // The eleven numbers of an `add` line, in the order of the line: parent, arc, flags, stack, layer, origin, depth, sibling, restriction, spec_from,
 // has-specs.
-use calls_text::Number;
-use calls_text::read_number;
+use calls_words::Number;
+use calls_words::read_number;
 use model::NodeId;
 use prim_graph::Depth;
 use prim_graph::NodeDesc;

@@ -5,14 +5,14 @@ mod fields;
 
 use calls_text::Answered;
 use calls_text::Bytes;
-use calls_text::Number;
 use calls_text::bad_line;
 use calls_text::front;
-use calls_text::is_call;
 use calls_text::put_numbered;
 use calls_text::read_bytes;
-use calls_text::read_number;
-use calls_text::word;
+use calls_words::Number;
+use calls_words::is_call;
+use calls_words::read_number;
+use calls_words::word;
 
 // The answer to a line that makes a graph.
 pub fn answer(line: &[u8], arena: &mut [u8], out: &mut [u8], used: usize) -> Answered {

@@ -1,14 +1,14 @@
 // The lines on paths, for the command `calls`. Each function is handed a line that has its name and its number of words, puts the answer,
 // without a newline, after the first `used` bytes of `out`, and answers how many are then used. None has a `requires`.
 use calls_text::Answered;
-use calls_text::ShortNumber;
 use calls_text::bad_line;
-use calls_text::is_call;
 use calls_text::put;
 use calls_text::put_number;
 use calls_text::put_refusal;
-use calls_text::read_short_number;
-use calls_text::word;
+use calls_words::ShortNumber;
+use calls_words::is_call;
+use calls_words::read_short_number;
+use calls_words::word;
 use model::Appended;
 use model::PrimCount;
 use model::Refusal;

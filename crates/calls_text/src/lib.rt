@@ -1,11 +1,10 @@
-// What the lines of the command `calls` and their answers are made of: words, numbers and bytes in hexadecimal, read and put out. Nothing
+// What the answers to the lines of the command `calls` are made of: numbers and bytes in hexadecimal, read and put out. Nothing
 // is proved of what they say, only that every function is safe and ends: no public function has a `requires`, and each does nothing with a
 // number that does not fit the buffer beside it.
 mod answers;
 mod hex;
 mod input;
 mod output;
-mod words;
 
 pub use answers::Answered;
 pub use answers::bad_line;
@@ -23,9 +22,3 @@ pub use output::front;
 pub use output::put;
 pub use output::put_between;
 pub use output::put_number;
-pub use words::Number;
-pub use words::ShortNumber;
-pub use words::is_call;
-pub use words::read_number;
-pub use words::read_short_number;
-pub use words::word;

@@ -6,7 +6,6 @@ use mathlib.Core.Bool.{Bool, true, false, cond, and-eq-true-iff}
 use mathlib.Core.List.{List, _∷_}
 use Prim.Native.Nat.{ℕ, _<_}
 use native.Mathlib.Omega.{arith}
-use lib.Dec.{ltb}
 use lib.ListN.{length}
 use borrow.Author.Tests.{eq-eqb, ne-eqb, eqb-true, lt-ltb, le-ltb, ltb-true}
 use Rattle.model.specs.Graph.{Graph, emptyGraph, size}
@@ -21,7 +20,7 @@ use Rattle.model.specs.declared.Refusal.the-variants.{Size}
 use Rattle.model.specs.declared.Finished.the-variants.{Done, Refused}
 use Rattle.model.proofs.AcceptedQuestions.{Accepted, none-refused-accepted}
 use Rattle.model.proofs.ArenaCallLaws.{wrote-decided-refused, wrote-decided}
-use Rattle.arena.proofs.ReadNodes.{sizes}
+use Rattle.arena.proofs.ReadNodes.{sizes, node-zero, no-node}
 use Rattle.deepening.specs.Deepened.{CanDeepen}
 use Rattle.child_names.specs.ChildNames.{Deepened, seedFrom, Seeded}
 
@@ -32,19 +31,16 @@ module _ (child bs : List ℕ) (o : Opened bs) where
   ownRefusal = refusal (deepenQuestions child (decode bs))
 
   pub refused-no-node : countIn bs ≡ 0 → 3 ≡ ownRefusal
-  refused-no-node none = rw (le-ltb 0 (size (decode bs)) (omega (arith, sizes bs o)))
+  refused-no-node none = rw (no-node bs o none)
 
   module _ (some : 0 < countIn bs) where
-    node-zero : ltb 0 (size (decode bs)) ≡ true
-    node-zero = lt-ltb 0 (size (decode bs)) (omega (arith, sizes bs o))
-
     pub refused-no-path : wellFormed child ≡ false → 5 ≡ ownRefusal
-    refused-no-path e = rw (node-zero, e)
+    refused-no-path e = rw (node-zero bs o some, e)
 
     module _ (right : wellFormed child ≡ true) (name : List ℕ) (last : name ≡ lastName child) where
       pub refused-no-name : length name ≡ 0 → 5 ≡ ownRefusal
       unfolding endsInName
-      refused-no-name e = rw (node-zero, right, ← last, le-ltb 0 (length name) (omega arith))
+      refused-no-name e = rw (node-zero bs o some, right, ← last, le-ltb 0 (length name) (omega arith))
 
       module _ (long : length name ≡ 0 → ⊥) where
         ends : endsInName child ≡ true
@@ -52,10 +48,10 @@ module _ (child bs : List ℕ) (o : Opened bs) where
         ends = rw (← last) (lt-ltb 0 (length name) (omega (arith, long)))
 
         pub refused-no-room : pathsFit (deepen name (decode bs)) ≡ false → 7 ≡ ownRefusal
-        refused-no-room e = rw (node-zero, right, ends, ← last, e)
+        refused-no-room e = rw (node-zero bs o some, right, ends, ← last, e)
 
         pub refused-none : pathsFit (deepen name (decode bs)) ≡ true → 0 ≡ ownRefusal
-        refused-none e = rw (node-zero, right, ends, ← last, e)
+        refused-none e = rw (node-zero bs o some, right, ends, ← last, e)
 
 -- ---- Where every question passes
 

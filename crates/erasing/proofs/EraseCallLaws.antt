@@ -4,10 +4,9 @@ use mathlib.Core.Path.{_≡_, refl, sym, ap, _∙_}
 use mathlib.Core.Bool.{Bool, true, false, _&&_, cond}
 use mathlib.Core.List.{List, [], _∷_}
 use Prim.Native.Nat.{ℕ, _<_}
-use native.Mathlib.Omega.{arith}
-use lib.Dec.{eqb, ltb}
+use lib.Dec.{eqb}
 use lib.ListN.{length}
-use borrow.Author.Tests.{eq-eqb, ne-eqb, lt-ltb, le-ltb}
+use borrow.Author.Tests.{eq-eqb, ne-eqb}
 use Rattle.model.specs.Graph.{Graph, size}
 use Rattle.model.specs.Culling.{cullSubtreesWithoutOpinions}
 use Rattle.model.specs.Erasing.{stays, erasable, canErase, newNumber, erase}
@@ -20,7 +19,7 @@ use Rattle.model.specs.declared.Refusal.the-variants.{Size, NodeZero, EraseSet}
 use Rattle.model.specs.declared.Finished.the-variants.{Done, Refused as FinishRefused}
 use Rattle.model.specs.declared.Numbered.the-variants.{Number, Refused as NumberRefused}
 use Rattle.model.proofs.ArenaCallLaws.{refusal-some, asked-on, wrote-decided-refused, wrote-decided}
-use Rattle.arena.proofs.ReadNodes.{sizes}
+use Rattle.arena.proofs.ReadNodes.{sizes, node-zero, no-node}
 use Rattle.erase_nodes.specs.EraseNodes.{ErasedArena}
 use Rattle.erasing.specs.Erasures.{Culled, isSet, ErasableWritten, eraseIn, Erased}
 
@@ -48,14 +47,6 @@ module _ (bs set : List ℕ) (questions : List Question) where
 
   pub asks-own : length set ≡ 1024 → Opened bs → refusal (askBoth bs set questions) ≡ refusal questions
   asks-own large o = whole-set large ∙ asked-on bs questions o
-
--- question 3
-module _ (bs : List ℕ) (o : Opened bs) where
-  node-zero : 0 < countIn bs → ltb 0 (size (decode bs)) ≡ true
-  node-zero some = lt-ltb 0 (size (decode bs)) (omega (arith, sizes bs o))
-
-  no-node : countIn bs ≡ 0 → ltb 0 (size (decode bs)) ≡ false
-  no-node none = le-ltb 0 (size (decode bs)) (omega (arith, sizes bs o))
 
 -- the own questions of culling and of the erasable set, and of erasing
 abbrev pub needsNode : Graph → List Question

@@ -3,10 +3,9 @@ use mathlib.Core.Path.{_≡_, refl, sym, ap, _∙_}
 use mathlib.Core.Bool.{Bool, true, false, _||_, cond}
 use mathlib.Core.List.{List, [], _∷_}
 use Prim.Native.Nat.{ℕ, zero, suc, _<_}
-use native.Mathlib.Omega.{arith}
-use lib.Dec.{eqb, ltb}
-use borrow.Author.Tests.{eq-eqb, ne-eqb, lt-ltb}
-use Rattle.model.specs.Graph.{Graph, size}
+use lib.Dec.{eqb}
+use borrow.Author.Tests.{eq-eqb, ne-eqb}
+use Rattle.model.specs.Graph.{Graph}
 use Rattle.model.specs.Order.{hasOrder, ordering}
 use Rattle.model.specs.Refusals.{refusalNumber, Question, ask, refusal}
 use Rattle.model.specs.Calls.{unchanged, settled, decided, hasNodeZero, finalizeStrengthOrder}
@@ -18,7 +17,7 @@ use Rattle.model.specs.declared.Finished.the-variants.{Done, Refused}
 use Rattle.model.proofs.BigEndianLaws.{Bytes}
 use Rattle.model.proofs.ArenaCallLaws.{refusal-some, asked-on, on-opened, decided-accepted}
 use Rattle.arena.proofs.ArenaBack.{encode-decode}
-use Rattle.arena.proofs.ReadNodes.{sizes}
+use Rattle.arena.proofs.ReadNodes.{node-zero}
 use Rattle.ordering.specs.Ordering.{OrderedArena}
 use Rattle.finalizing.specs.Finalizing.{Finalized}
 
@@ -54,9 +53,6 @@ finalize-refused bs r e =
     record { refused = q; arena = rw (ne-eqb (onArena finalizeStrengthOrder bs .refused) 0 (λ z. refusal-some r (q ∙ z))) }
 
 module _ (bs : List ℕ) (o : Opened bs) (some : 0 < countIn bs) where
-  node-zero : ltb 0 (size (decode bs)) ≡ true
-  node-zero = lt-ltb 0 (size (decode bs)) (omega (arith, sizes bs o))
-
   abbrev result : Bool → Graph
   result finalized = cond finalized (decode bs) (ordering (decode bs))
 
@@ -65,7 +61,7 @@ module _ (bs : List ℕ) (o : Opened bs) (some : 0 < countIn bs) where
     accepted : onArena finalizeStrengthOrder bs ≡ record { refused = 0; value = 0; graph = result (decode bs .finalized) }
     unfolding finalizeStrengthOrder
     accepted =
-        on-opened bs finalizeStrengthOrder o ∙ decided-accepted (finalizeQuestions (decode bs)) (decode bs) 0 _ (rw (node-zero, passes))
+        on-opened bs finalizeStrengthOrder o ∙ decided-accepted (finalizeQuestions (decode bs)) (decode bs) 0 _ (rw (node-zero bs o some, passes))
 
     done : (finalized : Bool) → decode bs .finalized ≡ finalized → (after : List ℕ) → after ≡ encode (result finalized) bs → Finalized bs Done after
     done finalized e after a =
@@ -92,7 +88,7 @@ module _ (bs : List ℕ) (o : Opened bs) (some : 0 < countIn bs) where
       pub no-order : answer ≡ false → Finalized bs (Refused NoOrder) after
       no-order e =
           let asks : refusal (askArena bs (finalizeQuestions (decode bs))) ≡ 9 =
-          asked-on bs (finalizeQuestions (decode bs)) o ∙ rw (node-zero, asked false (sym (ordered .answer) ∙ e)) in
+          asked-on bs (finalizeQuestions (decode bs)) o ∙ rw (node-zero bs o some, asked false (sym (ordered .answer) ∙ e)) in
           rw (bytes-of false e) (finalize-refused bs NoOrder (sym asks))
 
       pub finalize-done : answer ≡ true → Finalized bs Done after

@@ -3,12 +3,9 @@ use mathlib.Core.Path.{_≡_, refl, sym, ap, _∙_}
 use mathlib.Core.Bool.{Bool, true, false, _&&_}
 use mathlib.Core.List.{List, _∷_}
 use Prim.Native.Nat.{ℕ, _<_}
-use native.Mathlib.Omega.{arith}
-use lib.Dec.{ltb}
 use lib.ListN.{length}
-use borrow.Author.Tests.{eq-eqb, ne-eqb, lt-ltb}
+use borrow.Author.Tests.{eq-eqb, ne-eqb}
 use Rattle.model.specs.Bytes.{stored}
-use Rattle.model.specs.Graph.{size}
 use Rattle.model.specs.Refusals.{refusalNumber, ask, refusal}
 use Rattle.model.specs.Calls.{readsOrder}
 use Rattle.model.specs.Arena.{countIn, decode, holdsGraph}
@@ -17,13 +14,9 @@ use Rattle.model.specs.declared.Refusal.{Refusal}
 use Rattle.model.specs.declared.Refusal.the-variants.{Size}
 use Rattle.model.specs.declared.Numbered.the-variants.{Number, Refused}
 use Rattle.model.proofs.ArenaCallLaws.{refusal-some, answered-refused, answered-number, asked-on}
-use Rattle.arena.proofs.ReadNodes.{sizes}
+use Rattle.arena.proofs.ReadNodes.{node-zero}
 use Rattle.order_reading.specs.Orders.{entriesIn, orderBytes, listQuestions, OrderWritten}
 use Rattle.order_reading.proofs.EntryLaws.{order-entries, order-length}
-
--- question 3 is answered by the count
-pub node-zero : (bs : List ℕ) → Opened bs → 0 < countIn bs → ltb 0 (size (decode bs)) ≡ true
-node-zero bs o some = lt-ltb 0 (size (decode bs)) (omega (arith, some, sizes bs o))
 
 module _ (bs out : List ℕ) where
   pub list-refused : (r : Refusal) → refusalNumber r ≡ refusal (listQuestions bs out) → OrderWritten bs out (Refused r) out

@@ -3,13 +3,12 @@ use borrow.Author.Needs.{needs}
 use mathlib.Core.Path.{_≡_, sym, _∙_}
 use Prim.Native.Nat.{_<_}
 use native.Mathlib.Omega.{arith}
-use borrow.Author.Tests.{le-ltb, not-true, not-false}
-use Rattle.model.specs.Graph.{size}
+use borrow.Author.Tests.{not-true, not-false}
 use Rattle.model.specs.Arena.{countIn, finalizedIn, decode}
 use Rattle.model.specs.declared.Refusal.the-variants.{NodeZero}
 use Rattle.model.proofs.StoredLaws.{bytes-by-place}
 use Rattle.model.proofs.ArenaCallLaws.{asked-on}
-use Rattle.arena.proofs.ReadNodes.{sizes}
+use Rattle.arena.proofs.ReadNodes.{no-node}
 use Rattle.finalizing.proofs.FinalizeLaws.{finalizeQuestions, finalize-refused, finalize-again, no-order, finalize-done}
 use Rattle.finalizing.proofs.finalize_asked.Statement.{statement}
 use Rattle.finalizing.proofs.finalize_asked.Tie as tie
@@ -30,7 +29,7 @@ returns c =
     let s = c .before .before in
     let bs = s .args .arena .now in
     finalize-refused bs NodeZero
-    (sym (asked-on bs (finalizeQuestions (decode bs)) (s .pre .0) ∙ rw (le-ltb 0 (size (decode bs)) (omega (arith, sizes bs (s .pre .0), s .pre .1, c .if1 .taken)))))
+    (sym (asked-on bs (finalizeQuestions (decode bs)) (s .pre .0) ∙ rw (no-node bs (s .pre .0) (omega (arith, s .pre .1, c .if1 .taken)))))
 
 finalized-requires : tie.Need-finalized-requires
 finalized-requires c κs = search needs

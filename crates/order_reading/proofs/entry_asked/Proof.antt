@@ -10,9 +10,8 @@ use Rattle.model.specs.Graph.{size}
 use Rattle.model.specs.Arena.{countIn, decode}
 use Rattle.model.specs.declared.Refusal.the-variants.{NodeZero, Node as NodeNumber, NotOrdered}
 use Rattle.model.proofs.ArenaCallLaws.{answered-refused, answered-number}
-use Rattle.arena.proofs.ReadNodes.{sizes, has-slot}
+use Rattle.arena.proofs.ReadNodes.{sizes, node-zero, no-node, has-slot}
 use Rattle.order_reading.proofs.EntryLaws.{entry-read}
-use Rattle.order_reading.proofs.OrderCallLaws.{node-zero}
 use Rattle.order_reading.proofs.entry_asked.Statement.{statement}
 use Rattle.order_reading.proofs.entry_asked.Tie as tie
 
@@ -35,7 +34,7 @@ named c =
 returns : tie.Need-returns
 returns c =
     let s = c .before .before in
-    answered-refused _ _ NodeZero (rw (le-ltb 0 (size (decode (s .args .arena .now))) (omega (arith, counted s, c .if1 .taken))))
+    answered-refused _ _ NodeZero (rw (no-node _ (s .pre .0) (omega (arith, s .pre .1, c .if1 .taken))))
 
 returns-2 : tie.Need-returns-2
 returns-2 c =

@@ -3,12 +3,11 @@ use borrow.Author.Needs.{needs}
 use mathlib.Core.Path.{sym, _∙_}
 use Prim.Native.Nat.{_<_}
 use native.Mathlib.Omega.{arith}
-use borrow.Author.Tests.{le-ltb, not-true, not-false}
-use Rattle.model.specs.Graph.{size}
-use Rattle.model.specs.Arena.{countIn, decode}
+use borrow.Author.Tests.{not-true, not-false}
+use Rattle.model.specs.Arena.{countIn}
 use Rattle.model.specs.declared.Refusal.the-variants.{NodeZero, NotOrdered}
-use Rattle.arena.proofs.ReadNodes.{sizes}
-use Rattle.order_reading.proofs.OrderCallLaws.{node-zero, list-refused, list-asks-own, list-done}
+use Rattle.arena.proofs.ReadNodes.{node-zero, no-node}
+use Rattle.order_reading.proofs.OrderCallLaws.{list-refused, list-asks-own, list-done}
 use Rattle.order_reading.proofs.order_asked.Statement.{statement}
 use Rattle.order_reading.proofs.order_asked.Tie as tie
 
@@ -21,7 +20,7 @@ returns c =
     let s = c .before .before .before in
     let bs = s .args .arena .now in
     list-refused bs (s .args .out .now) NodeZero
-    (sym (list-asks-own bs (s .args .out .now) (s .pre .1) (s .pre .0 .0) ∙ rw (le-ltb 0 (size (decode bs)) (omega (arith, sizes bs (s .pre .0 .0), s .pre .0 .1, c .if1 .taken)))))
+    (sym (list-asks-own bs (s .args .out .now) (s .pre .1) (s .pre .0 .0) ∙ rw (no-node bs (s .pre .0 .0) (omega (arith, s .pre .0 .1, c .if1 .taken)))))
 
 is-ordered-requires : tie.Need-is-ordered-requires
 is-ordered-requires c κs = search needs

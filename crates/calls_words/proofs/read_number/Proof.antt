@@ -1,10 +1,10 @@
--- `calls_text::words::read_number` is safe and ends. Nothing has to hold from turn to turn, so the invariant of its loop is `Unit {0}`.
+-- `calls_words::read_number` is safe and ends. Nothing has to hold from turn to turn, so the invariant of its loop is `Unit {0}`.
 -- The measure is what is left of the word. Assumes nothing.
 use Prim.Native.Nat.{_-_}
 use borrow.Author.Needs.{needs}
 use lib.ListN.{length}
-use Rattle.calls_text.proofs.words.read_number.Statement.{statement}
-use Rattle.calls_text.proofs.words.read_number.Tie as tie
+use Rattle.calls_words.proofs.read_number.Statement.{statement}
+use Rattle.calls_words.proofs.read_number.Tie as tie
 
 abbrev Inv-loop : tie.InvT-loop
 Inv-loop word value₀ i₀ value i = Unit {0}

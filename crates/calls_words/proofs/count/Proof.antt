@@ -1,10 +1,10 @@
--- `calls_text::words::count` is safe and ends. The invariant of its loop: each word and the space after it took a byte at least.
+-- `calls_words::count` is safe and ends. The invariant of its loop: each word and the space after it took a byte at least.
 -- The measure is what is left of the line. Assumes nothing.
 use Prim.Native.Nat.{_+_, _-_, _≤_}
 use borrow.Author.Needs.{needs}
 use lib.ListN.{length}
-use Rattle.calls_text.proofs.words.count.Statement.{statement}
-use Rattle.calls_text.proofs.words.count.Tie as tie
+use Rattle.calls_words.proofs.count.Statement.{statement}
+use Rattle.calls_words.proofs.count.Tie as tie
 
 abbrev Inv-loop : tie.InvT-loop
 Inv-loop line words₀ at₀ words at = words ≤ at

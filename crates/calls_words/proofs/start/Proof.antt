@@ -1,10 +1,10 @@
--- `calls_text::words::start` meets its contract. The invariant of its loop: `at` is within the line.
+-- `calls_words::start` meets its contract. The invariant of its loop: `at` is within the line.
 -- The measure is the number of words that are left. Assumes nothing.
 use Prim.Native.Nat.{_≤_}
 use borrow.Author.Needs.{needs}
 use lib.ListN.{length}
-use Rattle.calls_text.proofs.words.start.Statement.{statement}
-use Rattle.calls_text.proofs.words.start.Tie as tie
+use Rattle.calls_words.proofs.start.Statement.{statement}
+use Rattle.calls_words.proofs.start.Tie as tie
 
 abbrev Inv-loop : tie.InvT-loop
 Inv-loop line before at₀ left₀ at left = at ≤ length line

@@ -1,4 +1,5 @@
-// The words of a line, parted by single spaces, and the numbers among them.
+// The words of a line of the command `calls`, parted by single spaces, and the numbers among them. Nothing is proved of what they say, only that every function is
+// safe and ends: no public function has a `requires`.
 ghost use Prim.Native.Nat.{_≤_};
 ghost use lib.ListN.{length};
 

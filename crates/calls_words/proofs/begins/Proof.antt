@@ -1,10 +1,10 @@
--- `calls_text::words::begins` is safe and ends. Nothing has to hold from turn to turn, so the invariant of its loop is `Unit {0}`.
+-- `calls_words::begins` is safe and ends. Nothing has to hold from turn to turn, so the invariant of its loop is `Unit {0}`.
 -- The measure is what is left of the name. Assumes nothing.
 use Prim.Native.Nat.{_-_}
 use borrow.Author.Needs.{needs}
 use lib.ListN.{length}
-use Rattle.calls_text.proofs.words.begins.Statement.{statement}
-use Rattle.calls_text.proofs.words.begins.Tie as tie
+use Rattle.calls_words.proofs.begins.Statement.{statement}
+use Rattle.calls_words.proofs.begins.Tie as tie
 
 abbrev Inv-loop : tie.InvT-loop
 Inv-loop line name i₀ i = Unit {0}
