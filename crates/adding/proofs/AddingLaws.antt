@@ -20,9 +20,9 @@ use Rattle.model.specs.ArenaCalls.{Opened, Readable, onArena, Wrote}
 use Rattle.model.specs.declared.Refusal.{Refusal}
 use Rattle.model.specs.declared.Refusal.the-variants.{NodeZero, Path}
 use Rattle.model.specs.declared.Numbered.the-variants.{Number, Refused as NumberRefused}
-use Rattle.model.proofs.ArenaCallLaws.{on-opened, wrote-decided-refused, wrote-decided}
-use Rattle.model.proofs.AcceptedQuestions.{none-refused-accepted}
-use Rattle.model.proofs.PathGrammar.{well-formed-length}
+use Rattle.laws.proofs.ArenaCallLaws.{on-opened, wrote-decided-refused, wrote-decided}
+use Rattle.laws.proofs.AcceptedQuestions.{none-refused-accepted}
+use Rattle.laws.proofs.PathGrammar.{well-formed-length}
 use Rattle.arena.specs.Slot.{nodeOf}
 use Rattle.arena.proofs.HeldArenas.{held}
 use Rattle.arena.proofs.ReadNodes.{sizes, node-zero, no-node, node-read}

@@ -10,13 +10,13 @@ use Rattle.model.specs.Node.{Node}
 use Rattle.model.specs.Graph.{Graph, size, withNode}
 use Rattle.model.specs.Refusals.{refusal, recordQuestions}
 use Rattle.model.specs.Arena.{arenaBytes, decode, encode, holdsGraph}
-use Rattle.model.proofs.PathGrammar.{Grammar, well-formed-decides}
-use Rattle.model.proofs.BigEndianLaws.{Bytes}
-use Rattle.model.proofs.SnapshotLaws.{FieldsFit, NodesFit}
-use Rattle.model.proofs.Trees.{size-with-node}
-use Rattle.model.proofs.AcceptedQuestions.{none-refused-accepted}
-use Rattle.model.proofs.LegalGraphs.{LegalNode}
-use Rattle.model.proofs.LegalAdded.{Addable, node-more-keeps-legal, read-addable}
+use Rattle.laws.proofs.PathGrammar.{Grammar, well-formed-decides}
+use Rattle.laws.proofs.BigEndianLaws.{Bytes}
+use Rattle.laws.proofs.SnapshotLaws.{FieldsFit, NodesFit}
+use Rattle.laws.proofs.Trees.{size-with-node}
+use Rattle.laws.proofs.AcceptedQuestions.{none-refused-accepted}
+use Rattle.laws.proofs.LegalGraphs.{LegalNode}
+use Rattle.laws.proofs.LegalAdded.{Addable, node-more-keeps-legal, read-addable}
 use Rattle.arena.proofs.Encodable.{unordered, Encodable, legal-encodable}
 use Rattle.arena.proofs.ArenaLaws.{decode-encode}
 use Rattle.arena.proofs.ArenaHolds.{holds-encoded}

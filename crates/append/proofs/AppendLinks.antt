@@ -13,8 +13,8 @@ use Rattle.model.specs.Node.{invalid, Node}
 use Rattle.model.specs.Graph.{Graph, size, nodeAt, childrenOf, withNode}
 use Rattle.model.specs.Strength.{view}
 use Rattle.model.specs.Arena.{firstOf, lastOf, afterIn}
-use Rattle.model.proofs.ListLaws.{bit-eq, bit-ne}
-use Rattle.model.proofs.Trees.{Child, child-once, size-with-node, node-old, node-new, lengths-with-node, children-else, children-here}
+use Rattle.laws.proofs.ListLaws.{bit-eq, bit-ne}
+use Rattle.laws.proofs.Trees.{Child, child-once, size-with-node, node-old, node-new, lengths-with-node, children-else, children-here}
 use Rattle.arena.proofs.Encodable.{Encodable}
 use Rattle.arena.proofs.ChainLaws.{last-of-more}
 

@@ -16,9 +16,9 @@ use Rattle.model.specs.Graph.{Graph, size, nodeAt, withNode, isLocalRoot}
 use Rattle.model.specs.Path.{primCount}
 use Rattle.model.specs.Snapshot.{bigEndian, value, recordBytes}
 use Rattle.model.specs.Arena.{arenaBytes, slotAt, shallowIn, firstOf, lastOf, firstChildIn, lastChildIn, nextSiblingIn, primCountIn, linkBytes, siteBytes, headerBytes, localRootBelow, localRootOf, encode}
-use Rattle.model.proofs.StoredLaws.{part-of-stored, stored-next, field-after-stored, length-stored}
-use Rattle.model.proofs.Trees.{size-with-node, node-old, node-new, children-else}
-use Rattle.model.proofs.LegalAdded.{Addable}
+use Rattle.laws.proofs.StoredLaws.{part-of-stored, stored-next, field-after-stored, length-stored}
+use Rattle.laws.proofs.Trees.{size-with-node, node-old, node-new, children-else}
+use Rattle.laws.proofs.LegalAdded.{Addable}
 use Rattle.arena.proofs.Encodable.{Encodable}
 use Rattle.arena.proofs.ArenaParts.{apart-kept, root-part}
 use Rattle.arena.proofs.ArenaFields.{shallow-encode, first-child-encode, last-child-encode, next-sibling-encode, prim-count-encode}

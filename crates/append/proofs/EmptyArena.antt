@@ -9,7 +9,7 @@ use lib.ListN.{length}
 use Rattle.model.specs.Graph.{emptyGraph}
 use Rattle.model.specs.Snapshot.{bigEndian}
 use Rattle.model.specs.Arena.{arenaBytes, encode, holdsGraph}
-use Rattle.model.proofs.StoredLaws.{stored-next}
+use Rattle.laws.proofs.StoredLaws.{stored-next}
 use Rattle.arena.specs.Header.{countStored, marksStored}
 use Rattle.arena.proofs.Encodable.{empty-encodable}
 use Rattle.arena.proofs.ArenaHolds.{holds-encoded}

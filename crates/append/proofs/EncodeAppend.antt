@@ -10,8 +10,8 @@ use Rattle.model.specs.Node.{invalid, Node}
 use Rattle.model.specs.Graph.{Graph, size, withNode}
 use Rattle.model.specs.Snapshot.{recordBytes}
 use Rattle.model.specs.Arena.{slotAt, decode, encode}
-use Rattle.model.proofs.BigEndianLaws.{Bytes}
-use Rattle.model.proofs.LegalAdded.{Addable}
+use Rattle.laws.proofs.BigEndianLaws.{Bytes}
+use Rattle.laws.proofs.LegalAdded.{Addable}
 use Rattle.arena.proofs.Encodable.{Encodable}
 use Rattle.arena.proofs.HeldArenas.{held}
 use Rattle.arena.proofs.ArenaBack.{size-decode, encode-decode}

@@ -17,8 +17,8 @@ use Rattle.model.specs.Graph.{Graph, size, withNode}
 use Rattle.model.specs.Snapshot.{bigEndian, recordBytes}
 use Rattle.model.specs.Path.{primCount}
 use Rattle.model.specs.Arena.{arenaBytes, slotAt, linkBytes, siteBytes, slotsStored, orderStored, headerBytes, rootStored, localRootOf, decode, encode}
-use Rattle.model.proofs.StoredLaws.{length-stored, byte-before-stored, byte-in-stored, byte-after-stored}
-use Rattle.model.proofs.Trees.{size-with-node, node-old}
+use Rattle.laws.proofs.StoredLaws.{length-stored, byte-before-stored, byte-in-stored, byte-after-stored}
+use Rattle.laws.proofs.Trees.{size-with-node, node-old}
 use Rattle.arena.proofs.Encodable.{Encodable, order-below}
 use Rattle.arena.proofs.ArenaLaws.{decode-encode}
 use Rattle.arena.proofs.ArenaParts.{site-short, length-encode, header-part, root-part, link-part, site-part}

@@ -14,7 +14,7 @@ use Rattle.model.specs.Bytes.{stored}
 use Rattle.model.specs.Graph.{Graph, size}
 use Rattle.model.specs.Snapshot.{bigEndian}
 use Rattle.model.specs.Arena.{slotAt, linkBytes, siteBytes, slotStored, slotsStored, headerBytes, rootStored, localRootOf, encode}
-use Rattle.model.proofs.StoredLaws.{part-of-stored, stored-there}
+use Rattle.laws.proofs.StoredLaws.{part-of-stored, stored-there}
 use Rattle.arena.proofs.Encodable.{Encodable}
 use Rattle.arena.proofs.ArenaParts.{apart-kept, apart-slots, site-short}
 use Rattle.append.proofs.EncodeOver.{links-covered, site-covered, Lost, stored-lost, unordered-encode}

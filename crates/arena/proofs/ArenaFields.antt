@@ -15,10 +15,10 @@ use Rattle.model.specs.Graph.{Graph, size, nodeAt, childrenOf, isLocalRoot}
 use Rattle.model.specs.Strength.{view}
 use Rattle.model.specs.Snapshot.{value, field, recordBody, readRecord}
 use Rattle.model.specs.Arena.{arenaBytes, slotAt, countIn, orderedIn, finalizedIn, shallowIn, localRootIn, firstChildIn, lastChildIn, nextSiblingIn, orderEntryIn, primCountIn, recordLengthIn, nodeIn, firstOf, lastOf, afterIn, linkBytes, headerBytes, localRootBelow, localRootOf, encode}
-use Rattle.model.proofs.BigEndianLaws.{value-big-endian}
-use Rattle.model.proofs.SnapshotLaws.{FieldsFit, record-length, record-range, written-record-read}
-use Rattle.model.proofs.ListLaws.{all-imp}
-use Rattle.model.proofs.Trees.{Child, all-children}
+use Rattle.laws.proofs.BigEndianLaws.{value-big-endian}
+use Rattle.laws.proofs.SnapshotLaws.{FieldsFit, record-length, record-range, written-record-read}
+use Rattle.laws.proofs.ListLaws.{all-imp}
+use Rattle.laws.proofs.Trees.{Child, all-children}
 use Rattle.arena.proofs.Encodable.{Encodable, fit-at, order-below}
 use Rattle.arena.proofs.ArenaParts.{header-part, root-part, entry-part, link-part, site-part}
 

@@ -12,10 +12,10 @@ use Rattle.model.specs.Path.{primCount}
 use Rattle.model.specs.Node.{invalid, Node}
 use Rattle.model.specs.Graph.{Graph, emptyGraph, size, nodeAt, childrenOf, isShallow, withNode}
 use Rattle.model.specs.Arena.{arenaBytes, countIn, orderedIn, localRootIn, firstChildIn, lastChildIn, nextSiblingIn, primCountIn, recordLengthIn, nodeIn, nodesIn, childrenIn, lastOf, afterIn, localRootOf, encode, recordsAccepted, recordFits, chainEnds, chainRight, inChainOnce, inOrderOnce, shallowMarked, marksRight, nodeRight, holdsGraph}
-use Rattle.model.proofs.ListLaws.{all-below}
+use Rattle.laws.proofs.ListLaws.{all-below}
 use Rattle.arena.proofs.ChainLaws.{chain-ends-linked}
-use Rattle.model.proofs.SnapshotReadLaws.{GrowsFrom}
-use Rattle.model.proofs.LegalGrows.{legal-grows}
+use Rattle.laws.proofs.SnapshotReadLaws.{GrowsFrom}
+use Rattle.laws.proofs.LegalGrows.{legal-grows}
 use Rattle.arena.proofs.Encodable.{unordered, Encodable, fit-at}
 use Rattle.arena.proofs.ArenaFields.{count-encode, ordered-encode, finalized-encode, shallow-encode, local-root-encode, first-child-encode, last-child-encode, next-sibling-encode, prim-count-encode, record-length-encode, node-encode}
 use Rattle.arena.proofs.ArenaLaws.{nodes-encode, children-few, children-read, children-linked, children-encode, order-encode}

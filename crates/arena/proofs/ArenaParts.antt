@@ -15,8 +15,8 @@ use Rattle.model.specs.Bytes.{stored}
 use Rattle.model.specs.Graph.{Graph, size, nodeAt}
 use Rattle.model.specs.Snapshot.{bigEndian}
 use Rattle.model.specs.Arena.{arenaBytes, slotAt, linkBytes, siteBytes, slotStored, slotsStored, orderStored, headerBytes, rootStored, localRootOf, encode}
-use Rattle.model.proofs.StoredLaws.{byte-part, length-stored, part-of-stored, part-in-stored, part-before-stored, part-after-stored, stored-there}
-use Rattle.model.proofs.SnapshotLaws.{record-length}
+use Rattle.laws.proofs.StoredLaws.{byte-part, length-stored, part-of-stored, part-in-stored, part-before-stored, part-after-stored, stored-there}
+use Rattle.laws.proofs.SnapshotLaws.{record-length}
 use Rattle.arena.proofs.Encodable.{Encodable, fit-at, order-below}
 
 -- ---- Parts

@@ -12,8 +12,8 @@ use borrow.Author.Tests.{lt-ltb, le-ltb, eq-eqb, ne-eqb, eqb-true, eqb-false, lt
 use Rattle.model.specs.Lists.{All, count}
 use Rattle.model.specs.Node.{invalid}
 use Rattle.model.specs.Arena.{countIn, nextSiblingIn, nodeIn, chainIn, firstOf, lastOf, afterIn, chainEnds}
-use Rattle.model.proofs.ListLaws.{bit-eq, all-of, all-at, bit-ne}
-use Rattle.model.proofs.SnapshotLaws.{and-first, and-second}
+use Rattle.laws.proofs.ListLaws.{bit-eq, all-of, all-at, bit-ne}
+use Rattle.laws.proofs.SnapshotLaws.{and-first, and-second}
 
 -- each element's next is the element after it, `invalid` after the last
 abbrev pub Linked : (ℕ → ℕ) → List ℕ → Type 0

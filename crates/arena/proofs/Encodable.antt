@@ -9,10 +9,10 @@ use lib.ListN.{length}
 use Rattle.model.specs.Lists.{All, count}
 use Rattle.model.specs.Node.{Node}
 use Rattle.model.specs.Graph.{Graph, emptyGraph, size, nodeAt}
-use Rattle.model.proofs.SnapshotLaws.{FieldsFit, NodesFit}
-use Rattle.model.proofs.OrderLaws.{in-order-ordered}
-use Rattle.model.proofs.LengthLaws.{length-once}
-use Rattle.model.proofs.LegalGraphs.{Legal, empty-legal}
+use Rattle.laws.proofs.SnapshotLaws.{FieldsFit, NodesFit}
+use Rattle.laws.proofs.OrderLaws.{in-order-ordered}
+use Rattle.laws.proofs.LengthLaws.{length-once}
+use Rattle.laws.proofs.LegalGraphs.{Legal, empty-legal}
 
 -- the graph with no order
 abbrev pub unordered : Graph → Graph

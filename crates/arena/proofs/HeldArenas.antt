@@ -13,9 +13,9 @@ use Rattle.model.specs.Node.{invalid, Node}
 use Rattle.model.specs.Graph.{Graph, emptyGraph, isShallow, withNode}
 use Rattle.model.specs.Refusals.{refusal, recordQuestions}
 use Rattle.model.specs.Arena.{countIn, orderedIn, finalizedIn, shallowIn, localRootIn, firstChildIn, lastChildIn, nextSiblingIn, primCountIn, recordLengthIn, nodeIn, nodesIn, childrenIn, orderIn, lastOf, localRootOf, recordsAccepted, chainEnds, inChainOnce, inOrderOnce, shallowMarked, nodeRight, holdsGraph}
-use Rattle.model.proofs.ListLaws.{all-below}
-use Rattle.model.proofs.SnapshotLaws.{and-first, and-second}
-use Rattle.model.proofs.SnapshotReadLaws.{GrowsFrom, Grows}
+use Rattle.laws.proofs.ListLaws.{all-below}
+use Rattle.laws.proofs.SnapshotLaws.{and-first, and-second}
+use Rattle.laws.proofs.SnapshotReadLaws.{GrowsFrom, Grows}
 use Rattle.arena.proofs.ChainLaws.{or-second, Chain, chain-held}
 
 -- `nodeRight`, test by test

@@ -13,13 +13,13 @@ use Rattle.model.specs.Node.{invalid, Node}
 use Rattle.model.specs.Graph.{size, nodeAt, childrenOf, isShallow}
 use Rattle.model.specs.Strength.{view}
 use Rattle.model.specs.Arena.{arenaBytes, countIn, orderedIn, finalizedIn, shallowIn, nodeIn, tabulate, nodesIn, childrenIn, orderIn, orderEntryIn, decode, holdsGraph}
-use Rattle.model.proofs.BigEndianLaws.{Bytes}
-use Rattle.model.proofs.SnapshotLaws.{FieldsFit, NodesFit}
-use Rattle.model.proofs.SnapshotReadLaws.{built}
-use Rattle.model.proofs.ListLaws.{all-at}
-use Rattle.model.proofs.LengthLaws.{once-nothing-else}
-use Rattle.model.proofs.Trees.{Child, TreeOf}
-use Rattle.model.proofs.LegalGraphs.{Legal, DepthsReached}
+use Rattle.laws.proofs.BigEndianLaws.{Bytes}
+use Rattle.laws.proofs.SnapshotLaws.{FieldsFit, NodesFit}
+use Rattle.laws.proofs.SnapshotReadLaws.{built}
+use Rattle.laws.proofs.ListLaws.{all-at}
+use Rattle.laws.proofs.LengthLaws.{once-nothing-else}
+use Rattle.laws.proofs.Trees.{Child, TreeOf}
+use Rattle.laws.proofs.LegalGraphs.{Legal, DepthsReached}
 use Rattle.arena.proofs.Encodable.{unordered, EachOnce, Encodable}
 use Rattle.arena.proofs.TabulateLaws.{tabulate-length}
 use Rattle.arena.proofs.HeldArenas.{Held, held, held-chain}

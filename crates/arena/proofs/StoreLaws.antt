@@ -8,7 +8,7 @@ use lib.ListN.{length, length-append}
 use Rattle.model.specs.Bytes.{stored}
 use Rattle.model.specs.Lists.{bit}
 use Rattle.model.specs.Snapshot.{bigEndian}
-use Rattle.model.proofs.StoredLaws.{length-stored, stored-next}
+use Rattle.laws.proofs.StoredLaws.{length-stored, stored-next}
 
 -- the parts and then `last`, stored in s from `at + k` on one after the other, leave t
 abbrev pub Run : ℕ → ℕ → List (List ℕ) → List ℕ → List ℕ → List ℕ → Type 0

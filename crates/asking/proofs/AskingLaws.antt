@@ -14,7 +14,7 @@ use Rattle.model.specs.Calls.{readsNode, comparesNodes, comparesSiblings}
 use Rattle.model.specs.Arena.{arenaBytes, countIn, decode, holdsGraph}
 use Rattle.model.specs.ArenaCalls.{isArena, Opened, Readable, askArena}
 use Rattle.model.specs.declared.Refusal.{Refusal}
-use Rattle.model.proofs.ArenaCallLaws.{refusal-some, asked-on}
+use Rattle.laws.proofs.ArenaCallLaws.{refusal-some, asked-on}
 use Rattle.arena.proofs.ReadNodes.{sizes}
 
 module _ (bs : List ℕ) (a b : ℕ) where

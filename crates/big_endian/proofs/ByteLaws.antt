@@ -11,7 +11,7 @@ use borrow.Rule.Slice.PartMut.{putMid}
 use lib.ListN.{length, take, drop, getD, set, length-drop, drop-of-length-le}
 use lib.Seq.{drop-cons, drop-drop, take-all, take-length, sets, sets-eq}
 use Rattle.model.specs.Snapshot.{bigEndian, value, field}
-use Rattle.model.proofs.BigEndianLaws.{big-endian-length}
+use Rattle.laws.proofs.BigEndianLaws.{big-endian-length}
 use Rattle.model.specs.Bytes.{stored}
 
 -- ---- Loads

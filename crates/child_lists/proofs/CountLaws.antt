@@ -14,9 +14,9 @@ use borrow.Author.Tests.{eq-eqb, ne-eqb, eqb-true, eqb-false}
 use Rattle.model.specs.Lists.{All, count}
 use Rattle.model.specs.Node.{invalid}
 use Rattle.model.specs.Arena.{countIn, nextSiblingIn, nodeIn, childrenIn, chainRight, inChainOnce}
-use Rattle.model.proofs.LengthLaws.{length-once}
-use Rattle.model.proofs.ListLaws.{bit-ne, count-append, count-none, all-imp, all-append, all-below, all-below-fails}
-use Rattle.model.proofs.SnapshotLaws.{and-first, and-second}
+use Rattle.laws.proofs.LengthLaws.{length-once}
+use Rattle.laws.proofs.ListLaws.{bit-ne, count-append, count-none, all-imp, all-append, all-below, all-below-fails}
+use Rattle.laws.proofs.SnapshotLaws.{and-first, and-second}
 use Rattle.child_lists.specs.declared.Walked.the-variants.{Left, Wrong}
 use Rattle.child_lists.specs.ChildLists.{Parented, listedRight, childListsRight, leftAfter}
 use Rattle.child_lists.proofs.WalkLaws.{same-parent}

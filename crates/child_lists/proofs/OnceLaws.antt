@@ -10,7 +10,7 @@ use lib.ListN.{length}
 use borrow.Author.Tests.{eqb-true}
 use Rattle.model.specs.Lists.{All, bit, count}
 use Rattle.model.specs.Arena.{countIn, nextSiblingIn, chainIn, firstOf}
-use Rattle.model.proofs.LengthLaws.{length-at-most-once}
+use Rattle.laws.proofs.LengthLaws.{length-at-most-once}
 use Rattle.arena.proofs.ChainLaws.{Linked, chain-linked}
 
 -- the nodes of an arena, linked one by one

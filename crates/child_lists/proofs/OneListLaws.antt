@@ -11,8 +11,8 @@ use lib.ListN.{length}
 use borrow.Author.Tests.{eq-eqb, eqb-true}
 use Rattle.model.specs.Node.{invalid}
 use Rattle.model.specs.Arena.{countIn, firstChildIn, lastChildIn, nodeIn, chainIn, childrenIn, lastOf, chainEnds, chainRight}
-use Rattle.model.proofs.ListLaws.{all-imp}
-use Rattle.model.proofs.SnapshotLaws.{and-first, and-second}
+use Rattle.laws.proofs.ListLaws.{all-imp}
+use Rattle.laws.proofs.SnapshotLaws.{and-first, and-second}
 use Rattle.arena.proofs.ChainLaws.{Chain, chain-length, chain-held, chain-linked, chain-ends-linked}
 use Rattle.child_lists.specs.declared.Walked.the-variants.{Left, Wrong}
 use Rattle.child_lists.specs.ChildLists.{Parented, endsRight, walked, leftAfter}

@@ -18,8 +18,8 @@ use Rattle.model.specs.ArenaCalls.{isArena, Opened, onArena, intoArena, askAren
 use Rattle.model.specs.declared.Refusal.{Refusal}
 use Rattle.model.specs.declared.Refusal.the-variants.{Size}
 use Rattle.model.specs.declared.Finished.the-variants.{Done, Refused}
-use Rattle.model.proofs.AcceptedQuestions.{Accepted, none-refused-accepted}
-use Rattle.model.proofs.ArenaCallLaws.{wrote-decided-refused, wrote-decided}
+use Rattle.laws.proofs.AcceptedQuestions.{Accepted, none-refused-accepted}
+use Rattle.laws.proofs.ArenaCallLaws.{wrote-decided-refused, wrote-decided}
 use Rattle.arena.proofs.ReadNodes.{sizes, node-zero, no-node}
 use Rattle.deepening.specs.Deepened.{CanDeepen}
 use Rattle.child_names.specs.ChildNames.{Deepened, seedFrom, Seeded}

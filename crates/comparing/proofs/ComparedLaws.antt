@@ -14,8 +14,8 @@ use Rattle.model.specs.declared.Ordering.{Ordering}
 use Rattle.model.specs.declared.Ordering.the-variants.{Less, Equal, Greater}
 use Rattle.model.specs.declared.Compared.{Compared}
 use Rattle.model.specs.declared.Compared.the-variants.{As}
-use Rattle.model.proofs.StrengthFlips.{flip, siblings-flip, nodes-flip, siblings-equal, siblings-same, nodes-equal}
-use Rattle.model.proofs.StrengthLaws.{compare-same}
+use Rattle.laws.proofs.StrengthFlips.{flip, siblings-flip, nodes-flip, siblings-equal, siblings-same, nodes-equal}
+use Rattle.laws.proofs.StrengthLaws.{compare-same}
 
 -- ---- An answer is the definition's
 

@@ -14,9 +14,9 @@ use Rattle.model.specs.Node.{rootArc, culledFlag, Node, hasFlag, isInert, isCul
 use Rattle.model.specs.Graph.{Graph, size, nodeAt, childrenOf, depthBelowIntroduction, hasLocalRoot}
 use Rattle.model.specs.Arena.{countIn, localRootOf, decode}
 use Rattle.model.specs.Culling.{keepsInherit, culled, cullSubtreesWithoutOpinions}
-use Rattle.model.proofs.BigEndianLaws.{Bytes}
-use Rattle.model.proofs.Trees.{TreeOf}
-use Rattle.model.proofs.CullingLaws.{canCullWith, Decided, culling-decides}
+use Rattle.laws.proofs.BigEndianLaws.{Bytes}
+use Rattle.laws.proofs.Trees.{TreeOf}
+use Rattle.laws.proofs.CullingLaws.{canCullWith, Decided, culling-decides}
 use Rattle.arena.proofs.HeldArenas.{held}
 use Rattle.arena.proofs.HeldEncodable.{held-encodable}
 use Rattle.arena.proofs.ReadNodes.{sizes, root-found, root-held}

@@ -21,10 +21,10 @@ use Rattle.model.specs.Snapshot.{bigEndian, recordBody}
 use Rattle.model.specs.Arena.{arenaBytes, slotAt, countIn, firstOf, lastOf, afterIn, linkBytes, siteBytes, slotStored, slotsStored, orderStored, headerBytes, rootStored, localRootIn, localRootBelow, localRootOf, decode, encode}
 use Rattle.model.specs.ArenaCalls.{Opened}
 use Rattle.model.specs.Culling.{cullSubtreesWithoutOpinions}
-use Rattle.model.proofs.BigEndianLaws.{Bytes}
-use Rattle.model.proofs.StoredLaws.{length-stored, part-after-stored, stored-next, stored-there}
-use Rattle.model.proofs.SnapshotLaws.{record-length}
-use Rattle.model.proofs.CullingLaws.{OnlyCulled, culling-only-culls, culling-keeps-view}
+use Rattle.laws.proofs.BigEndianLaws.{Bytes}
+use Rattle.laws.proofs.StoredLaws.{length-stored, part-after-stored, stored-next, stored-there}
+use Rattle.laws.proofs.SnapshotLaws.{record-length}
+use Rattle.laws.proofs.CullingLaws.{OnlyCulled, culling-only-culls, culling-keeps-view}
 use Rattle.arena.specs.Slot.{flagsStored}
 use Rattle.arena.proofs.Encodable.{Encodable}
 use Rattle.arena.proofs.ArenaParts.{Apart, apart-kept, apart-slots, entries-there, site-short, header-part, root-part, link-part, site-part, entry-part}

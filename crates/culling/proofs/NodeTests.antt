@@ -15,9 +15,9 @@ use Rattle.model.specs.Strength.{isAuthored, originRootNode}
 use Rattle.model.specs.Arena.{primCountIn, decode}
 use Rattle.model.specs.ArenaCalls.{Readable}
 use Rattle.model.specs.Culling.{introducer}
-use Rattle.model.proofs.PathGrammar.{well-formed-may-end}
-use Rattle.model.proofs.PathLaws.{intro-prim-count}
-use Rattle.model.proofs.StrengthWalks.{origin-root-le}
+use Rattle.laws.proofs.PathGrammar.{well-formed-may-end}
+use Rattle.laws.proofs.PathLaws.{intro-prim-count}
+use Rattle.laws.proofs.StrengthWalks.{origin-root-le}
 use Rattle.arena.specs.Slot.{hasSpecsIn}
 use Rattle.arena.proofs.HeldArenas.{held}
 use Rattle.arena.proofs.ArenaBack.{size-decode, fresh-legal, fresh-nodes}

@@ -20,11 +20,11 @@ use Rattle.model.specs.Refusals.{mostPathBytes, pathBytes}
 use Rattle.model.specs.Snapshot.{bigEndian, recordBytes}
 use Rattle.model.specs.Arena.{arenaBytes, slotAt, countIn, finalizedIn, shallowIn, nodeIn, firstOf, lastOf, afterIn, localRootBelow, localRootOf, linkBytes, siteBytes, slotStored, slotsStored, orderStored, headerBytes, rootStored, decode, encode}
 use Rattle.model.specs.ArenaCalls.{Readable}
-use Rattle.model.proofs.BigEndianLaws.{Bytes}
-use Rattle.model.proofs.DeepenLaws.{size-deepened, node-deepened}
-use Rattle.model.proofs.LegalAlike.{short-paths}
-use Rattle.model.proofs.StoredLaws.{length-stored, part-after-stored, stored-field-same, stored-next, stored-there}
-use Rattle.model.proofs.Views.{SameButPaths, local-root-same}
+use Rattle.laws.proofs.BigEndianLaws.{Bytes}
+use Rattle.laws.proofs.DeepenLaws.{size-deepened, node-deepened}
+use Rattle.laws.proofs.LegalAlike.{short-paths}
+use Rattle.laws.proofs.StoredLaws.{length-stored, part-after-stored, stored-field-same, stored-next, stored-there}
+use Rattle.laws.proofs.Views.{SameButPaths, local-root-same}
 use Rattle.arena.specs.Header.{marksStored}
 use Rattle.arena.proofs.Encodable.{Encodable}
 use Rattle.arena.proofs.ArenaParts.{apart-slots, entries-there, root-part, link-part, entry-part}

@@ -16,8 +16,8 @@ use Rattle.model.specs.Graph.{Graph, size, childrenOf}
 use Rattle.model.specs.Path.{primCount}
 use Rattle.model.specs.Snapshot.{bigEndian, recordBytes}
 use Rattle.model.specs.Arena.{arenaBytes, slotAt, countIn, orderedIn, finalizedIn, shallowIn, firstChildIn, lastChildIn, nextSiblingIn, orderEntryIn, tabulate, firstOf, lastOf, localRootOf, linkBytes, slotStored, slotsStored, orderStored, headerBytes, rootStored, decode, encode}
-use Rattle.model.proofs.BigEndianLaws.{Bytes}
-use Rattle.model.proofs.StoredLaws.{stored-next}
+use Rattle.laws.proofs.BigEndianLaws.{Bytes}
+use Rattle.laws.proofs.StoredLaws.{stored-next}
 use Rattle.arena.specs.Slot.{orderEntryStored}
 use Rattle.arena.proofs.ArenaBack.{children-decode, next-decode}
 use Rattle.arena.proofs.HeldArenas.{Held, held, held-chain}

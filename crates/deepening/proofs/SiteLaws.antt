@@ -13,11 +13,11 @@ use Rattle.model.specs.Deepening.{deepened}
 use Rattle.model.specs.Node as model
 use Rattle.model.specs.Path.{primCount, appendName}
 use Rattle.model.specs.Snapshot.{bigEndian, value, readRecord, recordBytes}
-use Rattle.model.proofs.PathGrammar.{Name, well-formed-may-end}
-use Rattle.model.proofs.PathLaws.{append-prim-count, last-name-is-name, prim-count-half}
-use Rattle.model.proofs.PathParts.{name-not-empty}
-use Rattle.model.proofs.SnapshotLaws.{record-length}
-use Rattle.model.proofs.StoredLaws.{length-stored}
+use Rattle.laws.proofs.PathGrammar.{Name, well-formed-may-end}
+use Rattle.laws.proofs.PathLaws.{append-prim-count, last-name-is-name, prim-count-half}
+use Rattle.laws.proofs.PathParts.{name-not-empty}
+use Rattle.laws.proofs.SnapshotLaws.{record-length}
+use Rattle.laws.proofs.StoredLaws.{length-stored}
 use Rattle.arena.specs.Slot.{Loaded, nodeOf, recordStored, linksStored}
 use Rattle.arena.specs.declared.Node.{Node}
 use Rattle.arena.proofs.ArenaParts.{Apart, apart-kept}

@@ -24,8 +24,8 @@ use Rattle.model.specs.Calls.{Outcome, initRoot, addChild, finalizeStrengthOrde
 use Rattle.model.specs.Arena.{countIn, decode, holdsGraph}
 use Rattle.model.specs.ArenaCalls.{left}
 use Rattle.model.proofs.Text.{bytes}
-use Rattle.model.proofs.SnapshotLaws.{written-bytes}
-use Rattle.model.proofs.ListLaws.{all-imp, every-all}
+use Rattle.laws.proofs.SnapshotLaws.{written-bytes}
+use Rattle.laws.proofs.ListLaws.{all-imp, every-all}
 use Rattle.describing.specs.declared.Depth.{Depth}
 use Rattle.describing.specs.declared.Depth.the-variants.{Given, Missing}
 use Rattle.snapshot.proofs.ReadBack.{written-reads-back}

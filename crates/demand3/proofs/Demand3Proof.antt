@@ -1,5 +1,5 @@
 -- Demand 3 of the bytes (specs/Demand3.antt): every arena that a list of calls leaves is reached (ReachedArenas.antt), so its graph meets
--- model/proofs/Demand3.antt's demand, clause by clause; and each call that a clause names leaves the graph that it is there. Assumes nothing.
+-- laws/proofs/Demand3.antt's demand, clause by clause; and each call that a clause names leaves the graph that it is there. Assumes nothing.
 use mathlib.Core.Path.{_≡_, refl, sym, ap, subst, _∙_}
 use mathlib.Core.Bool.{Bool, true, false, cond, true≢false, or-true}
 use mathlib.Core.List.{List, []}
@@ -15,10 +15,10 @@ use Rattle.model.specs.Calls as calls
 use Rattle.model.specs.Calls.{Outcome, call, finalizeStrengthOrder, eraseSet}
 use Rattle.model.specs.Arena.{arenaBytes, decode, holdsGraph}
 use Rattle.model.specs.ArenaCalls.{onArena, left}
-use Rattle.model.proofs.BigEndianLaws.{Bytes}
-use Rattle.model.proofs.ArenaCallLaws.{on-opened}
-use Rattle.model.proofs.EraseSets.{erasable-length}
-use Rattle.model.proofs.Demand3 as model
+use Rattle.laws.proofs.BigEndianLaws.{Bytes}
+use Rattle.laws.proofs.ArenaCallLaws.{on-opened}
+use Rattle.laws.proofs.EraseSets.{erasable-length}
+use Rattle.laws.proofs.Demand3 as model
 use Rattle.arena.proofs.ArenaBack.{encode-decode}
 use Rattle.erasing.specs.Erasures.{eraseIn}
 use Rattle.keeping.proofs.FitLaws.{FinalUnlessShallow}

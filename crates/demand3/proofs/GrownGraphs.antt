@@ -1,12 +1,12 @@
--- The graphs that lists of calls leave from the starts of model/proofs/Demand3.antt: `Grown`. A call more leaves one again (`grown-call`), and what is
+-- The graphs that lists of calls leave from the starts of laws/proofs/Demand3.antt: `Grown`. A call more leaves one again (`grown-call`), and what is
 -- seeded from one is a start (`grown-seeded`). Assumes nothing.
 use mathlib.Core.Path.{_≡_, refl, sym, ap, subst, _∙_}
 use mathlib.Core.List.{List, [], _∷_, _++_}
 use Prim.Native.Nat.{ℕ}
 use Rattle.model.specs.Graph.{Graph}
 use Rattle.model.specs.Calls.{Call, call, calls, seedChild}
-use Rattle.model.proofs.Demand3.{Start, seeded, Demand3}
-use Rattle.model.proofs.Demand3Proof.{demand3}
+use Rattle.laws.proofs.Demand3.{Start, seeded, Demand3}
+use Rattle.laws.proofs.Demand3Proof.{demand3}
 
 pub record Grown (g : Graph) : Type 0 where
   pub start : Graph

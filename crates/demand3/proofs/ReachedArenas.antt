@@ -10,7 +10,7 @@ use Rattle.model.specs.Graph.{Graph, emptyGraph}
 use Rattle.model.specs.Calls.{Outcome, call, readInto, seedChild}
 use Rattle.model.specs.Arena.{arenaBytes, countIn, tabulate, nodeIn, childrenIn, decode, encode}
 use Rattle.model.specs.ArenaCalls.{Opened, left}
-use Rattle.model.proofs.Demand3 as model
+use Rattle.laws.proofs.Demand3 as model
 use Rattle.arena.proofs.Encodable.{Encodable}
 use Rattle.child_names.specs.ChildNames.{seedFrom}
 use Rattle.keeping.proofs.FitLaws.{FinalUnlessShallow}

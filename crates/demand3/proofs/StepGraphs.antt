@@ -13,7 +13,7 @@ use Rattle.model.specs.Calls as calls
 use Rattle.model.specs.Calls.{Outcome, unchanged, Call, call, readInto, eraseSet}
 use Rattle.model.specs.Arena.{arenaBytes, decode, encode}
 use Rattle.model.specs.ArenaCalls.{onArena, intoArena, left}
-use Rattle.model.proofs.SnapshotReadLaws.{accepted-read, grown-read, refused-read-keeps}
+use Rattle.laws.proofs.SnapshotReadLaws.{accepted-read, grown-read, refused-read-keeps}
 use Rattle.describing.specs.Describing.{depthOption, descOf}
 use Rattle.describing.specs.declared.NodeDesc.{NodeDesc}
 use Rattle.describing.specs.declared.Depth.{Depth}

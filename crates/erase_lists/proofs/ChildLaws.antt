@@ -10,7 +10,7 @@ use Rattle.model.specs.Graph.{childrenOf}
 use Rattle.model.specs.Arena.{countIn, firstChildIn, nextSiblingIn, nodeIn, chainIn, decode}
 use Rattle.model.specs.ArenaCalls.{Opened, Readable}
 use Rattle.model.specs.Erasing.{stays, newNumber}
-use Rattle.model.proofs.ListLaws.{all-imp}
+use Rattle.laws.proofs.ListLaws.{all-imp}
 use Rattle.arena.proofs.ChainLaws.{Chain, chain-length, chain-linked}
 use Rattle.arena.proofs.HeldArenas.{held, held-chain}
 use Rattle.arena.proofs.ArenaBack.{children-decode}

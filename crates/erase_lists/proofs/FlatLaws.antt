@@ -14,8 +14,8 @@ use Rattle.model.specs.Strength.{view}
 use Rattle.model.specs.Arena.{countIn, decode}
 use Rattle.model.specs.ArenaCalls.{Opened}
 use Rattle.model.specs.Erasing.{stays, newNumber, erase}
-use Rattle.model.proofs.EraseLists.{new-number-no-larger}
-use Rattle.model.proofs.EraseLaws.{children-erased}
+use Rattle.laws.proofs.EraseLists.{new-number-no-larger}
+use Rattle.laws.proofs.EraseLaws.{children-erased}
 use Rattle.arena.proofs.HeldArenas.{held}
 use Rattle.arena.proofs.ArenaBack.{lists-decode}
 use Rattle.arena.proofs.HeldEncodable.{tree-held}

@@ -8,7 +8,7 @@ use lib.ListN.{length, getD, set, length-set}
 use borrow.Author.Tests.{eq-eqb, ne-eqb}
 use Rattle.model.specs.Lists.{bit}
 use Rattle.model.specs.Erasing.{stays, newNumber}
-use Rattle.model.proofs.EraseLists.{new-number-no-larger}
+use Rattle.laws.proofs.EraseLists.{new-number-no-larger}
 use Rattle.links.proofs.LinkLaws.{filled-more}
 use Rattle.erase_lists.specs.EraseLists.{Numbers}
 

@@ -13,7 +13,7 @@ use Rattle.model.specs.Graph.{size}
 use Rattle.model.specs.Arena.{countIn, orderedIn, orderEntryIn, tabulate, decode}
 use Rattle.model.specs.ArenaCalls.{Opened, Readable}
 use Rattle.model.specs.Erasing.{stays, newNumber, erase}
-use Rattle.model.proofs.EraseLaws.{order-erased}
+use Rattle.laws.proofs.EraseLaws.{order-erased}
 use Rattle.arena.proofs.TabulateLaws.{tabulate-length, tabulate-at}
 use Rattle.arena.proofs.HeldArenas.{held}
 use Rattle.arena.proofs.HeldEncodable.{order-held}

@@ -14,8 +14,8 @@ use Rattle.model.specs.Graph.{Graph, size, childrenOf}
 use Rattle.model.specs.Snapshot.{bigEndian}
 use Rattle.model.specs.Arena.{arenaBytes, slotAt, localRootIn, linkBytes, siteBytes, slotStored, slotsStored, orderStored, headerBytes, rootStored, decode, encode}
 use Rattle.model.specs.Erasing.{stays, newNumber, eraseBy, erase}
-use Rattle.model.proofs.BigEndianLaws.{Bytes}
-use Rattle.model.proofs.StoredLaws.{length-stored, part-after-stored, stored-there, stored-apart, stored-next}
+use Rattle.laws.proofs.BigEndianLaws.{Bytes}
+use Rattle.laws.proofs.StoredLaws.{length-stored, part-after-stored, stored-there, stored-apart, stored-next}
 use Rattle.arena.specs.Header.{countStored, localRootStored}
 use Rattle.arena.proofs.ArenaParts.{Apart, header-part}
 use Rattle.arena.proofs.ArenaBack.{encode-decode}

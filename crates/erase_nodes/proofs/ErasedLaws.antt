@@ -18,12 +18,12 @@ use Rattle.model.specs.Snapshot.{value, readRecord, recordBytes}
 use Rattle.model.specs.Arena.{slotAt, localRootIn, primCountIn, nodeIn, siteBytes, localRootBelow, localRootOf, decode}
 use Rattle.model.specs.ArenaCalls.{Readable}
 use Rattle.model.specs.Erasing.{stays, newNumber, newLink, erase}
-use Rattle.model.proofs.BigEndianLaws.{Bytes}
-use Rattle.model.proofs.SnapshotLaws.{record-length}
-use Rattle.model.proofs.Spares.{Spares}
-use Rattle.model.proofs.EraseSets.{can-erase-iff}
-use Rattle.model.proofs.EraseLists.{new-number-no-larger, new-number-grows, at-new-numbers}
-use Rattle.model.proofs.EraseLaws.{size-erased, node-erased, no-children-beyond, node0-links-erased, erase-looks-like, tree-erased}
+use Rattle.laws.proofs.BigEndianLaws.{Bytes}
+use Rattle.laws.proofs.SnapshotLaws.{record-length}
+use Rattle.laws.proofs.Spares.{Spares}
+use Rattle.laws.proofs.EraseSets.{can-erase-iff}
+use Rattle.laws.proofs.EraseLists.{new-number-no-larger, new-number-grows, at-new-numbers}
+use Rattle.laws.proofs.EraseLaws.{size-erased, node-erased, no-children-beyond, node0-links-erased, erase-looks-like, tree-erased}
 use Rattle.arena.proofs.Encodable.{Encodable, fit-at}
 use Rattle.arena.proofs.HeldEncodable.{held-encodable}
 use Rattle.arena.proofs.ReadNodes.{sizes, all, node-read, root-held}

@@ -14,9 +14,9 @@ use Rattle.model.specs.Graph.{Graph, size}
 use Rattle.model.specs.Snapshot.{value, recordBytes}
 use Rattle.model.specs.Arena.{arenaBytes, slotAt, recordLengthIn, nodeIn, siteBytes, decode}
 use Rattle.model.specs.Erasing.{stays, newNumber, erase}
-use Rattle.model.proofs.BigEndianLaws.{Bytes}
-use Rattle.model.proofs.StoredLaws.{length-stored, part-of-stored, drop-after-stored}
-use Rattle.model.proofs.EraseLists.{new-number-no-larger, new-number-grows}
+use Rattle.laws.proofs.BigEndianLaws.{Bytes}
+use Rattle.laws.proofs.StoredLaws.{length-stored, part-of-stored, drop-after-stored}
+use Rattle.laws.proofs.EraseLists.{new-number-no-larger, new-number-grows}
 use Rattle.arena.specs.declared.Node.{Node}
 use Rattle.arena.specs.Slot.{HasSlot, HasPath, Loaded, recordStored}
 use Rattle.arena.proofs.SlotLaws.{loaded-node, path-length}

@@ -12,7 +12,7 @@ use borrow.Author.Tests.{eq-eqb, ne-eqb, le-leb, lt-leb}
 use Rattle.model.specs.Node.{rootArc}
 use Rattle.model.specs.Graph.{Graph, size, nodeAt}
 use Rattle.model.specs.Erasing.{sparesOne, canErase}
-use Rattle.model.proofs.ListLaws.{all-below, all-below-fails}
+use Rattle.laws.proofs.ListLaws.{all-below, all-below-fails}
 
 -- ---- One node
 

@@ -15,8 +15,8 @@ use Rattle.model.specs.Node.{Node, noNode}
 use Rattle.model.specs.Graph.{Graph, size, nodeAt}
 use Rattle.model.specs.Culling.{isMarked, keepLinks, keepDown, isErasable}
 use Rattle.model.specs.Erasing.{stays, erasable}
-use Rattle.model.proofs.ErasableLaws.{unmarked-not-erasable}
-use Rattle.model.proofs.EraseSets.{erasable-length, erasable-byte}
+use Rattle.laws.proofs.ErasableLaws.{unmarked-not-erasable}
+use Rattle.laws.proofs.EraseSets.{erasable-length, erasable-byte}
 use Rattle.erase_sets.specs.EraseSets.{marks, MarkedBelow}
 
 -- the nodes from n on are done: the rest of the pass comes from these bytes to what the whole pass keeps

@@ -25,16 +25,16 @@ use Rattle.model.specs.ArenaCalls.{isArena, Opened, Wrote}
 use Rattle.model.specs.declared.Finished.the-variants.{Done}
 use Rattle.model.specs.declared.Numbered.{Numbered}
 use Rattle.model.specs.declared.Numbered.the-variants.{Number}
-use Rattle.model.proofs.Views.{LooksLike}
-use Rattle.model.proofs.BigEndianLaws.{Bytes}
-use Rattle.model.proofs.AcceptedQuestions.{Accepted, none-refused-accepted}
-use Rattle.model.proofs.ArenaCallLaws.{decided-accepted}
-use Rattle.model.proofs.LegalGraphs.{Legal, roots-unculled}
-use Rattle.model.proofs.ErasableLaws.{Spared, erasable-spared, erasable-largest}
-use Rattle.model.proofs.Spares.{Spares}
-use Rattle.model.proofs.EraseSets.{can-erase-iff, erasable-length, erasable-stays, erasable-accepted}
-use Rattle.model.proofs.EraseLaws.{size-erased, node-erased, children-erased, order-erased, marks-erased, erase-looks-like}
-use Rattle.model.proofs.StrengthCongruence.{siblings-alike, nodes-alike}
+use Rattle.laws.proofs.Views.{LooksLike}
+use Rattle.laws.proofs.BigEndianLaws.{Bytes}
+use Rattle.laws.proofs.AcceptedQuestions.{Accepted, none-refused-accepted}
+use Rattle.laws.proofs.ArenaCallLaws.{decided-accepted}
+use Rattle.laws.proofs.LegalGraphs.{Legal, roots-unculled}
+use Rattle.laws.proofs.ErasableLaws.{Spared, erasable-spared, erasable-largest}
+use Rattle.laws.proofs.Spares.{Spares}
+use Rattle.laws.proofs.EraseSets.{can-erase-iff, erasable-length, erasable-stays, erasable-accepted}
+use Rattle.laws.proofs.EraseLaws.{size-erased, node-erased, children-erased, order-erased, marks-erased, erase-looks-like}
+use Rattle.laws.proofs.StrengthCongruence.{siblings-alike, nodes-alike}
 use Rattle.arena.proofs.Encodable.{unordered, Encodable}
 use Rattle.arena.proofs.HeldEncodable.{held-encodable}
 use Rattle.arena.proofs.ReadNodes.{sizes}

@@ -14,8 +14,8 @@ use Rattle.model.specs.ArenaCalls.{isArena, Opened, onArena, askArena}
 use Rattle.model.specs.declared.Refusal.{Refusal}
 use Rattle.model.specs.declared.Refusal.the-variants.{NoOrder}
 use Rattle.model.specs.declared.Finished.the-variants.{Done, Refused}
-use Rattle.model.proofs.BigEndianLaws.{Bytes}
-use Rattle.model.proofs.ArenaCallLaws.{refusal-some, asked-on, on-opened, decided-accepted}
+use Rattle.laws.proofs.BigEndianLaws.{Bytes}
+use Rattle.laws.proofs.ArenaCallLaws.{refusal-some, asked-on, on-opened, decided-accepted}
 use Rattle.arena.proofs.ArenaBack.{encode-decode}
 use Rattle.arena.proofs.ReadNodes.{node-zero}
 use Rattle.ordering.specs.Ordering.{OrderedArena}

@@ -15,13 +15,13 @@ use Rattle.model.specs.Node.{Node}
 use Rattle.model.specs.Graph.{Graph, size, nodeAt, withNode}
 use Rattle.model.specs.Refusals.{ask, hasRoom, addedKind}
 use Rattle.model.specs.Calls.{hasNodeZero, rootNode, initRoot, NodeDesc, given, depthOr, defaultDepth, addedNode, givenBelow, addChild}
-use Rattle.model.proofs.BigEndianLaws.{Bytes}
-use Rattle.model.proofs.PathGrammar.{well-formed-decides}
-use Rattle.model.proofs.SnapshotLaws.{NodesFit}
-use Rattle.model.proofs.PathLaws.{prim-count-half}
-use Rattle.model.proofs.Trees.{size-with-node, node-old, node-new}
-use Rattle.model.proofs.LegalGraphs.{Legal}
-use Rattle.model.proofs.LegalAdded.{starting-keeps-legal, adding-keeps-legal}
+use Rattle.laws.proofs.BigEndianLaws.{Bytes}
+use Rattle.laws.proofs.PathGrammar.{well-formed-decides}
+use Rattle.laws.proofs.SnapshotLaws.{NodesFit}
+use Rattle.laws.proofs.PathLaws.{prim-count-half}
+use Rattle.laws.proofs.Trees.{size-with-node, node-old, node-new}
+use Rattle.laws.proofs.LegalGraphs.{Legal}
+use Rattle.laws.proofs.LegalAdded.{starting-keeps-legal, adding-keeps-legal}
 use Rattle.arena.proofs.Encodable.{unordered, Encodable, legal-encodable}
 use Rattle.append.proofs.AppendEncodable.{NumbersFit}
 use Rattle.keeping.proofs.FitLaws.{fit-numbers, legal-fits, Keeps, decided-encodable}

@@ -11,11 +11,11 @@ use Rattle.model.specs.Node.{Node}
 use Rattle.model.specs.Graph.{Graph, size, nodeAt, childrenOf}
 use Rattle.model.specs.Snapshot.{bigEndian, recordBody}
 use Rattle.model.specs.Arena.{slotAt, firstOf, lastOf, afterIn, localRootOf, linkBytes, siteBytes, slotsStored, orderStored, headerBytes, rootStored, encode}
-use Rattle.model.proofs.BigEndianLaws.{Bytes, big-endian-bytes}
-use Rattle.model.proofs.StoredLaws.{bytes-stored}
-use Rattle.model.proofs.ListLaws.{all-append}
-use Rattle.model.proofs.PathLaws.{prim-count-half}
-use Rattle.model.proofs.SnapshotLaws.{FieldsFit, record-bytes}
+use Rattle.laws.proofs.BigEndianLaws.{Bytes, big-endian-bytes}
+use Rattle.laws.proofs.StoredLaws.{bytes-stored}
+use Rattle.laws.proofs.ListLaws.{all-append}
+use Rattle.laws.proofs.PathLaws.{prim-count-half}
+use Rattle.laws.proofs.SnapshotLaws.{FieldsFit, record-bytes}
 use Rattle.arena.proofs.Encodable.{Encodable, fit-at}
 
 bytes-append : (xs ys : List ℕ) → Bytes xs → Bytes ys → Bytes (xs ++ ys)

@@ -10,9 +10,9 @@ use Rattle.model.specs.Node.{culledFlag, Node, isCulled}
 use Rattle.model.specs.Graph.{Graph, size, nodeAt, hasLocalRoot}
 use Rattle.model.specs.Culling.{canCull, culled, cullOne, cullDown, cullSubtreesWithoutOpinions}
 use Rattle.model.specs.Calls.{hasNodeZero, cull}
-use Rattle.model.proofs.CullingLaws.{culling-only-culls}
-use Rattle.model.proofs.LegalGraphs.{Legal}
-use Rattle.model.proofs.LegalAlike.{culling-keeps-legal}
+use Rattle.laws.proofs.CullingLaws.{culling-only-culls}
+use Rattle.laws.proofs.LegalGraphs.{Legal}
+use Rattle.laws.proofs.LegalAlike.{culling-keeps-legal}
 use Rattle.arena.proofs.Encodable.{unordered, EachOnce, Encodable}
 use Rattle.append.proofs.AppendEncodable.{NumbersFit}
 use Rattle.keeping.proofs.FitLaws.{Numbers, fit-numbers, legal-fits, Keeps, decided-encodable}

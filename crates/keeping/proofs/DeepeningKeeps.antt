@@ -11,12 +11,12 @@ use Rattle.model.specs.Node.{Node}
 use Rattle.model.specs.Graph.{Graph, size, nodeAt}
 use Rattle.model.specs.Deepening.{deepened, deepen, appendChildNameToAllSites}
 use Rattle.model.specs.Calls.{deepenQuestions, appendChildName, seedChild}
-use Rattle.model.proofs.BigEndianLaws.{Bytes}
-use Rattle.model.proofs.StoredLaws.{bytes-drop}
-use Rattle.model.proofs.ListLaws.{all-append}
-use Rattle.model.proofs.DeepenLaws.{size-deepened, node-deepened}
-use Rattle.model.proofs.LegalGraphs.{Legal}
-use Rattle.model.proofs.LegalAlike.{deepening-keeps-legal}
+use Rattle.laws.proofs.BigEndianLaws.{Bytes}
+use Rattle.laws.proofs.StoredLaws.{bytes-drop}
+use Rattle.laws.proofs.ListLaws.{all-append}
+use Rattle.laws.proofs.DeepenLaws.{size-deepened, node-deepened}
+use Rattle.laws.proofs.LegalGraphs.{Legal}
+use Rattle.laws.proofs.LegalAlike.{deepening-keeps-legal}
 use Rattle.arena.proofs.Encodable.{unordered, EachOnce, Encodable}
 use Rattle.append.proofs.AppendEncodable.{NumbersFit}
 use Rattle.keeping.proofs.FitLaws.{fit-numbers, legal-fits, FinalUnlessShallow, Keeps, decided-encodable, decided-leaves}

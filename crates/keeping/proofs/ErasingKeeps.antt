@@ -12,13 +12,13 @@ use Rattle.model.specs.Graph.{Graph, size, nodeAt}
 use Rattle.model.specs.Erasing.{stays, canErase, newNumber, renumbered, eraseBy, erase}
 use Rattle.model.specs.Refusals.{ask}
 use Rattle.model.specs.Calls.{hasNodeZero, eraseSet}
-use Rattle.model.proofs.ListLaws.{all-imp, all-map, all-filter}
-use Rattle.model.proofs.EraseSets.{can-erase-iff}
-use Rattle.model.proofs.EraseLists.{new-number-grows, at-new-numbers, count-kept}
-use Rattle.model.proofs.EraseLaws.{size-erased, node-erased, order-erased, marks-erased}
-use Rattle.model.proofs.LegalGraphs.{Legal}
-use Rattle.model.proofs.LegalErased.{erasing-keeps-legal}
-use Rattle.model.proofs.AcceptedQuestions.{Accepted}
+use Rattle.laws.proofs.ListLaws.{all-imp, all-map, all-filter}
+use Rattle.laws.proofs.EraseSets.{can-erase-iff}
+use Rattle.laws.proofs.EraseLists.{new-number-grows, at-new-numbers, count-kept}
+use Rattle.laws.proofs.EraseLaws.{size-erased, node-erased, order-erased, marks-erased}
+use Rattle.laws.proofs.LegalGraphs.{Legal}
+use Rattle.laws.proofs.LegalErased.{erasing-keeps-legal}
+use Rattle.laws.proofs.AcceptedQuestions.{Accepted}
 use Rattle.arena.proofs.Encodable.{unordered, EachOnce, Encodable}
 use Rattle.append.proofs.AppendEncodable.{NumbersFit}
 use Rattle.keeping.proofs.FitLaws.{fit-numbers, legal-fits, Keeps, decided-encodable}

@@ -10,11 +10,11 @@ use Rattle.model.specs.Node.{Node, noNode}
 use Rattle.model.specs.Graph.{Graph, size, nodeAt}
 use Rattle.model.specs.Refusals.{Question, refusal}
 use Rattle.model.specs.Calls.{Outcome, settled, decided}
-use Rattle.model.proofs.PathGrammar.{well-formed-decides}
-use Rattle.model.proofs.SnapshotLaws.{FieldsFit, NodesFit}
-use Rattle.model.proofs.LegalGraphs.{Legal, LegalNode}
-use Rattle.model.proofs.AcceptedQuestions.{Accepted, numbered, none-refused-accepted}
-use Rattle.model.proofs.ArenaCallLaws.{decided-accepted}
+use Rattle.laws.proofs.PathGrammar.{well-formed-decides}
+use Rattle.laws.proofs.SnapshotLaws.{FieldsFit, NodesFit}
+use Rattle.laws.proofs.LegalGraphs.{Legal, LegalNode}
+use Rattle.laws.proofs.AcceptedQuestions.{Accepted, numbered, none-refused-accepted}
+use Rattle.laws.proofs.ArenaCallLaws.{decided-accepted}
 use Rattle.arena.proofs.Encodable.{unordered, Encodable}
 use Rattle.append.proofs.AppendEncodable.{NumbersFit}
 

@@ -11,8 +11,8 @@ use Rattle.model.specs.Graph.{Graph}
 use Rattle.model.specs.Calls.{Outcome, Call, starting, adding, orders, culls, erasing, deepening, reading, call}
 use Rattle.model.specs.Arena.{arenaBytes, decode, encode, holdsGraph}
 use Rattle.model.specs.ArenaCalls.{Opened, onArena, left}
-use Rattle.model.proofs.BigEndianLaws.{Bytes}
-use Rattle.model.proofs.ArenaCallLaws.{on-opened}
+use Rattle.laws.proofs.BigEndianLaws.{Bytes}
+use Rattle.laws.proofs.ArenaCallLaws.{on-opened}
 use Rattle.arena.proofs.Encodable.{Encodable}
 use Rattle.arena.proofs.ArenaParts.{length-encode}
 use Rattle.arena.proofs.ArenaLaws.{decode-encode}

@@ -9,9 +9,9 @@ use Rattle.model.specs.Graph.{Graph, size}
 use Rattle.model.specs.Order.{isStronger, hasOrder, ordering}
 use Rattle.model.specs.Refusals.{ask}
 use Rattle.model.specs.Calls.{hasNodeZero, finalizeStrengthOrder}
-use Rattle.model.proofs.LegalGraphs.{Legal}
-use Rattle.model.proofs.LegalAlike.{ordered-legal}
-use Rattle.model.proofs.AcceptedQuestions.{none-refused-accepted}
+use Rattle.laws.proofs.LegalGraphs.{Legal}
+use Rattle.laws.proofs.LegalAlike.{ordered-legal}
+use Rattle.laws.proofs.AcceptedQuestions.{none-refused-accepted}
 use Rattle.arena.proofs.Encodable.{unordered, Encodable, legal-encodable}
 use Rattle.keeping.proofs.FitLaws.{FinalUnlessShallow, Keeps, decided-keeps}
 

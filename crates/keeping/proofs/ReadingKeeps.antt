@@ -6,9 +6,9 @@ use Prim.Native.Nat.{ℕ, zero, suc}
 use native.Mathlib.Omega.{arith}
 use Rattle.model.specs.Graph.{Graph}
 use Rattle.model.specs.Calls.{Outcome, readInto}
-use Rattle.model.proofs.BigEndianLaws.{Bytes}
-use Rattle.model.proofs.SnapshotLaws.{read-nodes-fit}
-use Rattle.model.proofs.SnapshotReadLaws.{accepted-read, refused-read-keeps, accepted-read-fresh}
+use Rattle.laws.proofs.BigEndianLaws.{Bytes}
+use Rattle.laws.proofs.SnapshotLaws.{read-nodes-fit}
+use Rattle.laws.proofs.SnapshotReadLaws.{accepted-read, refused-read-keeps, accepted-read-fresh}
 use Rattle.arena.proofs.Encodable.{Encodable}
 use Rattle.keeping.proofs.FitLaws.{FinalUnlessShallow, Keeps}
 use Rattle.snapshot.proofs.ReadBack.{built-encodable}

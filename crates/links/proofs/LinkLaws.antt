@@ -14,7 +14,7 @@ use borrow.Author.Tests.{eqb-true, eqb-false}
 use Rattle.model.specs.Arena.{firstOf, lastOf, afterIn}
 use Rattle.model.specs.Lists.{count}
 use Rattle.model.specs.Node.{invalid}
-use Rattle.model.proofs.ListLaws.{bit-eq, bit-ne}
+use Rattle.laws.proofs.ListLaws.{bit-eq, bit-ne}
 use Rattle.links.specs.Links.{startOf, part, nextsSet, nextsMade}
 
 pub slice-done : (at end : ℕ) (array : List ℕ) → at ≤ end → end ≤ at → slice at end array ≡ []

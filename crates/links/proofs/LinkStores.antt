@@ -10,8 +10,8 @@ use Rattle.model.specs.Graph.{Graph, size, childrenOf}
 use Rattle.model.specs.Snapshot.{bigEndian}
 use Rattle.model.specs.Strength.{view}
 use Rattle.model.specs.Arena.{arenaBytes, slotAt, afterIn, linkBytes}
-use Rattle.model.proofs.StoredLaws.{length-stored}
-use Rattle.model.proofs.Trees.{TreeOf}
+use Rattle.laws.proofs.StoredLaws.{length-stored}
+use Rattle.laws.proofs.Trees.{TreeOf}
 use Rattle.arena.proofs.ArenaParts.{apart-kept, apart-slots}
 use Rattle.links.specs.Links.{Segments, Linked, linksWritten}
 use Rattle.links.proofs.SegmentLaws.{first-right, last-right, next-right, next-of-root}

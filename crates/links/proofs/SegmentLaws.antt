@@ -15,9 +15,9 @@ use borrow.Author.Tests.{eqb-true, eqb-false}
 use Rattle.model.specs.Arena.{firstOf, lastOf, afterIn}
 use Rattle.model.specs.Lists.{All, count}
 use Rattle.model.specs.Node.{invalid}
-use Rattle.model.proofs.ListLaws.{bit-ne, count-append, all-imp, all-append}
-use Rattle.model.proofs.LengthLaws.{length-at-most-once}
-use Rattle.model.proofs.Trees.{Child, Tree, all-children, child-count, child-once}
+use Rattle.laws.proofs.ListLaws.{bit-ne, count-append, all-imp, all-append}
+use Rattle.laws.proofs.LengthLaws.{length-at-most-once}
+use Rattle.laws.proofs.Trees.{Child, Tree, all-children, child-count, child-once}
 use Rattle.links.specs.Links.{flat, Segments, startOf, part, Parted, nextsSet, nextsMade, Linked}
 use Rattle.links.proofs.LinkLaws.{nexts-length, nexts-outside, nexts-inside}
 

@@ -19,7 +19,7 @@ use Rattle.model.specs.declared.Refusal.{Refusal}
 use Rattle.model.specs.declared.Refusal.the-variants.{Size, NotAGraph, NodeZero, NotOrdered}
 use Rattle.model.specs.declared.Numbered.{Numbered}
 use Rattle.model.specs.declared.Numbered.the-variants.{Number, Refused}
-use Rattle.model.proofs.ArenaCallLaws.{refusal-some, answered-refused, answered-number}
+use Rattle.laws.proofs.ArenaCallLaws.{refusal-some, answered-refused, answered-number}
 use Rattle.arena.proofs.ReadNodes.{sizes}
 use Rattle.listing.specs.Listings.{listingQuestions, ListingWritten}
 use Rattle.listing.specs.Texts.{Put}

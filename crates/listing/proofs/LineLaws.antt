@@ -16,8 +16,8 @@ use Rattle.model.specs.Graph.{size, nodeAt}
 use Rattle.model.specs.Listing.{arcLetters, nodeLine, nodeLines, listing}
 use Rattle.model.specs.Arena.{countIn, orderedIn, orderEntryIn, nodeIn, tabulate, orderIn, decode}
 use Rattle.model.specs.ArenaCalls.{Readable}
-use Rattle.model.proofs.LengthLaws.{once-nothing-else}
-use Rattle.model.proofs.StoredLaws.{length-stored}
+use Rattle.laws.proofs.LengthLaws.{once-nothing-else}
+use Rattle.laws.proofs.StoredLaws.{length-stored}
 use Rattle.arena.specs.Slot.{HasSlot}
 use Rattle.arena.proofs.SlotLaws.{path-length}
 use Rattle.arena.proofs.TabulateLaws.{tabulate-length, tabulate-at}

@@ -6,7 +6,7 @@ use native.Mathlib.Omega.{arith}
 use lib.ListN.{length, length-append}
 use Rattle.model.specs.Bytes.{stored}
 use Rattle.model.specs.Snapshot.{bigEndian}
-use Rattle.model.proofs.StoredLaws.{stored-next}
+use Rattle.laws.proofs.StoredLaws.{stored-next}
 use Rattle.listing.specs.Texts.{Put}
 
 module _ (at : ℕ) (xs ys before : List ℕ) (mid end : ℕ) (middle after : List ℕ) where

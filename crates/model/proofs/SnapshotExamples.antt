@@ -2,7 +2,6 @@
 use Prim.Native.Nat.{ℕ, _+_}
 use mathlib.Core.Path.{_≡_, refl}
 use mathlib.Core.List.{List, [], _∷_, _++_, map}
-use native.Mathlib.Omega.{arith}
 use lib.ListN.{replicate}
 use Rattle.model.specs.Path.{isNameStart, isWordByte, isSelectionByte, wellFormed, primCount}
 use Rattle.model.specs.Node.{Node}
@@ -10,8 +9,6 @@ use Rattle.model.specs.Graph.{Graph, emptyGraph, withNode}
 use Rattle.model.specs.Snapshot.{bigEndian, recordBody, writeSnapshot, readRecord, readRecords, readSnapshot}
 use Rattle.model.specs.Calls.{rootNode, readInto}
 use Rattle.model.proofs.Text.{bytes}
-use Rattle.model.proofs.SnapshotLaws.{NodesFit}
-use Rattle.model.proofs.SnapshotReadLaws.{built, Grows}
 
 -- "Empty graph: `00 00 00 03 01 00 00`"
 empty-written : writeSnapshot emptyGraph ≡ 0 ∷ 0 ∷ 0 ∷ 3 ∷ 1 ∷ 0 ∷ 0 ∷ []
@@ -25,7 +22,7 @@ empty-read old = refl
 -- ---- A graph of two nodes
 
 -- a Reference `/R` under the root `/M`, with numbers that fill their fields
-abbrev reference : Node
+abbrev pub reference : Node
 reference = record {
   arc = 4;
   flags = 255;
@@ -41,20 +38,8 @@ reference = record {
   path = bytes "/R";
 }
 
-abbrev twoNodes : List Node
-twoNodes = rootNode 0 0 (bytes "/M") ∷ reference ∷ []
-
-abbrev two : Graph
-two = built twoNodes
-
--- the laws of SnapshotLaws.antt and SnapshotReadLaws.antt speak of it
-two-fit : NodesFit twoNodes
-unfolding primCount isNameStart isWordByte isSelectionByte
-two-fit = omega arith
-
-two-grow : Grows twoNodes
-unfolding withNode primCount wellFormed isNameStart isWordByte isSelectionByte
-two-grow = (refl, (refl, tt))
+abbrev pub two : Graph
+two = withNode (withNode emptyGraph (rootNode 0 0 (bytes "/M"))) reference
 
 two-written : writeSnapshot two
     ≡ 0 ∷ 0 ∷ 0 ∷ 65 ∷ 1 ∷ 0 ∷ 2

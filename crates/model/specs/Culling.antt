@@ -39,7 +39,7 @@ culled x = changed (cond (isCulled x) (x .flags) (x .flags + culledFlag)) (x .pa
 abbrev pub cullOne : List (List ℕ) → ℕ → List Node → List Node
 cullOne children n ns = cond (canCull children ns n) (set ns n (culled (nodeAt ns n))) ns
 
--- "Culling goes children first, skips node 0": from node n down to node 1, since a child's number is higher (proofs/CullingLaws.antt has any
+-- "Culling goes children first, skips node 0": from node n down to node 1, since a child's number is higher (laws/proofs/CullingLaws.antt has any
 -- other sequence that puts children first)
 abbrev pub cullDown : List (List ℕ) → ℕ → List Node → List Node
 cullDown children zero ns = ns
@@ -71,6 +71,6 @@ abbrev pub keepDown : List Node → ℕ → (ℕ → Bool) → ℕ → Bool
 keepDown ns zero kept = kept
 keepDown ns (suc n) kept = keepDown ns n (keepLinks ns (suc n) kept)
 
--- "Erasable: marked and not reached from any unmarked node by parent and origin steps" (proofs/ErasableLaws.antt has that wording)
+-- "Erasable: marked and not reached from any unmarked node by parent and origin steps" (laws/proofs/ErasableLaws.antt has that wording)
 unfoldable pub isErasable : List Node → ℕ → Bool
 isErasable ns n = not (keepDown ns (length ns - 1) (λ x. not (isMarked ns x)) n)

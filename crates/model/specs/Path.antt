@@ -1,7 +1,7 @@
 -- Document 01, "Path": what a path is, its prim count, parent and last name, appending a name, and the path at an introduction depth.
 -- All are defined on any bytes: where the paper speaks of a path, its words are applied to bytes that are none as well. A front part of
 -- a path is given by its length, so `parentLength p k` is how much the parent keeps of the first k bytes of p.
--- The laws are in proofs/PathLaws.antt; proofs/PathGrammar.antt has the grammar that `wellFormed` decides, as the paper words it.
+-- The laws are in laws/proofs/PathLaws.antt; laws/proofs/PathGrammar.antt has the grammar that `wellFormed` decides, as the paper words it.
 use mathlib.Core.Bool.{Bool, true, false, not, _||_, _&&_, cond}
 use mathlib.Core.List.{List, [], _∷_, _++_}
 use Prim.Native.Nat.{ℕ, zero, suc, pred, _+_, min, max}

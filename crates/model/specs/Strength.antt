@@ -1,6 +1,6 @@
 -- Document 01, "Strength": the comparison of two nodes and of two siblings. It reads a graph through a `View`, which has tests on paths
--- and prim counts and not these: so one law tells when two graphs compare alike (proofs/StrengthCongruence.antt). Walks and comparisons are
--- by fuel; proofs/StrengthLaws.antt has the same lines without.
+-- and prim counts and not these: so one law tells when two graphs compare alike (laws/proofs/StrengthCongruence.antt). Walks and comparisons are
+-- by fuel; laws/proofs/StrengthLaws.antt has the same lines without.
 use mathlib.Core.Bool.{Bool, true, false, not, _||_, _&&_, cond}
 use mathlib.Core.List.{List, [], _∷_, _++_}
 use Prim.Native.Nat.{ℕ, zero, suc, _+_}

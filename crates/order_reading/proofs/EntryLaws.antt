@@ -13,7 +13,7 @@ use Rattle.model.specs.Bytes.{stored}
 use Rattle.model.specs.Snapshot.{bigEndian}
 use Rattle.model.specs.Arena.{countIn, orderedIn, orderEntryIn, tabulate, decode}
 use Rattle.model.specs.ArenaCalls.{Opened}
-use Rattle.model.proofs.StoredLaws.{length-stored, stored-next}
+use Rattle.laws.proofs.StoredLaws.{length-stored, stored-next}
 use Rattle.arena.proofs.HeldArenas.{held}
 use Rattle.arena.proofs.TabulateLaws.{tabulate-length, tabulate-at}
 use Rattle.order_reading.specs.Orders.{orderBytes, entriesIn}

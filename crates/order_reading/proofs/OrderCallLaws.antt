@@ -13,7 +13,7 @@ use Rattle.model.specs.ArenaCalls.{isArena, Opened, askArena}
 use Rattle.model.specs.declared.Refusal.{Refusal}
 use Rattle.model.specs.declared.Refusal.the-variants.{Size}
 use Rattle.model.specs.declared.Numbered.the-variants.{Number, Refused}
-use Rattle.model.proofs.ArenaCallLaws.{refusal-some, answered-refused, answered-number, asked-on}
+use Rattle.laws.proofs.ArenaCallLaws.{refusal-some, answered-refused, answered-number, asked-on}
 use Rattle.arena.proofs.ReadNodes.{node-zero}
 use Rattle.order_reading.specs.Orders.{entriesIn, orderBytes, listQuestions, OrderWritten}
 use Rattle.order_reading.proofs.EntryLaws.{order-entries, order-length}

@@ -16,8 +16,8 @@ use Rattle.model.specs.Path.{primCount}
 use Rattle.model.specs.Snapshot.{bigEndian, recordBytes}
 use Rattle.model.specs.Arena.{arenaBytes, slotAt, siteBytes, slotStored, slotsStored, orderStored, headerBytes, rootStored, localRootOf, decode, encode}
 use Rattle.model.specs.ArenaCalls.{Opened}
-use Rattle.model.proofs.BigEndianLaws.{Bytes}
-use Rattle.model.proofs.StoredLaws.{length-stored, part-after-stored, stored-field-same, stored-next, stored-there}
+use Rattle.laws.proofs.BigEndianLaws.{Bytes}
+use Rattle.laws.proofs.StoredLaws.{length-stored, part-after-stored, stored-field-same, stored-next, stored-there}
 use Rattle.arena.specs.Header.{marksStored}
 use Rattle.arena.proofs.Encodable.{Encodable}
 use Rattle.arena.proofs.ArenaParts.{site-short, root-part, site-part}

@@ -12,9 +12,9 @@ use Rattle.model.specs.Order.{sort, walk, isStronger, sortedChildren, ordering}
 use Rattle.model.specs.Strength.{view}
 use Rattle.model.specs.Arena.{countIn, firstOf, afterIn, orderStored, decode, encode}
 use Rattle.model.specs.ArenaCalls.{Opened, Readable}
-use Rattle.model.proofs.BigEndianLaws.{Bytes}
-use Rattle.model.proofs.Trees.{Tree, tree-sorted}
-use Rattle.model.proofs.OrderLaws.{children-ordering}
+use Rattle.laws.proofs.BigEndianLaws.{Bytes}
+use Rattle.laws.proofs.Trees.{Tree, tree-sorted}
+use Rattle.laws.proofs.OrderLaws.{children-ordering}
 use Rattle.arena.specs.Header.{marksStored}
 use Rattle.arena.specs.Slot.{parentIn}
 use Rattle.arena.proofs.Encodable.{Encodable}

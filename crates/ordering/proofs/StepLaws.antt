@@ -14,10 +14,10 @@ use Rattle.model.specs.Arena.{firstOf, afterIn}
 use Rattle.model.specs.Lists.{bit, count, pick}
 use Rattle.model.specs.Node.{invalid}
 use Rattle.model.specs.Order.{concatMap, walkUpTo, walk}
-use Rattle.model.proofs.LengthLaws.{length-once}
-use Rattle.model.proofs.ListLaws.{bit-eq}
-use Rattle.model.proofs.Trees.{Child, Tree, child-once}
-use Rattle.model.proofs.WalkLaws.{walk-fuel, walk-once, walk-only}
+use Rattle.laws.proofs.LengthLaws.{length-once}
+use Rattle.laws.proofs.ListLaws.{bit-eq}
+use Rattle.laws.proofs.Trees.{Child, Tree, child-once}
+use Rattle.laws.proofs.WalkLaws.{walk-fuel, walk-once, walk-only}
 use Rattle.arena.specs.Slot.{parentIn}
 use Rattle.ordering.specs.Ordering.{onward, stepOf, stepAt}
 

@@ -7,7 +7,7 @@ use native.Mathlib.Omega.{arith}
 use lib.ListN.{length, getD}
 use lib.Seq.{ext-getD}
 use Rattle.model.specs.Path.{samePath}
-use Rattle.model.proofs.PathLaws.{same-path-equal, equal-same-path}
+use Rattle.laws.proofs.PathLaws.{same-path-equal, equal-same-path}
 
 module _ (a b : List ℕ) where
   pub differ : (a ≡ b → ⊥) → false ≡ samePath a b

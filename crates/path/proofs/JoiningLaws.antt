@@ -9,7 +9,7 @@ use lib.ListN.{length, length-drop}
 use Rattle.model.specs.declared.Refusal.the-variants.{Size, Path, Capacity}
 use Rattle.model.specs.declared.Appended.the-variants.{Length, Refused}
 use Rattle.model.specs.Path.{wellFormed, nameStart, lastName, endsInName, separator, appendName, appendChildName}
-use Rattle.model.proofs.PathGrammar.{well-formed-length}
+use Rattle.laws.proofs.PathGrammar.{well-formed-length}
 use Rattle.path_join.proofs.JoinLaws.{separator-short}
 
 abbrev pub joinable : List ℕ → List ℕ → Bool

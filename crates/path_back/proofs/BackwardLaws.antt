@@ -9,7 +9,7 @@ use borrow.Author.Tests.{ltb-true, ltb-false, le-leb, lt-leb, eqb-true, eqb-fals
 use lib.Dec.{eqb, ltb}
 use lib.ListN.{getD}
 use Rattle.model.specs.Path.{solidus, openBrace, closeBrace, afterLast, beforeLast, endsIn, nameStart, beforeName, parentLength, withoutSelections, introStep, introLength}
-use Rattle.model.proofs.PathLemmas.{after-last-le}
+use Rattle.laws.proofs.PathLemmas.{after-last-le}
 
 -- ---- The last place of a byte
 

@@ -1,4 +1,4 @@
--- The answers of the calls that hand back a path, a node or the header, beside model/proofs/ArenaCallLaws.antt. Assumes nothing.
+-- The answers of the calls that hand back a path, a node or the header, beside laws/proofs/ArenaCallLaws.antt. Assumes nothing.
 use mathlib.Core.Path.{_≡_, sym, _∙_}
 use mathlib.Core.List.{List, []}
 use Prim.Native.Nat.{ℕ}
@@ -9,7 +9,7 @@ use Rattle.model.specs.Calls.{readsNode}
 use Rattle.model.specs.Arena.{decode}
 use Rattle.model.specs.ArenaCalls.{Opened, askArena}
 use Rattle.model.specs.declared.Refusal.{Refusal}
-use Rattle.model.proofs.ArenaCallLaws.{refusal-some, asked-on}
+use Rattle.laws.proofs.ArenaCallLaws.{refusal-some, asked-on}
 use Rattle.arena.specs.declared.Node.{Node}
 use Rattle.queries.specs.declared.GraphInfo.{GraphInfo}
 use Rattle.queries.specs.declared.GraphRead.the-variants.{Graph as GraphOf, Refused as GraphRefused}

@@ -12,8 +12,8 @@ use Rattle.model.specs.Graph.{Graph, size, hasLocalRoot}
 use Rattle.model.specs.Refusals.{refusalNumber, Question, ask, refusal, pathBytes, recordQuestions}
 use Rattle.model.specs.declared.Refusal.{Refusal}
 use Rattle.model.specs.declared.Refusal.the-variants.{Node as NodeNumber, Path, Kind, Capacity}
-use Rattle.model.proofs.PathLaws.{prim-count-half}
-use Rattle.model.proofs.PathGrammar.{well-formed-length}
+use Rattle.laws.proofs.PathLaws.{prim-count-half}
+use Rattle.laws.proofs.PathGrammar.{well-formed-length}
 use Rattle.path_scan.proofs.ReadingLaws.{counted-well-formed}
 use Rattle.record_check.specs.declared.Checked.the-variants.{Accepted, Refused}
 use Rattle.record_check.specs.RecordCheck.{questionsAt, RecordChecked}

@@ -22,11 +22,11 @@ use Rattle.model.specs.Refusals.{refusalNumber, refusal, mostNodes, mostPathByt
 use Rattle.model.specs.Calls.{Outcome, readIf, readOn, readOr12, readInto}
 use Rattle.model.specs.declared.Refusal.{Refusal}
 use Rattle.model.specs.declared.Finished.the-variants.{Done, Refused as FinishRefused}
-use Rattle.model.proofs.PathLemmas.{length-snoc}
-use Rattle.model.proofs.ListLaws.{any-below-cong}
-use Rattle.model.proofs.SnapshotReadLaws.{built, built-nodes, record-passes}
-use Rattle.model.proofs.LegalAdded.{path-bytes-append}
-use Rattle.model.proofs.ArenaCallLaws.{refusal-some}
+use Rattle.laws.proofs.PathLemmas.{length-snoc}
+use Rattle.laws.proofs.ListLaws.{any-below-cong}
+use Rattle.laws.proofs.SnapshotReadLaws.{built, built-nodes, record-passes}
+use Rattle.laws.proofs.LegalAdded.{path-bytes-append}
+use Rattle.laws.proofs.ArenaCallLaws.{refusal-some}
 use Rattle.record_check.specs.declared.Checked.{Checked}
 use Rattle.record_check.specs.declared.Checked.the-variants.{Accepted, Refused}
 use Rattle.record_check.specs.RecordCheck.{questionsAt, checkedRefusal, checkedPrims, RecordChecked}

@@ -15,7 +15,7 @@ use Rattle.model.specs.Node.{Node}
 use Rattle.model.specs.Snapshot.{value, field, readRecord, fitsRecord, before, readRecords, readSnapshot}
 use Rattle.model.specs.declared.Numbered.the-variants.{Number, Refused}
 use Rattle.model.specs.declared.Refusal.the-variants.{Snapshot}
-use Rattle.model.proofs.SnapshotLaws.{and-first, and-second}
+use Rattle.laws.proofs.SnapshotLaws.{and-first, and-second}
 use Rattle.snapshot.specs.Reading.{fieldAt, lengthAt, countedAs, RecordAt}
 
 -- ---- One field

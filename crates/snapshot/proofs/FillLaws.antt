@@ -14,9 +14,9 @@ use Rattle.model.specs.Snapshot.{field, readRecord}
 use Rattle.model.specs.Refusals.{refusal, recordQuestions}
 use Rattle.model.specs.Calls.{Outcome, readInto}
 use Rattle.model.specs.Arena.{arenaBytes, countIn, headerBytes, decode, encode, holdsGraph}
-use Rattle.model.proofs.BigEndianLaws.{Bytes}
-use Rattle.model.proofs.SnapshotLaws.{NodesFit, read-nodes-fit}
-use Rattle.model.proofs.SnapshotReadLaws.{built, GrowsFrom, Grows, accepted, accepted-read, grown-read}
+use Rattle.laws.proofs.BigEndianLaws.{Bytes}
+use Rattle.laws.proofs.SnapshotLaws.{NodesFit, read-nodes-fit}
+use Rattle.laws.proofs.SnapshotReadLaws.{built, GrowsFrom, Grows, accepted, accepted-read, grown-read}
 use Rattle.arena.specs.declared.Node.{Node}
 use Rattle.arena.specs.Slot.{nodeOf}
 use Rattle.arena.proofs.Encodable.{Encodable, empty-encodable, fit-at}

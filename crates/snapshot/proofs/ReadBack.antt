@@ -12,10 +12,10 @@ use Rattle.model.specs.Snapshot.{writeSnapshot}
 use Rattle.model.specs.Calls.{Outcome, readInto}
 use Rattle.model.specs.Arena.{arenaBytes, decode, encode, holdsGraph}
 use Rattle.model.specs.ArenaCalls.{left}
-use Rattle.model.proofs.BigEndianLaws.{Bytes}
-use Rattle.model.proofs.SnapshotLaws.{NodesFit}
-use Rattle.model.proofs.SnapshotReadLaws.{built, built-nodes, Fresh, Grows, grows-fresh, written-grows-back}
-use Rattle.model.proofs.LegalGrows.{legal-grows, grows-legal}
+use Rattle.laws.proofs.BigEndianLaws.{Bytes}
+use Rattle.laws.proofs.SnapshotLaws.{NodesFit}
+use Rattle.laws.proofs.SnapshotReadLaws.{built, built-nodes, Fresh, Grows, grows-fresh, written-grows-back}
+use Rattle.laws.proofs.LegalGrows.{legal-grows, grows-legal}
 use Rattle.arena.proofs.Encodable.{unordered, Encodable, legal-encodable}
 use Rattle.arena.proofs.ArenaLaws.{decode-encode}
 use Rattle.arena.proofs.ArenaHolds.{holds-encoded}

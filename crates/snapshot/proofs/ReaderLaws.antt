@@ -15,8 +15,8 @@ use Rattle.model.specs.declared.Refusal.{Refusal}
 use Rattle.model.specs.declared.Refusal.the-variants.{Snapshot}
 use Rattle.model.specs.declared.Numbered.the-variants.{Number, Refused}
 use Rattle.model.specs.declared.Finished.the-variants.{Refused as FinishRefused}
-use Rattle.model.proofs.SnapshotReadLaws.{built-nodes, refused-read-keeps}
-use Rattle.model.proofs.ArenaCallLaws.{refusal-some, wrote-refused, wrote-number}
+use Rattle.laws.proofs.SnapshotReadLaws.{built-nodes, refused-read-keeps}
+use Rattle.laws.proofs.ArenaCallLaws.{refusal-some, wrote-refused, wrote-number}
 use Rattle.snapshot.specs.Reading.{countedAs, nodesOr, nodesRead, Exact, RecordsChecked}
 use Rattle.snapshot.proofs.FillLaws.{graph-read}
 

@@ -13,9 +13,9 @@ use Rattle.model.specs.Graph.{Graph, size, nodeAt}
 use Rattle.model.specs.Refusals.{pathBytes}
 use Rattle.model.specs.Snapshot.{bigEndian, recordBody, recordBytes, recordsBytes, snapshotBody, writeSnapshot}
 use Rattle.model.specs.Arena.{slotAt, countIn, recordLengthIn, decode}
-use Rattle.model.proofs.BigEndianLaws.{Bytes}
-use Rattle.model.proofs.StoredLaws.{length-stored, stored-apart, stored-next}
-use Rattle.model.proofs.SnapshotLaws.{record-length, field-written}
+use Rattle.laws.proofs.BigEndianLaws.{Bytes}
+use Rattle.laws.proofs.StoredLaws.{length-stored, stored-apart, stored-next}
+use Rattle.laws.proofs.SnapshotLaws.{record-length, field-written}
 use Rattle.arena.specs.Slot.{HasPath}
 use Rattle.arena.proofs.HeldArenas.{held}
 use Rattle.arena.proofs.ArenaBack.{size-decode, body-written}

@@ -13,7 +13,7 @@ use Rattle.model.specs.ArenaCalls.{intoArena, Wrote}
 use Rattle.model.specs.declared.Refusal.the-variants.{Size, NotAGraph}
 use Rattle.model.specs.declared.Numbered.{Numbered}
 use Rattle.model.specs.declared.Numbered.the-variants.{Number, Refused}
-use Rattle.model.proofs.ArenaCallLaws.{answered-refused, answered-number, wrote-refused}
+use Rattle.laws.proofs.ArenaCallLaws.{answered-refused, answered-number, wrote-refused}
 use Rattle.snapshots.specs.Snapshots.{writeQuestions, SnapshotWritten}
 
 module _ (o : Outcome) (bs : List ℕ) where

@@ -9,7 +9,7 @@ use borrow.Author.Tests.{eq-eqb, ne-eqb, eqb-true}
 use Rattle.model.specs.declared.Ordering.{Ordering}
 use Rattle.model.specs.declared.Ordering.the-variants.{Less, Equal, Greater}
 use Rattle.model.specs.Strength.{View, smaller, isAuthored, originRootNode, originsAreNested, sameOriginLines, sameRootLines, originLines, depthLine, specializesLines}
-use Rattle.model.proofs.StrengthWalks.{origin-root-le, origin-root-lower}
+use Rattle.laws.proofs.StrengthWalks.{origin-root-le, origin-root-lower}
 use Rattle.view.specs.View.{viewIn, Standing}
 use Rattle.view.proofs.ViewLaws.{legal, standing-lower}
 use Rattle.walks.specs.declared.OriginRoot.{OriginRoot}

@@ -6,7 +6,7 @@ use native.Mathlib.Omega.{arith}
 use Rattle.model.specs.declared.Ordering.{Ordering}
 use Rattle.model.specs.declared.Ordering.the-variants.{Less, Equal, Greater}
 use Rattle.model.specs.Strength.{View, first, smaller, compareSiblingNodeStrength, compareNodeStrength, siblingLines}
-use Rattle.model.proofs.StrengthLaws.{compare-siblings-lines, compare-same}
+use Rattle.laws.proofs.StrengthLaws.{compare-siblings-lines, compare-same}
 use Rattle.view.specs.View.{viewIn, Standing}
 use Rattle.view.proofs.ViewLaws.{legal, standing-lower}
 use Rattle.walks.specs.declared.parting.Parting.{Parting}

@@ -14,8 +14,8 @@ use lib.Seq.{getD-set-same, getD-set-other}
 use borrow.Author.Tests.{eqb-true, eqb-false, eq-eqb, ne-eqb}
 use Rattle.model.specs.Lists.{All, bit, count, allBelow}
 use Rattle.model.specs.Arena.{countIn, orderedIn, orderEntryIn}
-use Rattle.model.proofs.ListLaws.{bit-eq, count-append, all-at, all-append, all-below, all-below-fails}
-use Rattle.model.proofs.LengthLaws.{length-at-most-once, once-nothing-else}
+use Rattle.laws.proofs.ListLaws.{bit-eq, count-append, all-at, all-append, all-below, all-below-fails}
+use Rattle.laws.proofs.LengthLaws.{length-at-most-once, once-nothing-else}
 use Rattle.arena.proofs.TabulateLaws.{tabulate-length}
 use Rattle.validate.specs.Validate.{entriesIn, enteredOnce, entriesRight, orderRight}
 use Rattle.validate.proofs.GrownLaws.{tabulate-more}

@@ -15,7 +15,7 @@ use Rattle.model.specs.Node.{Node, noNode}
 use Rattle.model.specs.Graph.{Graph, emptyGraph, size, nodeAt, withNode, isLocalRoot, hasLocalRoot}
 use Rattle.model.specs.Refusals.{refusal, pathBytes, recordQuestions}
 use Rattle.model.specs.Arena.{arenaBytes, recordLengthIn, nodeIn, tabulate, localRootBelow, recordsAccepted}
-use Rattle.model.proofs.LegalAdded.{path-bytes-append}
+use Rattle.laws.proofs.LegalAdded.{path-bytes-append}
 use Rattle.arena.specs.Slot.{HasPath, arcIn}
 use Rattle.arena.proofs.TabulateLaws.{tabulate-length, tabulate-at}
 use Rattle.arena.proofs.ReadNodes.{root-found}

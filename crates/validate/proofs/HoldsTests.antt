@@ -9,8 +9,8 @@ use lib.ListN.{length}
 use borrow.Author.Tests.{eq-eqb, eqb-false, leb-true, le-leb, lt-leb}
 use Rattle.model.specs.Lists.{allBelow}
 use Rattle.model.specs.Arena.{arenaBytes, countIn, orderedIn, chainRight, inChainOnce, inOrderOnce, marksRight, nodeRight, holdsGraph}
-use Rattle.model.proofs.ListLaws.{all-below}
-use Rattle.model.proofs.SnapshotLaws.{and-first, and-second}
+use Rattle.laws.proofs.ListLaws.{all-below}
+use Rattle.laws.proofs.SnapshotLaws.{and-first, and-second}
 use Rattle.child_lists.specs.ChildLists.{listedRight, childListsRight}
 use Rattle.validate.specs.Validate.{enteredOnce, entriesRight, orderRight, recordsRight}
 use Rattle.validate.proofs.RecordsLaws.{RecordsHeld, records-held}

@@ -13,8 +13,8 @@ use Rattle.model.specs.Refusals.{refusalNumber, Question, refusal, mostNodes, m
 use Rattle.model.specs.declared.Refusal.{Refusal}
 use Rattle.model.specs.declared.Refusal.the-variants.{Size, NotAGraph, NodeZero, Node as NodeNumber, Path, Kind, Capacity, NotSiblings, NoOrder, NotOrdered, EraseSet, Snapshot}
 use Rattle.model.specs.Arena.{shallowIn, primCountIn, recordLengthIn, nodeIn}
-use Rattle.model.proofs.SnapshotLaws.{and-first, and-second}
-use Rattle.model.proofs.AcceptedQuestions.{Accepted as AllPass, none-refused-accepted}
+use Rattle.laws.proofs.SnapshotLaws.{and-first, and-second}
+use Rattle.laws.proofs.AcceptedQuestions.{Accepted as AllPass, none-refused-accepted}
 use Rattle.arena.specs.Slot.{arcIn, flagsIn, parentIn, originIn, depthIn, hasSpecsIn}
 use Rattle.record_check.specs.RecordCheck.{rootAt, questionsAt, RecordChecked}
 use Rattle.record_check.specs.declared.Checked.the-variants.{Accepted, Refused}

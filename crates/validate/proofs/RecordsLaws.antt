@@ -16,8 +16,8 @@ use Rattle.model.specs.Node.{Node, noNode}
 use Rattle.model.specs.Graph.{emptyGraph, nodeAt}
 use Rattle.model.specs.Refusals.{refusal, mostPathBytes}
 use Rattle.model.specs.Arena.{arenaBytes, countIn, shallowIn, localRootIn, primCountIn, recordLengthIn, nodeIn, nodesIn, localRootBelow, localRootOf, recordsAccepted, recordFits, shallowMarked}
-use Rattle.model.proofs.ListLaws.{all-below, all-below-fails}
-use Rattle.model.proofs.SnapshotLaws.{and-first, and-second}
+use Rattle.laws.proofs.ListLaws.{all-below, all-below-fails}
+use Rattle.laws.proofs.SnapshotLaws.{and-first, and-second}
 use Rattle.arena.specs.Slot.{arcIn, parentIn, depthIn}
 use Rattle.arena.proofs.TabulateLaws.{tabulate-length, tabulate-at}
 use Rattle.arena.proofs.SlotLaws.{same-fields, path-length}

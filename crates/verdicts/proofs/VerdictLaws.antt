@@ -7,7 +7,7 @@ use Rattle.model.specs.declared.Ordering.{Ordering}
 use Rattle.model.specs.Arena.{countIn}
 use Rattle.model.specs.ArenaCalls.{Readable}
 use Rattle.model.specs.Strength.{smaller}
-use Rattle.model.proofs.Views.{LegalView}
+use Rattle.laws.proofs.Views.{LegalView}
 use Rattle.view.specs.View.{viewIn}
 use Rattle.view.proofs.ViewLaws.{legal, readable-origin}
 use Rattle.verdicts.specs.declared.Verdict.the-variants.{Ask}

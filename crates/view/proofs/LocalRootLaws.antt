@@ -14,7 +14,7 @@ use Rattle.model.specs.Graph.{nodeAt, isLocalRoot, inLocalStack}
 use Rattle.model.specs.Strength.{isPropagatedSpecializes}
 use Rattle.model.specs.Arena.{countIn, localRootBelow, decode}
 use Rattle.model.specs.ArenaCalls.{Readable}
-use Rattle.model.proofs.ListLaws.{any-below, any-below-fails}
+use Rattle.laws.proofs.ListLaws.{any-below, any-below-fails}
 use Rattle.arena.proofs.HeldArenas.{held}
 use Rattle.arena.proofs.ArenaBack.{size-decode, fresh-legal, fresh-nodes}
 use Rattle.arena.proofs.ReadNodes.{sizes, root-found, root-held}

@@ -11,7 +11,7 @@ use Rattle.model.specs.Node.{rootArc, Node}
 use Rattle.model.specs.Graph.{nodeAt, depthBelowIntroduction}
 use Rattle.model.specs.Arena.{countIn, primCountIn, nodeIn, decode}
 use Rattle.model.specs.ArenaCalls.{Opened, Readable}
-use Rattle.model.proofs.Views.{LegalView}
+use Rattle.laws.proofs.Views.{LegalView}
 use Rattle.arena.specs.Slot.{arcIn, flagsIn, stackIn, parentIn, originIn, depthIn, siblingIn}
 use Rattle.arena.proofs.HeldArenas.{held}
 use Rattle.arena.proofs.ArenaBack.{size-decode, fresh-legal, fresh-nodes}

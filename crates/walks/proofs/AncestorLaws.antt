@@ -9,8 +9,8 @@ use lib.Dec.{eqb, ltb}
 use borrow.Author.Tests.{eq-eqb, ne-eqb, lt-ltb, eqb-true}
 use Rattle.model.specs.Strength.{View}
 use Rattle.model.specs.Hierarchy.{isAncestorOf}
-use Rattle.model.proofs.Views.{LegalView}
-use Rattle.model.proofs.FollowLaws.{follow-step, follow-stop}
+use Rattle.laws.proofs.Views.{LegalView}
+use Rattle.laws.proofs.FollowLaws.{follow-step, follow-stop}
 use Rattle.view.specs.View.{viewIn, Standing}
 use Rattle.view.proofs.ViewLaws.{legal, standing-lower}
 use Rattle.view.proofs.LocalRootLaws.{local-root-read}

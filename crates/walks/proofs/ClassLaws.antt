@@ -13,8 +13,8 @@ use Rattle.model.specs.Arena.{countIn, decode, holdsGraph}
 use Rattle.model.specs.ArenaCalls.{Readable}
 use Rattle.model.specs.Strength.{View, view, follow, isClassBasedArc, replaced, startingNodeOfClassHierarchy}
 use Rattle.model.specs.Hierarchy.{laterOr, leftUpTo, topmostClassNode}
-use Rattle.model.proofs.FollowLaws.{left-step, left-stop}
-use Rattle.model.proofs.StrengthWalks.{leavesClass, classUp, replaced-le, class-up-lower, class-stop, class-step}
+use Rattle.laws.proofs.FollowLaws.{left-step, left-stop}
+use Rattle.laws.proofs.StrengthWalks.{leavesClass, classUp, replaced-le, class-up-lower, class-stop, class-step}
 use Rattle.view.specs.View.{viewIn, Standing}
 use Rattle.view.proofs.ViewLaws.{legal, standing-lower}
 use Rattle.walks.specs.Walks.{HierarchyOf}

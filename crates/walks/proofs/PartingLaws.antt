@@ -7,9 +7,9 @@ use Prim.Native.Nat.{ℕ, _≤_, _<_}
 use native.Mathlib.Omega.{arith}
 use Rattle.model.specs.ArenaCalls.{Readable}
 use Rattle.model.specs.Strength.{View, chain}
-use Rattle.model.proofs.Views.{LegalView}
-use Rattle.model.proofs.FollowLaws.{chain-step}
-use Rattle.model.proofs.StrengthLaws.{compare-same, compare-ancestor, compare-descendant, compare-parted}
+use Rattle.laws.proofs.Views.{LegalView}
+use Rattle.laws.proofs.FollowLaws.{chain-step}
+use Rattle.laws.proofs.StrengthLaws.{compare-same, compare-ancestor, compare-descendant, compare-parted}
 use Rattle.view.specs.View.{viewIn}
 use Rattle.view.proofs.ViewLaws.{legal, readable-lower}
 use Rattle.walks.specs.declared.parting.Parting.the-variants.{Same, Above, Below, Apart}

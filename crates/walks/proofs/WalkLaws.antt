@@ -9,7 +9,7 @@ use borrow.Author.Tests.{eq-eqb, ne-eqb}
 use Rattle.model.specs.Node.{relocateArc}
 use Rattle.model.specs.ArenaCalls.{Readable}
 use Rattle.model.specs.Strength.{originRootNode, originHops, outward, isNestedUnder, skipRelocates}
-use Rattle.model.proofs.StrengthWalks.{origin-root-zero, origin-root-authored, origin-root-step, origin-hops-zero, origin-hops-authored, origin-hops-step, outward-lower, nested-self, nested-zero, nested-step, skip-zero, skip-stop, skip-step}
+use Rattle.laws.proofs.StrengthWalks.{origin-root-zero, origin-root-authored, origin-root-step, origin-hops-zero, origin-hops-authored, origin-hops-step, outward-lower, nested-self, nested-zero, nested-step, skip-zero, skip-stop, skip-step}
 use Rattle.view.specs.View.{viewIn, Standing}
 use Rattle.view.proofs.ViewLaws.{legal, readable-lower, standing-lower}
 use Rattle.walks.specs.Walks.{RootOf}

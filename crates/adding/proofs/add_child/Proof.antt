@@ -13,7 +13,7 @@ use Rattle.arena.specs.declared.Node.{Node}
 use Rattle.arena.specs.Slot.{nodeOf}
 use Rattle.model.specs.Arena.{arenaBytes, countIn, decode, encode}
 use Rattle.model.specs.ArenaCalls.{Opened}
-use Rattle.model.proofs.ArenaCallLaws.{wrote-not-arena, wrote-not-graph}
+use Rattle.laws.proofs.ArenaCallLaws.{wrote-not-arena, wrote-not-graph}
 use Rattle.arena.proofs.ReadNodes.{has-slot}
 use Rattle.describing.specs.Describing.{descOf, addQuestions}
 use Rattle.adding.proofs.AddingLaws.{parent-below, can-add, short-path, added-node, add-to-none, add-refused, add-done}

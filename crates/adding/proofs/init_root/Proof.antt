@@ -12,10 +12,10 @@ use Rattle.arena.specs.declared.Node.{Node}
 use Rattle.arena.specs.Slot.{nodeOf}
 use Rattle.model.specs.Arena.{arenaBytes, countIn, decode, encode}
 use Rattle.model.specs.ArenaCalls.{Opened}
-use Rattle.model.proofs.ArenaCallLaws.{wrote-not-arena, wrote-not-graph}
+use Rattle.laws.proofs.ArenaCallLaws.{wrote-not-arena, wrote-not-graph}
 use Rattle.path_scan.proofs.ReadingLaws.{counted-well-formed, uncounted-malformed}
 use Rattle.record_check.proofs.RecordCheckLaws.{counted-names, few-names}
-use Rattle.model.proofs.PathGrammar.{well-formed-length}
+use Rattle.laws.proofs.PathGrammar.{well-formed-length}
 use Rattle.adding.proofs.AddingLaws.{start-over, start-malformed, start-done, can-start, start-node}
 use Rattle.adding.proofs.init_root.Statement.{statement}
 use Rattle.adding.proofs.init_root.Tie as tie

@@ -7,8 +7,8 @@ use Prim.Native.Nat.{ℕ}
 use borrow.Author.Needs.{needs}
 use native.Mathlib.Omega.{arith}
 use Rattle.model.specs.Node.{invalid}
-use Rattle.model.proofs.BigEndianLaws.{Bytes}
-use Rattle.model.proofs.StoredLaws.{bytes-by-place}
+use Rattle.laws.proofs.BigEndianLaws.{Bytes}
+use Rattle.laws.proofs.StoredLaws.{bytes-by-place}
 use Rattle.arena.specs.Slot.{nodeOf, recordStored}
 use Rattle.append.specs.Append.{CanLink, shallowWith, headerStored, threeLinks, childLinked}
 use Rattle.append.proofs.AppendEncodable.{NumbersFit}

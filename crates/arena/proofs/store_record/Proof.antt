@@ -8,7 +8,7 @@ use lib.ListN.{length}
 use Rattle.model.specs.Arena.{slotAt}
 use Rattle.model.specs.Bytes.{stored}
 use Rattle.model.specs.Snapshot.{bigEndian, recordBody}
-use Rattle.model.proofs.SnapshotLaws.{record-length}
+use Rattle.laws.proofs.SnapshotLaws.{record-length}
 use Rattle.arena.specs.Slot.{nodeOf, headBytes, fourNumbers}
 use Rattle.arena.proofs.StoreLaws.{run-stored}
 use Rattle.arena.proofs.store_record.Statement.{statement}

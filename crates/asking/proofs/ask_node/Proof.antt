@@ -8,7 +8,7 @@ use Rattle.model.specs.Arena.{countIn, decode}
 use Rattle.model.specs.Calls.{readsNode}
 use Rattle.model.specs.Refusals.{ask, refusal}
 use Rattle.model.specs.ArenaCalls.{Opened}
-use Rattle.model.proofs.ArenaCallLaws.{asked-on, count-number, count-refused}
+use Rattle.laws.proofs.ArenaCallLaws.{asked-on, count-number, count-refused}
 use Rattle.arena.proofs.ReadNodes.{sizes}
 use Rattle.asking.proofs.ask_node.Statement.{statement}
 use Rattle.asking.proofs.ask_node.Tie as tie

@@ -5,7 +5,7 @@ use lib.ListN.{length}
 use Rattle.model.specs.Arena.{arenaBytes}
 use borrow.Author.Tests.{eq-eqb, ne-eqb, not-true, not-false}
 use Rattle.model.specs.declared.Refusal.the-variants.{Size, NotAGraph}
-use Rattle.model.proofs.ArenaCallLaws.{answered-refused, answered-number, not-arena, not-graph}
+use Rattle.laws.proofs.ArenaCallLaws.{answered-refused, answered-number, not-arena, not-graph}
 use Rattle.asking.proofs.count.Statement.{statement}
 use Rattle.asking.proofs.count.Tie as tie
 

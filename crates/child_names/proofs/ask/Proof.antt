@@ -4,7 +4,7 @@ use mathlib.Core.Path.{_≡_, sym, _∙_}
 use Rattle.model.specs.Arena.{countIn, decode}
 use Rattle.model.specs.ArenaCalls.{Opened}
 use Rattle.model.specs.Calls.{deepenQuestions}
-use Rattle.model.proofs.ArenaCallLaws.{asked-on, count-number, count-refused}
+use Rattle.laws.proofs.ArenaCallLaws.{asked-on, count-number, count-refused}
 use Rattle.child_names.proofs.ask.Statement.{statement}
 use Rattle.child_names.proofs.ask.Tie as tie
 

@@ -3,7 +3,7 @@ use borrow.Author.Needs.{needs}
 use mathlib.Core.Path.{sym, ap}
 use Rattle.model.specs.Answers.{orderingNumber}
 use Rattle.model.specs.ArenaCalls.{Readable}
-use Rattle.model.proofs.ArenaCallLaws.{answered-refused, answered-number}
+use Rattle.laws.proofs.ArenaCallLaws.{answered-refused, answered-number}
 use Rattle.asking.proofs.AskingLaws.{both-readable}
 use Rattle.comparing.proofs.compare_node_strength.Statement.{statement}
 use Rattle.comparing.proofs.compare_node_strength.Tie as tie

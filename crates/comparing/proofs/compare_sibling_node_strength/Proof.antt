@@ -2,7 +2,7 @@
 use borrow.Author.Needs.{needs}
 use mathlib.Core.Path.{sym, ap}
 use Rattle.model.specs.Answers.{orderingNumber}
-use Rattle.model.proofs.ArenaCallLaws.{answered-refused, answered-number}
+use Rattle.laws.proofs.ArenaCallLaws.{answered-refused, answered-number}
 use Rattle.comparing.proofs.SiblingLaws.{siblings-known}
 use Rattle.comparing.proofs.compare_sibling_node_strength.Statement.{statement}
 use Rattle.comparing.proofs.compare_sibling_node_strength.Tie as tie

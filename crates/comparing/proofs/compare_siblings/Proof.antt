@@ -2,7 +2,7 @@
 use mathlib.Core.Path.{sym, ap, _∙_}
 use Rattle.model.specs.Strength.{view, compareSiblingNodeStrength}
 use Rattle.model.specs.Arena.{decode}
-use Rattle.model.proofs.StrengthFlips.{siblings-same}
+use Rattle.laws.proofs.StrengthFlips.{siblings-same}
 use Rattle.comparing.proofs.SiblingLaws.{one-parent, left-above, right-above}
 use Rattle.comparing.proofs.compare_siblings.Statement.{statement}
 use Rattle.comparing.proofs.compare_siblings.Tie as tie

@@ -2,8 +2,8 @@
 use mathlib.Core.Path.{sym, _∙_}
 use borrow.Author.Needs.{needs}
 use native.Mathlib.Omega.{arith}
-use Rattle.model.proofs.BigEndianLaws.{Bytes}
-use Rattle.model.proofs.StoredLaws.{bytes-by-place}
+use Rattle.laws.proofs.BigEndianLaws.{Bytes}
+use Rattle.laws.proofs.StoredLaws.{bytes-by-place}
 use Rattle.culling.proofs.FlagStores.{encode-empty, encode-unrooted}
 use Rattle.culling.proofs.cull.Statement.{statement}
 use Rattle.culling.proofs.cull.Tie as tie

@@ -5,8 +5,8 @@ use Prim.Native.Nat.{ℕ}
 use borrow.Author.Needs.{needs}
 use lib.Dec.{eqb}
 use Rattle.model.specs.Arena.{countIn}
-use Rattle.model.proofs.BigEndianLaws.{Bytes}
-use Rattle.model.proofs.StoredLaws.{bytes-by-place}
+use Rattle.laws.proofs.BigEndianLaws.{Bytes}
+use Rattle.laws.proofs.StoredLaws.{bytes-by-place}
 use Rattle.arena.specs.Header.{marksStored}
 use Rattle.deepening.specs.Deepened.{AllJoin, sitesDeepened}
 use Rattle.deepening.proofs.EncodeDeepened.{marked, marked-join, encode-deepened}

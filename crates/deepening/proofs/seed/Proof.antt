@@ -4,8 +4,8 @@ use Prim.Native.Nat.{ℕ}
 use native.Mathlib.Omega.{arith}
 use borrow.Author.Needs.{needs}
 use Rattle.model.specs.Arena.{orderEntryIn, tabulate, orderStored}
-use Rattle.model.proofs.BigEndianLaws.{Bytes}
-use Rattle.model.proofs.StoredLaws.{bytes-by-place}
+use Rattle.laws.proofs.BigEndianLaws.{Bytes}
+use Rattle.laws.proofs.StoredLaws.{bytes-by-place}
 use Rattle.deepening.specs.Deepened.{AllJoin, headerSeeded, slotsSeeded}
 use Rattle.deepening.proofs.EncodeDeepened.{few, all-join}
 use Rattle.deepening.proofs.EncodeSeeded.{seeded, encode-seeded, encode-seeded-unordered}

@@ -8,7 +8,7 @@ use Rattle.model.specs.Arena.{countIn, decode}
 use Rattle.model.specs.ArenaCalls.{Opened}
 use Rattle.model.specs.Erasing.{stays, newNumber}
 use Rattle.model.specs.Graph.{childrenOf}
-use Rattle.model.proofs.EraseLists.{new-number-no-larger}
+use Rattle.laws.proofs.EraseLists.{new-number-no-larger}
 use Rattle.arena.proofs.HeldArenas.{held}
 use Rattle.erase_lists.specs.EraseLists.{Numbers}
 use Rattle.erase_lists.proofs.FlatLaws.{Listing, listing-start, listing-room, listing-ended, listing-kept, listing-gone, listing-ends}

@@ -6,8 +6,8 @@ use borrow.Author.Needs.{needs}
 use Rattle.model.specs.Graph.{childrenOf}
 use Rattle.model.specs.Arena.{decode}
 use Rattle.model.specs.Erasing.{erase}
-use Rattle.model.proofs.BigEndianLaws.{Bytes}
-use Rattle.model.proofs.StoredLaws.{bytes-by-place}
+use Rattle.laws.proofs.BigEndianLaws.{Bytes}
+use Rattle.laws.proofs.StoredLaws.{bytes-by-place}
 use Rattle.links.specs.Links.{Segments, Parted}
 use Rattle.erase_nodes.proofs.ErasedLaws.{size-kept, few, parted}
 use Rattle.erase_nodes.proofs.find_links.Statement.{statement}

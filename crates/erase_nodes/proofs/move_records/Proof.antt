@@ -5,8 +5,8 @@ use Prim.Native.Nat.{_-_}
 use native.Mathlib.Omega.{arith}
 use borrow.Author.Needs.{needs}
 use lib.ListN.{length}
-use Rattle.model.proofs.BigEndianLaws.{Bytes}
-use Rattle.model.proofs.StoredLaws.{bytes-by-place}
+use Rattle.laws.proofs.BigEndianLaws.{Bytes}
+use Rattle.laws.proofs.StoredLaws.{bytes-by-place}
 use Rattle.erase_nodes.proofs.ErasedLaws.{few-nodes}
 use Rattle.erase_nodes.proofs.MoveLaws.{Moving, moving-path, moving-slot, moving-kept, moving-gone, moving-end}
 use Rattle.erase_nodes.proofs.move_records.Statement.{statement}

@@ -2,8 +2,8 @@
 use mathlib.Core.Path.{refl, ap, _∙_}
 use native.Mathlib.Omega.{arith}
 use borrow.Author.Needs.{needs}
-use Rattle.model.proofs.BigEndianLaws.{Bytes}
-use Rattle.model.proofs.StoredLaws.{bytes-by-place}
+use Rattle.laws.proofs.BigEndianLaws.{Bytes}
+use Rattle.laws.proofs.StoredLaws.{bytes-by-place}
 use Rattle.erase_nodes.specs.EraseNodes.{newLinkIn}
 use Rattle.erase_nodes.proofs.ErasedLaws.{few-nodes, size-kept, few}
 use Rattle.erase_nodes.proofs.EncodeErased.{erased-encoded}

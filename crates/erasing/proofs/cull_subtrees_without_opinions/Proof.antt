@@ -1,7 +1,7 @@
 -- `cull_subtrees_without_opinions` meets its contract: where the arena holds a graph, question 3 is left. Assumes nothing.
 use borrow.Author.Needs.{needs}
 use Rattle.model.specs.Arena.{countIn, decode}
-use Rattle.model.proofs.ArenaCallLaws.{count-number, count-refused}
+use Rattle.laws.proofs.ArenaCallLaws.{count-number, count-refused}
 use Rattle.erasing.proofs.EraseCallLaws.{needsNode, cull-refused}
 use Rattle.erasing.proofs.cull_subtrees_without_opinions.Statement.{statement}
 use Rattle.erasing.proofs.cull_subtrees_without_opinions.Tie as tie

@@ -2,7 +2,7 @@
 use borrow.Author.Needs.{needs}
 use mathlib.Core.Path.{sym, _∙_}
 use Rattle.model.specs.Arena.{countIn, decode}
-use Rattle.model.proofs.ArenaCallLaws.{count-number, count-refused}
+use Rattle.laws.proofs.ArenaCallLaws.{count-number, count-refused}
 use Rattle.erasing.proofs.EraseCallLaws.{needsNode, whole-set, set-refused, set-not-whole}
 use Rattle.erasing.proofs.erasable.Statement.{statement}
 use Rattle.erasing.proofs.erasable.Tie as tie

@@ -2,7 +2,7 @@
 use borrow.Author.Needs.{needs}
 use mathlib.Core.Path.{sym, _∙_}
 use Rattle.model.specs.Arena.{countIn, decode}
-use Rattle.model.proofs.ArenaCallLaws.{count-number, count-refused}
+use Rattle.laws.proofs.ArenaCallLaws.{count-number, count-refused}
 use Rattle.erasing.proofs.EraseCallLaws.{whole-set, eraseQuestions, erase-refused, erase-not-whole}
 use Rattle.erasing.proofs.erase.Statement.{statement}
 use Rattle.erasing.proofs.erase.Tie as tie

@@ -6,8 +6,8 @@ use native.Mathlib.Omega.{arith}
 use borrow.Author.Tests.{not-true, not-false}
 use Rattle.model.specs.Arena.{countIn, finalizedIn, decode}
 use Rattle.model.specs.declared.Refusal.the-variants.{NodeZero}
-use Rattle.model.proofs.StoredLaws.{bytes-by-place}
-use Rattle.model.proofs.ArenaCallLaws.{asked-on}
+use Rattle.laws.proofs.StoredLaws.{bytes-by-place}
+use Rattle.laws.proofs.ArenaCallLaws.{asked-on}
 use Rattle.arena.proofs.ReadNodes.{no-node}
 use Rattle.finalizing.proofs.FinalizeLaws.{finalizeQuestions, finalize-refused, finalize-again, no-order, finalize-done}
 use Rattle.finalizing.proofs.finalize_asked.Statement.{statement}

@@ -1,7 +1,7 @@
 -- `finalize_strength_order` meets its contract: where the arena holds a graph, questions 3 and 9 are left. Assumes nothing.
 use borrow.Author.Needs.{needs}
 use Rattle.model.specs.Arena.{countIn, decode}
-use Rattle.model.proofs.ArenaCallLaws.{count-number, count-refused}
+use Rattle.laws.proofs.ArenaCallLaws.{count-number, count-refused}
 use Rattle.finalizing.proofs.FinalizeLaws.{finalizeQuestions, finalize-refused}
 use Rattle.finalizing.proofs.finalize_strength_order.Statement.{statement}
 use Rattle.finalizing.proofs.finalize_strength_order.Tie as tie

@@ -2,7 +2,7 @@
 use borrow.Author.Needs.{needs}
 use mathlib.Core.Path.{sym}
 use Rattle.model.specs.ArenaCalls.{Readable}
-use Rattle.model.proofs.ArenaCallLaws.{answered-refused, answered-number}
+use Rattle.laws.proofs.ArenaCallLaws.{answered-refused, answered-number}
 use Rattle.arena.proofs.ReadNodes.{readable}
 use Rattle.hierarchies.proofs.get_propagated_specializes_node.Statement.{statement}
 use Rattle.hierarchies.proofs.get_propagated_specializes_node.Tie as tie

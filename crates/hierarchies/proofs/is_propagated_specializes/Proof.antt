@@ -3,7 +3,7 @@ use borrow.Author.Needs.{needs}
 use mathlib.Core.Path.{sym, ap}
 use Rattle.model.specs.Lists.{bit}
 use Rattle.model.specs.ArenaCalls.{Readable}
-use Rattle.model.proofs.ArenaCallLaws.{answered-refused, answered-number}
+use Rattle.laws.proofs.ArenaCallLaws.{answered-refused, answered-number}
 use Rattle.arena.proofs.ReadNodes.{readable}
 use Rattle.hierarchies.proofs.is_propagated_specializes.Statement.{statement}
 use Rattle.hierarchies.proofs.is_propagated_specializes.Tie as tie

@@ -9,7 +9,7 @@ use borrow.Author.Tests.{lt-ltb, le-ltb, not-true, not-false}
 use Rattle.model.specs.Graph.{size}
 use Rattle.model.specs.Arena.{countIn, decode}
 use Rattle.model.specs.declared.Refusal.the-variants.{NodeZero, Node as NodeNumber, NotOrdered}
-use Rattle.model.proofs.ArenaCallLaws.{answered-refused, answered-number}
+use Rattle.laws.proofs.ArenaCallLaws.{answered-refused, answered-number}
 use Rattle.arena.proofs.ReadNodes.{sizes, node-zero, no-node, has-slot}
 use Rattle.order_reading.proofs.EntryLaws.{entry-read}
 use Rattle.order_reading.proofs.entry_asked.Statement.{statement}

@@ -4,7 +4,7 @@ use mathlib.Core.Path.{_≡_}
 use Rattle.model.specs.Arena.{countIn, decode}
 use Rattle.model.specs.ArenaCalls.{Opened}
 use Rattle.model.specs.Calls.{readsEntry}
-use Rattle.model.proofs.ArenaCallLaws.{answered-refused, answered-more, count-number, count-refused}
+use Rattle.laws.proofs.ArenaCallLaws.{answered-refused, answered-more, count-number, count-refused}
 use Rattle.order_reading.proofs.order_entry.Statement.{statement}
 use Rattle.order_reading.proofs.order_entry.Tie as tie
 

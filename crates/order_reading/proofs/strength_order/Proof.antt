@@ -3,7 +3,7 @@ use borrow.Author.Needs.{needs}
 use mathlib.Core.Path.{sym, _∙_}
 use Rattle.model.specs.Arena.{countIn, decode}
 use Rattle.model.specs.Calls.{readsOrder}
-use Rattle.model.proofs.ArenaCallLaws.{count-number, count-refused}
+use Rattle.laws.proofs.ArenaCallLaws.{count-number, count-refused}
 use Rattle.order_reading.proofs.OrderCallLaws.{list-refused, list-not-buffer, list-asks}
 use Rattle.order_reading.proofs.strength_order.Statement.{statement}
 use Rattle.order_reading.proofs.strength_order.Tie as tie

@@ -1,7 +1,7 @@
 -- `write_order` meets its contract: links, walk and stores are those of `ordering-written`. Assumes nothing.
 use mathlib.Core.Path.{refl, _∙_}
 use borrow.Author.Needs.{needs}
-use Rattle.model.proofs.StoredLaws.{bytes-by-place}
+use Rattle.laws.proofs.StoredLaws.{bytes-by-place}
 use Rattle.ordering.proofs.OrderingLaws.{Ready, few, parted, walkable, ordering-written}
 use Rattle.ordering.proofs.write_order.Statement.{statement}
 use Rattle.ordering.proofs.write_order.Tie as tie

@@ -7,7 +7,7 @@ use mathlib.Core.Path.{_≡_, refl, _∙_, sym, ap}
 use mathlib.Core.Bool.{false}
 use Prim.Native.Nat.{_≤_, _-_}
 use Rattle.model.specs.Path.{withoutSelections, closeBrace}
-use Rattle.model.proofs.PathLemmas.{without-selections-none}
+use Rattle.laws.proofs.PathLemmas.{without-selections-none}
 use Rattle.path_back.proofs.without_selections.Statement.{statement}
 use Rattle.path_back.proofs.without_selections.Tie as tie
 

@@ -4,7 +4,7 @@ use mathlib.Core.Path.{_≡_}
 use mathlib.Core.List.{[]}
 use Rattle.model.specs.Arena.{countIn}
 use Rattle.model.specs.ArenaCalls.{Opened}
-use Rattle.model.proofs.ArenaCallLaws.{count-number, count-refused}
+use Rattle.laws.proofs.ArenaCallLaws.{count-number, count-refused}
 use Rattle.queries.proofs.QueryLaws.{no-graph, one-graph}
 use Rattle.queries.proofs.graph_info.Statement.{statement}
 use Rattle.queries.proofs.graph_info.Tie as tie

@@ -6,7 +6,7 @@ use borrow.Author.Tests.{lt-ltb, le-ltb, not-true, not-false}
 use Rattle.model.specs.Graph.{size}
 use Rattle.model.specs.Arena.{decode}
 use Rattle.model.specs.declared.Refusal.the-variants.{NodeZero, Path}
-use Rattle.model.proofs.ArenaCallLaws.{answered-refused, answered-number}
+use Rattle.laws.proofs.ArenaCallLaws.{answered-refused, answered-number}
 use Rattle.arena.proofs.ReadNodes.{sizes}
 use Rattle.site_queries.proofs.lowest_asked.Statement.{statement}
 use Rattle.site_queries.proofs.lowest_asked.Tie as tie

@@ -4,7 +4,7 @@ use mathlib.Core.Path.{_≡_}
 use Rattle.model.specs.Arena.{countIn, decode}
 use Rattle.model.specs.Calls.{usesSite}
 use Rattle.model.specs.ArenaCalls.{Opened}
-use Rattle.model.proofs.ArenaCallLaws.{answered-refused, answered-more, count-number, count-refused}
+use Rattle.laws.proofs.ArenaCallLaws.{answered-refused, answered-more, count-number, count-refused}
 use Rattle.site_queries.proofs.node_using_site.Statement.{statement}
 use Rattle.site_queries.proofs.node_using_site.Tie as tie
 

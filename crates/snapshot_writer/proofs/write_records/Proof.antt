@@ -6,8 +6,8 @@ use borrow.Author.Needs.{needs}
 use native.Mathlib.Omega.{arith}
 use lib.ListN.{length}
 use Rattle.model.specs.Arena.{countIn}
-use Rattle.model.proofs.BigEndianLaws.{Bytes}
-use Rattle.model.proofs.StoredLaws.{bytes-by-place}
+use Rattle.laws.proofs.BigEndianLaws.{Bytes}
+use Rattle.laws.proofs.StoredLaws.{bytes-by-place}
 use Rattle.snapshot_writer.proofs.WriterLaws.{has-record, Copied, copied-none, copied-more, copied-all, copied-length, piece-fits}
 use Rattle.snapshot_writer.proofs.write_records.Statement.{statement}
 use Rattle.snapshot_writer.proofs.write_records.Tie as tie

@@ -3,8 +3,8 @@ use mathlib.Core.Path.{sym, _∙_}
 use borrow.Author.Needs.{needs}
 use native.Mathlib.Omega.{arith}
 use Rattle.model.specs.Arena.{decode}
-use Rattle.model.proofs.BigEndianLaws.{Bytes}
-use Rattle.model.proofs.StoredLaws.{bytes-by-place}
+use Rattle.laws.proofs.BigEndianLaws.{Bytes}
+use Rattle.laws.proofs.StoredLaws.{bytes-by-place}
 use Rattle.snapshot_writer.proofs.WriterLaws.{counted, few, snapshot-short, snapshot-stored, snapshot-length}
 use Rattle.snapshot_writer.proofs.write_snapshot.Statement.{statement}
 use Rattle.snapshot_writer.proofs.write_snapshot.Tie as tie

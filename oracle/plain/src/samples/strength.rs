@@ -137,7 +137,8 @@ pub fn long_chains(random: &mut Random, count: usize) -> Vec<Node> {
 pub type Shape = fn(usize) -> Vec<Node>;
 
 /// The shapes that are measured, and their names.
-pub const SHAPES: [(&str, Shape); 4] = [("chain", chain), ("star", star), ("mixed", mixed), ("origins", long_origins)];
+pub const SHAPES: [(&str, Shape); 5] =
+    [("chain", chain), ("chains", two_chains), ("star", star), ("mixed", mixed), ("origins", long_origins)];
 
 /// The shapes of which ordering is measured: they have an order.
 pub const ORDERED_SHAPES: [(&str, Shape); 5] = [
@@ -168,6 +169,15 @@ fn linked(arc: u8, parent: usize, origin: usize, path: Vec<u8>) -> Node {
 fn chain(count: usize) -> Vec<Node> {
     let mut random = Random::new(1);
     shaped(count, |at| linked(REFERENCE, at - 1, at - 1, super::path(&mut random, 22)))
+}
+
+/// Two chains side by side: their first nodes are the only siblings.
+fn two_chains(count: usize) -> Vec<Node> {
+    let mut random = Random::new(1);
+    shaped(count, |at| {
+        let above = at.saturating_sub(2).max(1);
+        linked(REFERENCE, above, above, super::path(&mut random, 22))
+    })
 }
 
 /// All nodes below the local root, all authored.

@@ -1,6 +1,6 @@
 -- `compares_line` is safe and ends: where the count is answered, the arena holds a graph and that is its count. Assumes nothing.
 use borrow.Author.Needs.{needs}
-use Rattle.model.proofs.ArenaCallLaws.{count-number}
+use Rattle.laws.proofs.ArenaCallLaws.{count-number}
 use Rattle.calls_compare.proofs.rows.compares_line.Statement.{statement}
 use Rattle.calls_compare.proofs.rows.compares_line.Tie as tie
 

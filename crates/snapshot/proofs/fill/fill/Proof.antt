@@ -5,8 +5,8 @@ use Prim.Native.Nat.{_+_, _-_, _≤_, _<_}
 use borrow.Author.Needs.{needs}
 use native.Mathlib.Omega.{arith}
 use lib.ListN.{length}
-use Rattle.model.proofs.StoredLaws.{bytes-by-place}
-use Rattle.model.proofs.SnapshotReadLaws.{Grows, grows-size}
+use Rattle.laws.proofs.StoredLaws.{bytes-by-place}
+use Rattle.laws.proofs.SnapshotReadLaws.{Grows, grows-size}
 use Rattle.snapshot.specs.Reading.{nodesRead}
 use Rattle.snapshot.proofs.RecordLaws.{record-here, reached-more}
 use Rattle.snapshot.proofs.FillLaws.{grow, Filled, filled-none, filled-all, filled-length, can-append-record, filled-more, nodes-fit}

@@ -4,7 +4,7 @@ use mathlib.Core.Path.{ap, _∙_}
 use native.Mathlib.Omega.{arith}
 use Rattle.model.specs.ArenaCalls.{Readable}
 use Rattle.model.specs.Strength.{skipRelocates, namespaceDepthForClassHierarchy}
-use Rattle.model.proofs.StrengthWalks.{starting-node-le, skip-le}
+use Rattle.laws.proofs.StrengthWalks.{starting-node-le, skip-le}
 use Rattle.view.specs.View.{viewIn}
 use Rattle.view.proofs.ViewLaws.{legal, readable-lower}
 use Rattle.walks.proofs.classes.namespace_depth_for_class_hierarchy.Statement.{statement}

@@ -1,0 +1,128 @@
+-- What questions 1 and 2 leave of a call's questions, and the answers that are right: one law for each way a call can end, whatever its questions are.
+-- Assumes nothing.
+use mathlib.Core.Path.{_≡_, refl, sym, ap, _∙_}
+use mathlib.Core.Bool.{Bool, true, false}
+use mathlib.Core.List.{List, [], _∷_}
+use Prim.Native.Nat.{ℕ, zero, suc}
+use native.Mathlib.Omega.{arith}
+use lib.ListN.{length}
+use borrow.Author.Tests.{eq-eqb, ne-eqb, eqb-true}
+use Rattle.model.specs.Graph.{Graph}
+use Rattle.model.specs.Refusals.{refusalNumber, Question, ask, refusal}
+use Rattle.model.specs.Calls.{Outcome, unchanged, settled, decided}
+use Rattle.model.specs.Arena.{arenaBytes, decode, encode, holdsGraph}
+use Rattle.model.specs.ArenaCalls.{isArena, Opened, onArena, Wrote, askArena, valueUnless, Answers, Answered}
+use Rattle.model.specs.declared.Refusal.{Refusal}
+use Rattle.model.specs.declared.Refusal.the-variants.{Size, NotAGraph, NodeZero, Node as NodeNumber, Path, Kind, Capacity, NotSiblings, NoOrder, NotOrdered, EraseSet, Snapshot}
+use Rattle.model.specs.declared.Numbered.{Numbered}
+use Rattle.model.specs.declared.Numbered.the-variants.{Number, Refused as NumberRefused}
+
+-- ---- Refusals
+
+-- no question has the number 0
+pub refusal-some : (r : Refusal) → refusalNumber r ≡ 0 → ⊥
+refusal-some Size e = omega arith
+refusal-some NotAGraph e = omega arith
+refusal-some NodeZero e = omega arith
+refusal-some NodeNumber e = omega arith
+refusal-some Path e = omega arith
+refusal-some Kind e = omega arith
+refusal-some Capacity e = omega arith
+refusal-some NotSiblings e = omega arith
+refusal-some NoOrder e = omega arith
+refusal-some NotOrdered e = omega arith
+refusal-some EraseSet e = omega arith
+refusal-some Snapshot e = omega arith
+
+module _ (questions : List Question) (value : ℕ) where
+  pub answered-refused : (r : Refusal) → refusalNumber r ≡ refusal questions → Answers questions value (refusalNumber r) 0
+  answered-refused r e = record { refused = e; value = go (refusal questions) e }
+    where
+      go : (k : ℕ) → refusalNumber r ≡ k → 0 ≡ valueUnless k value
+      go zero z = absurd (refusal-some r z)
+      go (suc k) z = refl
+
+  pub answered-number : (n : ℕ) → refusal questions ≡ 0 → n ≡ value → Answers questions value 0 n
+  answered-number n e v = record { refused = sym e; value = v ∙ ap (λ (k : ℕ). valueUnless k value) (sym e) }
+
+-- ---- Questions 1 and 2
+
+module _ (bs : List ℕ) where
+  pub not-arena : (qs : List Question) → isArena bs ≡ false → refusal (askArena bs qs) ≡ 1
+  not-arena qs e = rw e
+
+  pub not-graph : (qs : List Question) → isArena bs ≡ true → holdsGraph bs ≡ false → refusal (askArena bs qs) ≡ 2
+  not-graph qs e f = rw (e, f)
+
+  pub asked-on : (qs : List Question) → Opened bs → refusal (askArena bs qs) ≡ refusal qs
+  asked-on qs o = rw (eq-eqb (length bs) arenaBytes (o .whole), o .holds)
+
+  -- what the count's answer says of every call's questions
+  pub count-number : (value n : ℕ) → Answered (askArena bs []) value (Number n) → Opened bs × (n ≡ value)
+  count-number value n a = go (isArena bs) refl (holdsGraph bs) refl (a .refused) (a .value)
+    where
+      go : (s : Bool) → isArena bs ≡ s → (h : Bool) → holdsGraph bs ≡ h → 0 ≡ refusal (ask 1 s ∷ ask 2 h ∷ [])
+          → n ≡ valueUnless (refusal (ask 1 s ∷ ask 2 h ∷ [])) value → Opened bs × (n ≡ value)
+      go true s true h e v = (record { whole = eqb-true (length bs) arenaBytes s; holds = h }, v)
+      go true s false h e v = absurd (omega arith)
+      go false s h q e v = absurd (omega arith)
+
+  pub count-refused : (value : ℕ) (r : Refusal) → Answered (askArena bs []) value (NumberRefused r) → (qs : List Question)
+      → refusalNumber r ≡ refusal (askArena bs qs)
+  count-refused value r a qs = go (isArena bs) (holdsGraph bs) (a .refused)
+    where
+      go : (s h : Bool) → refusalNumber r ≡ refusal (ask 1 s ∷ ask 2 h ∷ []) → refusalNumber r ≡ refusal (ask 1 s ∷ ask 2 h ∷ qs)
+      go true true e = absurd (refusal-some r e)
+      go true false e = e
+      go false h e = e
+
+-- a call that puts its own questions to an arena that holds a graph puts them all
+pub answered-more : (bs : List ℕ) (qs : List Question) (value : ℕ) {number given : ℕ} → Opened bs → Answers qs value number given
+    → Answers (askArena bs qs) value number given
+answered-more bs qs value o a =
+    record {
+      refused = a .refused ∙ sym (asked-on bs qs o);
+      value = a .value ∙ ap (λ (k : ℕ). valueUnless k value) (sym (asked-on bs qs o));
+    }
+
+-- ---- The calls that write a graph
+
+-- a call that comes to a refusal, or to a number and a graph
+pub wrote-refused : (bs : List ℕ) (o : Outcome) (r : Refusal) → refusalNumber r ≡ o .refused → o .value ≡ 0 → Wrote o bs (NumberRefused r) bs
+wrote-refused bs o r e v = record { refused = e; value = sym v; arena = rw (ne-eqb (o .refused) 0 (λ z. refusal-some r (e ∙ z))) }
+
+pub wrote-number : (bs after : List ℕ) (o : Outcome) (n : ℕ) → o .refused ≡ 0 → n ≡ o .value → after ≡ encode (o .graph) bs → Wrote o bs (Number n) after
+wrote-number bs after o n e v a = record { refused = sym e; value = v; arena = rw (eq-eqb (o .refused) 0 e) a }
+
+module _ (bs : List ℕ) (f : Graph → Outcome) where
+  pub wrote-not-arena : isArena bs ≡ false → Wrote (onArena f bs) bs (NumberRefused Size) bs
+  unfolding onArena
+  wrote-not-arena e = wrote-refused bs (onArena f bs) Size (rw e) (rw e)
+
+  pub wrote-not-graph : isArena bs ≡ true → holdsGraph bs ≡ false → Wrote (onArena f bs) bs (NumberRefused NotAGraph) bs
+  unfolding onArena
+  wrote-not-graph e h = wrote-refused bs (onArena f bs) NotAGraph (rw (e, h)) (rw (e, h))
+
+  pub on-opened : Opened bs → onArena f bs ≡ f (decode bs)
+  unfolding onArena
+  on-opened o = rw (eq-eqb (length bs) arenaBytes (o .whole), o .holds)
+
+module _ (questions : List Question) (g : Graph) (value : ℕ) (result : Graph) where
+  pub decided-refused : (k : ℕ) → refusal questions ≡ suc k → decided questions g value result ≡ unchanged (suc k) g
+  decided-refused k e = rw e
+
+  pub decided-accepted : refusal questions ≡ 0 → decided questions g value result ≡ record { refused = 0; value = value; graph = result }
+  decided-accepted e = rw e
+
+  -- by the call's own questions
+  pub wrote-decided-refused : (bs : List ℕ) (r : Refusal) → refusalNumber r ≡ refusal questions → Wrote (decided questions g value result) bs (NumberRefused r) bs
+  wrote-decided-refused bs r e = go (refusal questions) refl
+    where
+      go : (k : ℕ) → refusal questions ≡ k → Wrote (settled k g value result) bs (NumberRefused r) bs
+      go zero q = absurd (refusal-some r (e ∙ q))
+      go (suc k) q = wrote-refused bs (unchanged (suc k) g) r (e ∙ q) refl
+
+  pub wrote-decided : (bs after : List ℕ) (n : ℕ) → refusal questions ≡ 0 → n ≡ value → after ≡ encode result bs
+      → Wrote (decided questions g value result) bs (Number n) after
+  wrote-decided bs after n e v a =
+      rw (decided-accepted e) (wrote-number bs after (record { refused = 0; value = value; graph = result }) n refl v a)

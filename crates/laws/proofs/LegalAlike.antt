@@ -1,0 +1,238 @@
+-- Ordering, culling and deepening leave a graph legal: they keep the nodes, and of each node what a comparison sees.
+-- Assumes nothing.
+use mathlib.Core.Path.{_≡_, refl, sym, ap, _∙_}
+use mathlib.Core.Bool.{Bool, true, false, _||_, _&&_, cond, true≢false, and-eq-true-iff}
+use mathlib.Core.List.{List, [], _∷_}
+use Prim.Native.Nat.{ℕ, zero, suc, _≤_, _<_}
+use native.Mathlib.Omega.{arith}
+use lib.Dec.{leb}
+use lib.ListN.{length}
+use borrow.Author.Tests.{ltb-true, leb-true, not-true}
+use Rattle.model.specs.Path.{wellFormed, lastName, endsInName}
+use Rattle.model.specs.Node.{rootArc, Node}
+use Rattle.model.specs.Graph.{Graph, size, nodeAt, childrenOf}
+use Rattle.model.specs.Strength.{view}
+use Rattle.model.specs.Order.{isLess, isStronger, hasOrder, ordering}
+use Rattle.model.specs.Culling.{cullSubtreesWithoutOpinions}
+use Rattle.model.specs.Deepening.{deepen, appendChildNameToAllSites}
+use Rattle.model.specs.Refusals.{ask, mostPathBytes, pathBytes}
+use Rattle.model.specs.Calls.{hasNodeZero, finalizeStrengthOrder, cull, shortPaths, pathsFit, deepenQuestions, appendChildName, seedChild}
+use Rattle.laws.proofs.PathGrammar.{Name, well-formed-may-end}
+use Rattle.laws.proofs.PathLaws.{append-well-formed, last-name-is-name}
+use Rattle.laws.proofs.Views.{LegalView, LooksLike}
+use Rattle.laws.proofs.ListLaws.{pairs-imp}
+use Rattle.laws.proofs.Trees.{Child, all-children}
+use Rattle.laws.proofs.StrengthCongruence.{siblings-alike}
+use Rattle.laws.proofs.OrderLaws.{InOrder, lengths-ordering, tree-ordering, ordering-in-order}
+use Rattle.laws.proofs.CullingLaws.{OnlyCulled, culling-only-culls, culling-keeps-view, culled-looks-like}
+use Rattle.laws.proofs.DeepenLaws.{size-deepened, node-deepened, legal-deepened, children-deepened, tree-deepened, reached-deepened, deepen-looks-like}
+use Rattle.laws.proofs.LegalGraphs.{RootRecord, LegalNode, LocalRoot, Legal, legal-reached}
+use Rattle.laws.proofs.AcceptedQuestions.{Accepted, decided-keeps, decided-leaves}
+
+-- ---- Graphs that look alike
+
+-- of two that are kept, the stronger sibling is the stronger by their new numbers
+pub stronger-alike : (g h : Graph) (keep : ℕ → Bool) (r : ℕ → ℕ) → LegalView (size g) (view (g .nodes))
+    → LooksLike (size g) keep r (view (g .nodes)) (view (h .nodes))
+    → (a b : ℕ) → a < size g → b < size g → keep a ≡ true → keep b ≡ true → isStronger h (r a) (r b) ≡ isStronger g a b
+unfolding isStronger
+stronger-alike g h keep r links like a b l m k j = ap isLess (siblings-alike links like a b l m k j)
+
+-- with the same child lists and the same order, a graph that looks alike is in order too
+in-order-alike : (g h : Graph) → Legal g → size h ≡ size g → h .children ≡ g .children → h .order ≡ g .order
+    → LooksLike (size g) (λ n. true) (λ n. n) (view (g .nodes)) (view (h .nodes)) → InOrder g → InOrder h
+unfolding isStronger
+in-order-alike g h legal same-size same-children same-order like o = record {
+  some-node = rw same-size (o .some-node);
+  sorted = λ v l.
+      rw same-children
+      (pairs-imp (Child (size g) (view (g .nodes) .parent) v) (λ a b. isStronger g a b ≡ true) (λ a b. isStronger h a b ≡ true)
+      (λ a b p q e. stronger-alike g h (λ n. true) (λ n. n) (legal .links) like a b (p .1) (q .1) refl refl ∙ e) (childrenOf g v)
+      (all-children (size g) (view (g .nodes) .parent) (childrenOf g) (legal .tree) v) (o .sorted v (rw same-size at l)));
+  walked = rw (same-order, same-size, same-children) (o .walked);
+}
+
+-- ---- Ordering
+
+pub ordered-legal : (g : Graph) → 0 < size g → hasOrder g ≡ true → Legal g → Legal (ordering g)
+unfolding ordering
+ordered-legal g some-node e legal = record {
+  lengths = lengths-ordering g (legal .lengths);
+  tree = tree-ordering g (legal .tree);
+  links = legal .links;
+  node-0 = legal .node-0;
+  node = legal .node;
+  local-root-under-0 = legal .local-root-under-0;
+  one-local-root = legal .one-local-root;
+  few-nodes = legal .few-nodes;
+  few-path-bytes = legal .few-path-bytes;
+  not-shallow = legal .not-shallow;
+  final = λ f. (refl, not-true (g .shallow) f);
+  no-order = λ f. absurd (true≢false f);
+  in-order = λ f. ordering-in-order g some-node e;
+}
+
+pub ordering-keeps-legal : (g : Graph) → Legal g → Legal (finalizeStrengthOrder g .graph)
+unfolding finalizeStrengthOrder
+ordering-keeps-legal g legal =
+    decided-keeps (hasNodeZero g ∷ ask 9 (g .finalized || hasOrder g) ∷ []) g 0 (cond (g .finalized) g (ordering g)) Legal refl
+    (λ a. go (g .finalized) (ltb-true 0 (size g) (a 3)) (a 9)) legal
+  where
+    go : (b : Bool) → 0 < size g → (b || hasOrder g) ≡ true → Legal (cond b g (ordering g))
+    go true some-node e = legal
+    go false some-node e = ordered-legal g some-node e legal
+
+-- ---- Culling
+
+path-bytes-same : (ns ms : List Node) → length ms ≡ length ns → ((n : ℕ) → nodeAt ms n .path ≡ nodeAt ns n .path) → pathBytes ms ≡ pathBytes ns
+path-bytes-same [] [] l p = refl
+path-bytes-same [] (m ∷ ms) l p = absurd (omega arith)
+path-bytes-same (n ∷ ns) [] l p = absurd (omega arith)
+path-bytes-same (n ∷ ns) (m ∷ ms) l p = rw (p 0, path-bytes-same ns ms (omega arith) (λ i. p (suc i)))
+
+module _ (g : Graph) (legal : Legal g) where
+  -- what culling leaves
+  abbrev after : Graph
+  after = cullSubtreesWithoutOpinions g
+
+  only-culled : (n : ℕ) → OnlyCulled (nodeAt (g .nodes) n) (nodeAt (after .nodes) n)
+  only-culled = culling-only-culls g .node
+
+  same-size : size after ≡ size g
+  same-size = culling-only-culls g .same-length
+
+  -- all but the nodes stays
+  rest-stays : (after .children ≡ g .children) × (after .order ≡ g .order) × (after .ordered ≡ g .ordered) × (after .finalized ≡ g .finalized)
+      × (after .shallow ≡ g .shallow)
+  unfolding cullSubtreesWithoutOpinions
+  rest-stays = (refl, refl, refl, refl, refl)
+
+  local-root-culled : (n : ℕ) → LocalRoot after n → LocalRoot g n
+  local-root-culled n r = (r .0, rw same-size at (r .1), sym (only-culled n .arc) ∙ r .2)
+
+  culled-legal : Legal after
+  culled-legal = record {
+    lengths = rw (rest-stays .0, same-size) (legal .lengths);
+    tree = rw (rest-stays .0, same-size, culling-keeps-view g) (legal .tree);
+    links = rw (same-size, culling-keeps-view g) (legal .links);
+    node-0 = λ h. let root = legal .node-0 (rw same-size at h) in rw (only-culled 0 .root-stays (root .arc)) root;
+    node = λ n h. node n (legal .node n (rw same-size at h));
+    local-root-under-0 = λ n r. only-culled n .parent ∙ legal .local-root-under-0 n (local-root-culled n r);
+    one-local-root = λ a b r s. legal .one-local-root a b (local-root-culled a r) (local-root-culled b s);
+    few-nodes = rw same-size (legal .few-nodes);
+    few-path-bytes = rw (path-bytes-same (g .nodes) (after .nodes) same-size (λ n. only-culled n .path)) (legal .few-path-bytes);
+    not-shallow = λ e c h l.
+        rw (only-culled c .depth, only-culled c .parent, only-culled (nodeAt (g .nodes) c .parent) .path)
+        (legal .not-shallow (sym (rest-stays .4) ∙ e) c h (rw same-size at l));
+    final = λ e. let both = legal .final (sym (rest-stays .3) ∙ e) in (rest-stays .2 ∙ both .0, rest-stays .4 ∙ both .1);
+    no-order = λ e. rest-stays .1 ∙ legal .no-order (sym (rest-stays .2) ∙ e);
+    in-order = λ e.
+        in-order-alike g after legal same-size (rest-stays .0) (rest-stays .1) (culled-looks-like g) (legal .in-order (sym (rest-stays .2) ∙ e));
+  }
+    where
+      node : (n : ℕ) → LegalNode (nodeAt (g .nodes) n) → LegalNode (nodeAt (after .nodes) n)
+      node n x = record {
+        path = rw (only-culled n .path) (x .path);
+        arc = rw (only-culled n .arc) (x .arc);
+        has-specs = rw (only-culled n .has-specs) (x .has-specs);
+        root-unculled = λ e.
+            let arc : nodeAt (g .nodes) n .arc ≡ rootArc = sym (only-culled n .arc) ∙ e in
+            rw (only-culled n .root-stays arc) (x .root-unculled arc);
+      }
+
+pub culling-keeps-legal : (g : Graph) → Legal g → Legal (cull g .graph)
+unfolding cull
+culling-keeps-legal g legal = decided-keeps (hasNodeZero g ∷ []) g 0 (cullSubtreesWithoutOpinions g) Legal refl (λ a. culled-legal g legal) legal
+
+-- ---- Deepening
+
+pub short-paths : (ns : List Node) → shortPaths ns ≡ true → (n : ℕ) → n < length ns → length (nodeAt ns n .path) ≤ 255
+short-paths [] e n h = absurd (omega arith)
+short-paths (x ∷ ns) e zero h = leb-true (length (x .path)) 255 (and-eq-true-iff (leb (length (x .path)) 255) (shortPaths ns) .0 e .0)
+short-paths (x ∷ ns) e (suc n) h = short-paths ns (and-eq-true-iff (leb (length (x .path)) 255) (shortPaths ns) .0 e .1) n (omega arith)
+
+-- "keeps both if finalized, else clears ordered"
+marks-deepened : (name : List ℕ) (g : Graph) → (deepen name g .finalized ≡ g .finalized) × (deepen name g .shallow ≡ g .shallow)
+    × (deepen name g .ordered ≡ (g .ordered && g .finalized)) × (deepen name g .order ≡ cond (g .finalized) (g .order) [])
+unfolding deepen
+marks-deepened name g = (refl, refl, refl, refl)
+
+module _ (name : List ℕ) (is-name : Name name) (g : Graph) (legal : Legal g) (fits : pathsFit (deepen name g) ≡ true) where
+  local-root-deepened : (n : ℕ) → LocalRoot (deepen name g) n → LocalRoot g n
+  local-root-deepened n r =
+      let below : n < size g = rw (size-deepened name g) at (r .1) in
+      (r .0, below, sym (ap (λ (x : Node). x .arc) (node-deepened name g n below)) ∙ r .2)
+
+  both-fit : (shortPaths (deepen name g .nodes) ≡ true) × (leb (pathBytes (deepen name g .nodes)) mostPathBytes ≡ true)
+  both-fit = and-eq-true-iff (shortPaths (deepen name g .nodes)) (leb (pathBytes (deepen name g .nodes)) mostPathBytes) .0 fits
+
+  node-0-deepened : 0 < size g → RootRecord (nodeAt (deepen name g .nodes) 0)
+  node-0-deepened h =
+      let root = legal .node-0 h in
+      rw (node-deepened name g 0 h) record { arc = root .arc; inert = root .inert; no-parent = root .no-parent; no-origin = root .no-origin }
+
+  legal-node-deepened : (n : ℕ) → n < size g → LegalNode (nodeAt (deepen name g .nodes) n)
+  legal-node-deepened n h =
+      let x = legal .node n h in
+      let path : List ℕ = nodeAt (g .nodes) n .path in
+      let same = node-deepened name g n h in
+      let short = short-paths (deepen name g .nodes) (both-fit .0) n (rw (size-deepened name g) h) in
+      rw same record {
+        path = append-well-formed path name (well-formed-may-end path (x .path)) is-name (rw same at short);
+        arc = x .arc;
+        has-specs = x .has-specs;
+        root-unculled = x .root-unculled;
+      }
+
+  deepened-legal : Legal (deepen name g)
+  deepened-legal = record {
+    lengths = rw (children-deepened name g, size-deepened name g) (legal .lengths);
+    tree = tree-deepened name g (legal .tree);
+    links = legal-deepened name g (legal .links);
+    node-0 = λ h. node-0-deepened (rw (size-deepened name g) at h);
+    node = λ n h. legal-node-deepened n (rw (size-deepened name g) at h);
+    local-root-under-0 = λ n r.
+        let before = local-root-deepened n r in
+        ap (λ (x : Node). x .parent) (node-deepened name g n (before .1)) ∙ legal .local-root-under-0 n before;
+    one-local-root = λ a b r s. legal .one-local-root a b (local-root-deepened a r) (local-root-deepened b s);
+    few-nodes = rw (size-deepened name g) (legal .few-nodes);
+    few-path-bytes = leb-true (pathBytes (deepen name g .nodes)) mostPathBytes (both-fit .1);
+    not-shallow = λ e.
+        reached-deepened name is-name g (legal .links) (legal-reached g legal (sym (marks-deepened name g .1) ∙ e)) .reached;
+    final = λ e.
+        let f : g .finalized ≡ true = sym (marks-deepened name g .0) ∙ e in
+        let both = legal .final f in
+        (marks-deepened name g .2 ∙ (rw (both .0, f)), marks-deepened name g .1 ∙ both .1);
+    no-order = λ e. marks-deepened name g .3 ∙ no-order (g .finalized) refl (sym (marks-deepened name g .2) ∙ e);
+    in-order = λ e. in-order (and-eq-true-iff (g .ordered) (g .finalized) .0 (sym (marks-deepened name g .2) ∙ e));
+  }
+    where
+      no-order : (b : Bool) → g .finalized ≡ b → (g .ordered && b) ≡ false → cond b (g .order) [] ≡ []
+      no-order true f e = absurd (true≢false (rw (legal .final f .0) at e))
+      no-order false f e = refl
+
+      in-order : (g .ordered ≡ true) × (g .finalized ≡ true) → InOrder (deepen name g)
+      in-order both =
+          in-order-alike g (deepen name g) legal (size-deepened name g) (children-deepened name g) (marks-deepened name g .3 ∙ (rw (both .1)))
+          (deepen-looks-like name is-name g (legal .links) (legal-reached g legal (legal .final (both .1) .1))) (legal .in-order (both .0))
+
+-- question 5: a child's path ends in a name
+pub deepens-by-name : (child : List ℕ) (g : Graph) → Accepted (deepenQuestions child g) → Name (lastName child)
+deepens-by-name child g a =
+    let both = and-eq-true-iff (wellFormed child) (endsInName child) .0 (a 5) in
+    last-name-is-name child (well-formed-may-end child (both .0)) (both .1)
+
+-- what deepening leaves where its questions pass, in the graph's own arena or in a second
+deepening-legal : (child : List ℕ) (g : Graph) → Legal g → Accepted (deepenQuestions child g) → Legal (appendChildNameToAllSites child g)
+deepening-legal child g legal a = deepened-legal (lastName child) (deepens-by-name child g a) g legal (a 7)
+
+pub deepening-keeps-legal : (child : List ℕ) (g : Graph) → Legal g → Legal (appendChildName child g .graph)
+unfolding appendChildName
+deepening-keeps-legal child g legal =
+    decided-keeps (deepenQuestions child g) g 0 (appendChildNameToAllSites child g) Legal refl (deepening-legal child g legal) legal
+
+pub seeding-legal : (child : List ℕ) (from into : Graph) → Legal from → seedChild child from into .refused ≡ 0
+    → Legal (seedChild child from into .graph)
+unfolding seedChild
+seeding-legal child from into legal =
+    decided-leaves (deepenQuestions child from) into 0 (appendChildNameToAllSites child from) Legal refl (deepening-legal child from legal)
