@@ -4,7 +4,6 @@ use mathlib.Core.List.{List}
 use Prim.Native.Nat.{ℕ, _+_, _≤_, _<_}
 use native.Mathlib.Omega.{arith}
 use Rattle.model.specs.declared.Ordering.{Ordering}
-use Rattle.model.specs.declared.Ordering.the-variants.{Less, Equal, Greater}
 use Rattle.model.specs.Strength.{View, first, smaller, compareSiblingNodeStrength, compareNodeStrength, siblingLines}
 use Rattle.laws.proofs.StrengthLaws.{compare-siblings-lines, compare-same}
 use Rattle.view.specs.View.{viewIn, Standing}
@@ -15,14 +14,10 @@ use Rattle.walks.specs.Walks.{Siblings, comparedAt, Parts}
 use Rattle.verdicts.specs.declared.Verdict.{Verdict}
 use Rattle.verdicts.specs.declared.Verdict.the-variants.{Settled, Ask}
 use Rattle.verdicts.specs.Verdicts.{Pair, resolve, Weighed}
-use Rattle.verdicts.proofs.NumberLaws.{smaller-eq}
+use Rattle.strength.specs.declared.lines.Known.{Known}
+use Rattle.strength.specs.declared.lines.Known.the-variants.{As, Open}
+use Rattle.strength.specs.Settled.{AtOnce}
 use Rattle.strength.proofs.LineLaws.{ranks-differ}
-
-pub less-not-equal : Less ≡ Equal → ⊥
-less-not-equal e = let z : _≡_ {A = ℕ} 0 1 = cc in absurd (omega arith)
-
-pub greater-not-equal : Greater ≡ Equal → ⊥
-greater-not-equal e = let z : _≡_ {A = ℕ} 0 1 = cc in absurd (omega arith)
 
 -- ---- Siblings: `v` is what the lines say, `w` its form that was matched
 
@@ -50,12 +45,18 @@ asked-lower pair v told weighed =
       asks .2,
     )
 
--- ranks that differ settle two siblings: `o` is what the first line says, `p` its form that was matched
-pub ranks-settle : {bs : List ℕ} {root a b : ℕ} → Pair bs root a b → (o p : Ordering) → o ≡ p → o ≡ smaller (viewIn bs .rank a) (viewIn bs .rank b)
-    → (p ≡ Equal → ⊥) → p ≡ compareSiblingNodeStrength (viewIn bs) a b
-ranks-settle {bs} {root} {a} {b} pair o p told line differ =
-    siblings-resolved pair (Settled p) (Settled p) refl
-    (ranks-differ (viewIn bs) bs a b (λ same. differ (sym told ∙ line ∙ smaller-eq _ _ same)) (sym told ∙ line))
+-- ranks that differ settle two siblings
+pub ranks-settle : {bs : List ℕ} {root a b : ℕ} → Pair bs root a b → {o : Ordering} → (viewIn bs .rank a ≡ viewIn bs .rank b → ⊥)
+    → o ≡ smaller (viewIn bs .rank a) (viewIn bs .rank b) → o ≡ compareSiblingNodeStrength (viewIn bs) a b
+ranks-settle {bs} {root} {a} {b} pair {o} differ line = siblings-resolved pair (Settled o) (Settled o) refl (ranks-differ (viewIn bs) bs a b differ line)
+
+-- ---- Siblings at once: `k` is what their records say
+
+pub at-once : (u : View) (a b : ℕ) (k : Known) {o : Ordering} → k ≡ As o → AtOnce u a b k → o ≡ compareSiblingNodeStrength u a b
+at-once u a b k told said = rw told at said
+
+pub left-open : (u : View) (a b : ℕ) (k : Known) → k ≡ Open → AtOnce u a b k → u .rank a ≡ u .rank b
+left-open u a b k told said = rw told at said
 
 -- ---- Nodes: `p` is where their chains part, `q` its form that was matched
 

@@ -1,11 +1,12 @@
 // The strength of two nodes, `compare_node_strength`, and of two siblings, `compare_sibling_node_strength`: a cycle of functions that ask each other about lower
-// nodes. Siblings join it once their arcs have one rank (`compare_siblings`).
+// nodes. Siblings join it where their own records do not settle them (`compare_siblings`).
 // Document 01's lists of lines stand outside the cycle, in lines.rt and crates/specializes: they settle two siblings, or say which two nodes to ask. It
 // never refuses and never writes: the nodes are of the graph that the arena holds, which callers prove; crates/comparing has the calls that put the
 // questions. `root` is the local root's number, 0 for none.
 // The definitions are in model/specs/Strength.antt; verdicts/specs/Verdicts.antt says what an unsettled answer means.
 mod lines;
 
+use lines::Known;
 use model::Ordering;
 use verdicts::Verdict;
 use walks::Parting;
@@ -14,15 +15,25 @@ ghost use Rattle.model.specs.Strength.{compareSiblingNodeStrength, compareNodeS
 ghost use Rattle.view.specs.View.{viewIn, Standing};
 ghost use Rattle.verdicts.specs.Verdicts.{Pair};
 
-// Which of two siblings is the stronger. Those of two arcs, which are many, are settled here, outside the cycle: a caller's loop has no call for them.
+// Which of two siblings is the stronger. Two arcs settle it here: a caller's loop has no call for them.
 pub fn compare_sibling_node_strength(arena: &[u8], root: u32, a: u32, b: u32) -> Ordering
     requires { ⌜ Pair (now arena) root a b ⌝ }
     ensures { λ r. ⌜ r ≡ compareSiblingNodeStrength (viewIn (now (arena .entry))) a b ⌝ }
 {
-    match lines::by_rank(arena, a, b) {
-        Ordering::Less => Ordering::Less,
-        Ordering::Equal => compare_siblings(arena, root, a, b),
-        Ordering::Greater => Ordering::Greater,
+    match lines::by_rank(arena, root, a, b) {
+        Known::As(o) => o,
+        Known::Open => settle_siblings(arena, root, a, b),
+    }
+}
+
+// The same. What their own records settle is settled outside the cycle.
+fn settle_siblings(arena: &[u8], root: u32, a: u32, b: u32) -> Ordering
+    requires { ⌜ Pair (now arena) root a b ⌝ }
+    ensures { λ r. ⌜ r ≡ compareSiblingNodeStrength (viewIn (now (arena .entry))) a b ⌝ }
+{
+    match lines::settle(arena, root, a, b) {
+        Known::As(o) => o,
+        Known::Open => compare_siblings(arena, root, a, b),
     }
 }
 
@@ -51,10 +62,9 @@ pub fn compare_node_strength(arena: &[u8], root: u32, a: u32, b: u32) -> Orderin
         Parting::Same => Ordering::Equal,
         Parting::Above => Ordering::Less,
         Parting::Below => Ordering::Greater,
-        Parting::Apart(x, y) => match lines::by_rank(arena, x, y) {
-            Ordering::Less => Ordering::Less,
-            Ordering::Equal => compare_siblings(arena, root, x, y),
-            Ordering::Greater => Ordering::Greater,
+        Parting::Apart(x, y) => match lines::settle(arena, root, x, y) {
+            Known::As(o) => o,
+            Known::Open => compare_siblings(arena, root, x, y),
         },
     }
 }

@@ -2,11 +2,18 @@
 use model::Ordering;
 use verdicts::Verdict;
 ghost use mathlib.Core.Path.{_≡_};
-ghost use mathlib.Core.Bool.{_&&_};
+ghost use mathlib.Core.Bool.{false, _&&_};
 ghost use Rattle.model.specs.ArenaCalls.{Readable};
-ghost use Rattle.model.specs.Strength.{smaller, plainLines, siblingLines};
+ghost use Rattle.model.specs.Strength.{plainLines, siblingLines};
 ghost use Rattle.view.specs.View.{viewIn};
 ghost use Rattle.verdicts.specs.Verdicts.{Pair, Weighed};
+ghost use Rattle.strength.specs.Settled.{AtOnce};
+
+// Two siblings settled at once, by their own records, or not.
+pub(crate) enum Known {
+    As(Ordering),
+    Open,
+}
 
 // "3. Larger depth. 4. Node strength of the origins. 5. Smaller sibling number, then smaller node number."
 fn weigh_plain(arena: &[u8], root: u32, a: u32, b: u32) -> Verdict
@@ -34,16 +41,6 @@ fn both_specialize(arena: &[u8], a: u32, b: u32) -> bool
     false
 }
 
-// "1. Smaller arc."
-pub(crate) fn by_rank(arena: &[u8], a: u32, b: u32) -> Ordering
-    requires { ⌜ Readable (now arena) a × Readable (now arena) b ⌝ }
-    ensures { λ r. ⌜ r ≡ smaller (viewIn (now (arena .entry)) .rank a) (viewIn (now (arena .entry)) .rank b) ⌝ }
-{
-    let x = view::rank(arena, a) as u32;
-    let y = view::rank(arena, b) as u32;
-    verdicts::by_number(x, y)
-}
-
 // "2. Both HAS_SPECIALIZES: go to the list below." Of two whose arcs have one rank, which pass the first line.
 pub(crate) fn weigh(arena: &[u8], root: u32, a: u32, b: u32) -> Verdict
     requires { ⌜ Pair (now arena) root a b × (viewIn (now arena) .rank a ≡ viewIn (now arena) .rank b) ⌝ }
@@ -53,4 +50,50 @@ pub(crate) fn weigh(arena: &[u8], root: u32, a: u32, b: u32) -> Verdict
         return specializes::weigh_specializes(arena, root, a, b);
     }
     weigh_plain(arena, root, a, b)
+}
+
+// What the plain lines settle at once: where they ask of one node twice, it is Equal.
+fn settle_plain(arena: &[u8], root: u32, a: u32, b: u32) -> Known
+    requires { ⌜ Pair (now arena) root a b × (viewIn (now arena) .rank a ≡ viewIn (now arena) .rank b) ⌝ }
+    requires { ⌜ (viewIn (now arena) .special a && viewIn (now arena) .special b) ≡ false ⌝ }
+    ensures { λ r. ⌜ AtOnce (viewIn (now (arena .entry))) a b r ⌝ }
+{
+    match weigh_plain(arena, root, a, b) {
+        Verdict::Settled(o) => Known::As(o),
+        Verdict::Ask(x, y, o) => {
+            if x == y {
+                return Known::As(o);
+            }
+            Known::Open
+        }
+    }
+}
+
+// "1. Smaller arc."
+pub(crate) fn by_rank(arena: &[u8], root: u32, a: u32, b: u32) -> Known
+    requires { ⌜ Pair (now arena) root a b ⌝ }
+    ensures { λ r. ⌜ AtOnce (viewIn (now (arena .entry))) a b r ⌝ }
+{
+    let x = view::rank(arena, a) as u32;
+    let y = view::rank(arena, b) as u32;
+    if x != y {
+        return Known::As(verdicts::by_number(x, y));
+    }
+    Known::Open
+}
+
+// What two siblings' own records settle: their arcs, then the plain lines.
+pub(crate) fn settle(arena: &[u8], root: u32, a: u32, b: u32) -> Known
+    requires { ⌜ Pair (now arena) root a b ⌝ }
+    ensures { λ r. ⌜ AtOnce (viewIn (now (arena .entry))) a b r ⌝ }
+{
+    match by_rank(arena, root, a, b) {
+        Known::As(o) => Known::As(o),
+        Known::Open => {
+            if both_specialize(arena, a, b) {
+                return Known::Open;
+            }
+            settle_plain(arena, root, a, b)
+        }
+    }
 }

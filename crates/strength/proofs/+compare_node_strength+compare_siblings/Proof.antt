@@ -6,16 +6,15 @@ use Prim.Native.Nat.{ℕ, _+_, _*_, _<_}
 use native.Mathlib.Omega.{arith}
 use borrow.Fn.Kinds.{In}
 use borrow.Fn.PlainCycle.{Measures, is, falls, and}
-use Rattle.strength.proofs.CycleLaws.{less-not-equal, greater-not-equal, siblings-resolved, asked-itself, asked-lower, ranks-settle, nodes-compared, parted-pair}
+use Rattle.strength.proofs.CycleLaws.{siblings-resolved, asked-itself, asked-lower, at-once, left-open, nodes-compared, parted-pair}
 use Rattle.strength.proofs.compare_node_strength.Reads as nodes
 use Rattle.strength.proofs.compare_node_strength.Kinds as nodes-kinds
 use Rattle.strength.proofs.+compare_node_strength+compare_siblings.Lts-compare_node_strength as nodes-lts
 use Rattle.strength.proofs.compare_siblings.Reads as siblings
 use Rattle.strength.proofs.compare_siblings.Kinds as siblings-kinds
 use Rattle.strength.proofs.+compare_node_strength+compare_siblings.Lts-compare_siblings as siblings-lts
-use Rattle.strength.proofs.lines.by_rank.Reads as by-rank
+use Rattle.strength.proofs.lines.settle.Reads as settle
 use Rattle.strength.proofs.lines.weigh.Reads as weigh
-use Rattle.verdicts.proofs.NumberLaws.{smaller-equal}
 use Rattle.verdicts.proofs.or_else.Reads as or-else
 use Rattle.walks.proofs.part_chains.Reads as part-chains
 use Rattle.strength.proofs.+compare_node_strength+compare_siblings.{statement}
@@ -36,8 +35,8 @@ module _ (t : ℕ) where
   nodes-ask = (
     part-chains.Asked,
     part-chains.Learnt,
-    by-rank.Asked,
-    by-rank.Learnt,
+    settle.Asked,
+    settle.Learnt,
     and 1 siblings-kinds.ps (falls 1 siblings-kinds.ps _<_ μ-siblings t) siblings.Pre,
     siblings.Post,
   )
@@ -72,26 +71,22 @@ module _ (t : ℕ) where
   known-apart : nodes-lts.Need-enum-known-x nodes-ask nodes-at nodes.Post
   known-apart c = search needs
 
-  by-rank-requires : nodes-lts.Need-by-rank-requires nodes-ask nodes-at nodes.Post
-  by-rank-requires c κs =
+  settle-requires : nodes-lts.Need-settle-requires nodes-ask nodes-at nodes.Post
+  settle-requires c κs =
       let given = c .before .before .before .before .before .pre .1 in
-      let parted = parted-pair (given .0) (given .1) _ (c .before .x .given .1) (c .before .before .before .part-chains .ensures) in
-      (parted .0 .left .readable, parted .0 .right .readable)
+      parted-pair (given .0) (given .1) _ (c .before .x .given .1) (c .before .before .before .part-chains .ensures) .0
 
-  told-less : nodes-lts.Need-enum-told-4 nodes-ask nodes-at nodes.Post
-  told-less c = search needs
+  known-as : nodes-lts.Need-enum-known-o nodes-ask nodes-at nodes.Post
+  known-as c = search needs
 
-  told-equal : nodes-lts.Need-enum-told-5 nodes-ask nodes-at nodes.Post
-  told-equal c = search needs
+  told-open : nodes-lts.Need-enum-told-4 nodes-ask nodes-at nodes.Post
+  told-open c = search needs
 
   siblings-requires : nodes-lts.Need-compare-siblings-requires nodes-ask nodes-at nodes.Post
   siblings-requires c κs =
       let given = c .before .before .before .before .before .before .before .before .pre in
       let parted = parted-pair (given .1 .0) (given .1 .1) _ (c .before .before .before .before .x .given .1) (c .before .before .before .before .before .before .part-chains .ensures) in
-      (omega (arith, given .0, parted .1), (parted .0, smaller-equal _ _ (sym (c .before .before .by-rank .ensures) ∙ c .enum-told5 .given .1)))
-
-  told-greater : nodes-lts.Need-enum-told-6 nodes-ask nodes-at nodes.Post
-  told-greater c = search needs
+      (omega (arith, given .0, parted .1), (parted .0, left-open _ _ _ _ (c .enum-told4 .given .1) (c .before .before .settle .ensures)))
 
   returns-same : nodes-lts.Need-returns nodes-ask nodes-at nodes.Post
   returns-same c = nodes-compared _ _ _ _ _ (c .enum-told .given .1) (c .before .before .part-chains .ensures)
@@ -102,24 +97,13 @@ module _ (t : ℕ) where
   returns-below : nodes-lts.Need-returns-3 nodes-ask nodes-at nodes.Post
   returns-below c = nodes-compared _ _ _ _ _ (c .enum-told3 .given .1) (c .before .before .part-chains .ensures)
 
-  returns-less : nodes-lts.Need-returns-4 nodes-ask nodes-at nodes.Post
-  returns-less c =
-      let given = c .before .before .before .before .before .before .before .before .pre .1 in
-      let apart = c .before .before .before .before .x .given .1 in
-      let parts = c .before .before .before .before .before .before .part-chains .ensures in
-      ranks-settle (parted-pair (given .0) (given .1) _ apart parts .0) _ _ (c .enum-told4 .given .1) (c .before .before .by-rank .ensures) less-not-equal
-      ∙ nodes-compared _ _ _ _ _ apart parts
+  returns-known : nodes-lts.Need-returns-4 nodes-ask nodes-at nodes.Post
+  returns-known c =
+      at-once _ _ _ _ (c .before .o .given .1) (c .before .before .before .settle .ensures)
+      ∙ nodes-compared _ _ _ _ _ (c .before .before .before .before .before .x .given .1) (c .before .before .before .before .before .before .before .part-chains .ensures)
 
-  returns-equal : nodes-lts.Need-returns-5 nodes-ask nodes-at nodes.Post
-  returns-equal c = c .compare-siblings .ensures ∙ nodes-compared _ _ _ _ _ (c .before .before .before .before .before .x .given .1) (c .before .before .before .before .before .before .before .part-chains .ensures)
-
-  returns-greater : nodes-lts.Need-returns-6 nodes-ask nodes-at nodes.Post
-  returns-greater c =
-      let given = c .before .before .before .before .before .before .before .before .pre .1 in
-      let apart = c .before .before .before .before .x .given .1 in
-      let parts = c .before .before .before .before .before .before .part-chains .ensures in
-      ranks-settle (parted-pair (given .0) (given .1) _ apart parts .0) _ _ (c .enum-told6 .given .1) (c .before .before .by-rank .ensures) greater-not-equal
-      ∙ nodes-compared _ _ _ _ _ apart parts
+  returns-compared : nodes-lts.Need-returns-5 nodes-ask nodes-at nodes.Post
+  returns-compared c = c .compare-siblings .ensures ∙ nodes-compared _ _ _ _ _ (c .before .before .before .before .before .x .given .1) (c .before .before .before .before .before .before .before .part-chains .ensures)
 
   -- ---- compare_siblings
 
@@ -170,17 +154,15 @@ pub +compare-node-strength+compare-siblings-spec : {M : Type 1} → statement M
     (told-above t)
     (told-below t)
     (known-apart t)
-    (by-rank-requires t)
-    (told-less t)
-    (told-equal t)
+    (settle-requires t)
+    (known-as t)
+    (told-open t)
     (siblings-requires t)
-    (told-greater t)
     (returns-same t)
     (returns-above t)
     (returns-below t)
-    (returns-less t)
-    (returns-equal t)
-    (returns-greater t))
+    (returns-known t)
+    (returns-compared t))
     λ t. siblings-lts.spec
     (siblings-ask t)
     (siblings-at t)
