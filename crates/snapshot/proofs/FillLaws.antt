@@ -27,12 +27,12 @@ use Rattle.arena.proofs.ArenaHolds.{holds-encoded}
 use Rattle.append.specs.Append.{CanAppend}
 use Rattle.append.proofs.AppendEncodable.{append-encodable}
 use Rattle.append.proofs.EncodeOver.{header-covered, absorbed, added-unordered, encode-next}
-use Rattle.snapshot.specs.Reading.{nodesOr, nodesRead, Exact}
+use Rattle.snapshot_check.specs.Reading.{nodesOr, nodesRead, Exact}
+use Rattle.snapshot_check.proofs.RecordLaws.{recordPart, Reached, reached-none, node-lent, piece-long, reached-more}
+use Rattle.snapshot_check.proofs.CheckLaws.{built-more, built-sized}
 use Rattle.snapshot.specs.declared.fill.Ids.the-variants as Ids
 use Rattle.snapshot.specs.declared.fill.Tail.the-variants as Tail
 use Rattle.snapshot.specs.Filling.{idsOf, tailOf, NodeRead, CanAppendRecord}
-use Rattle.snapshot.proofs.RecordLaws.{recordPart, Reached, reached-none, node-lent, piece-long, reached-more}
-use Rattle.snapshot.proofs.CheckLaws.{built-more, built-sized}
 
 -- ---- A record's node
 

@@ -1,7 +1,4 @@
--- What is written reads back; and the laws of the reader's passes.
+-- What is written reads back; and the laws of filling an arena and of the reader.
 pub mod ReadBack
-mod FieldLaws
-mod RecordLaws
-mod CheckLaws
 mod FillLaws
 mod ReaderLaws

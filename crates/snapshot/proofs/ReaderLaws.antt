@@ -17,7 +17,7 @@ use Rattle.model.specs.declared.Numbered.the-variants.{Number, Refused}
 use Rattle.model.specs.declared.Finished.the-variants.{Refused as FinishRefused}
 use Rattle.laws.proofs.SnapshotReadLaws.{built-nodes, refused-read-keeps}
 use Rattle.laws.proofs.ArenaCallLaws.{refusal-some, wrote-refused, wrote-number}
-use Rattle.snapshot.specs.Reading.{countedAs, nodesOr, nodesRead, Exact, RecordsChecked}
+use Rattle.snapshot_check.specs.Reading.{countedAs, nodesOr, nodesRead, Exact, RecordsChecked}
 use Rattle.snapshot.proofs.FillLaws.{graph-read}
 
 -- ---- Question 12

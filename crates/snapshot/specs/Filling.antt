@@ -11,13 +11,13 @@ use Rattle.model.specs.Calls.{readInto}
 use Rattle.model.specs.ArenaCalls.{Opened}
 use Rattle.model.specs.Arena.{arenaBytes, countIn, decode}
 use Rattle.arena.specs.declared.Node.{Node}
+use Rattle.snapshot_check.specs.Reading.{nodesRead, Exact, Named}
 use Rattle.snapshot.specs.declared.fill.Ids.{Ids}
 use Rattle.snapshot.specs.declared.fill.Ids.the-variants as Ids
 use Rattle.snapshot.specs.declared.fill.Tail.{Tail}
 use Rattle.snapshot.specs.declared.fill.Tail.the-variants as Tail
 use Rattle.snapshot.specs.declared.fill.Taken.{Taken}
 use Rattle.snapshot.specs.declared.fill.Taken.the-variants as Taken
-use Rattle.snapshot.specs.Reading.{nodesRead, Exact, Named}
 
 -- the numbers between the flags and the path, all of them there
 abbrev pub idsOf : List ℕ → Ids

@@ -1,3 +1,2 @@
 -- The names that this crate's contracts cite.
-pub mod Reading
 pub mod Filling

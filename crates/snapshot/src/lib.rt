@@ -1,9 +1,7 @@
-// The reader of snapshots (document 01) takes bytes into an arena. It asks everything first, question 12 over all of the bytes and then 4 to 7 record by
-// record, and writes nothing before all of it passed. The writer is in crates/snapshot_writer.
+// The reader of snapshots (document 01) takes bytes into an arena. It asks everything first, by crates/snapshot_check, and writes nothing before all of it
+// passed. The writer is in crates/snapshot_writer.
 // What a snapshot is stands in model/specs/Snapshot.antt, what reading one comes to in its Calls.antt (`readInto`). specs/ has what the functions
 // here promise each other, and proofs/ReadBack.antt says that what is written reads back.
-mod checks;
-mod fields;
 mod fill;
 mod reader;
 
