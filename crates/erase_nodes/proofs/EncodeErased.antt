@@ -21,9 +21,11 @@ use Rattle.arena.proofs.ArenaParts.{Apart, header-part}
 use Rattle.arena.proofs.ArenaBack.{encode-decode}
 use Rattle.links.specs.Links.{Segments, Linked, linksWritten}
 use Rattle.links.proofs.LinkStores.{linksOf, links-length, links-right}
-use Rattle.erase_nodes.specs.EraseNodes.{Numbered, LinksFound, newLinkIn, sitesStored}
-use Rattle.erase_nodes.proofs.ErasedLaws.{ok, size-kept, few, some-kept, site-short, linkable, root-erased}
-use Rattle.erase_nodes.proofs.MoveLaws.{sites-length}
+use Rattle.erase_records.specs.EraseRecords.{Numbered, newLinkIn, sitesStored}
+use Rattle.erase_records.proofs.ErasedRecords.{ok, size-kept, few, site-short}
+use Rattle.erase_records.proofs.MoveLaws.{sites-length}
+use Rattle.erase_nodes.specs.EraseNodes.{LinksFound}
+use Rattle.erase_nodes.proofs.ErasedLaws.{some-kept, linkable, root-erased}
 
 -- ---- Stores in another order
 

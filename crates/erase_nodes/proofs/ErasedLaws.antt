@@ -1,36 +1,31 @@
--- The graph that erasing leaves of what an arena holds: its nodes by their old numbers (`site-erased`), its records' lengths (`site-short`), its local
--- root (`root-erased`), and that its child lists in arrays can be linked (`parted`, `linkable`). Assumes nothing.
+-- The graph that erasing leaves of what an arena holds: that its child lists in arrays can be linked (`parted`, `linkable`), and its local root
+-- (`root-erased`). Assumes nothing.
 use mathlib.Core.Path.{_≡_, refl, sym, ap, subst, _∙_}
 use mathlib.Core.Bool.{Bool, true, false, cond, false≢true, and-false}
-use mathlib.Core.List.{List, [], _∷_}
+use mathlib.Core.List.{List}
 use Prim.Native.Nat.{ℕ, zero, suc, _+_, _≤_, _<_}
 use native.Mathlib.Nat.{zero-add}
 use native.Mathlib.Numerals.{one-add}
 use native.Mathlib.Omega.{arith}
 use lib.Dec.{ltb}
-use lib.ListN.{length, drop, take, getD}
-use borrow.Author.Tests.{ltb-true, lt-ltb, ne-eqb}
+use borrow.Author.Tests.{lt-ltb, ne-eqb}
 use Rattle.model.specs.Lists.{bit}
-use Rattle.model.specs.Node.{rootArc, invalid, Node, changed}
+use Rattle.model.specs.Node.{rootArc, invalid, Node}
 use Rattle.model.specs.Graph.{Graph, size, nodeAt, childrenOf, isLocalRoot}
-use Rattle.model.specs.Path.{primCount}
-use Rattle.model.specs.Snapshot.{value, readRecord, recordBytes}
-use Rattle.model.specs.Arena.{slotAt, localRootIn, primCountIn, nodeIn, siteBytes, localRootBelow, localRootOf, decode}
-use Rattle.model.specs.ArenaCalls.{Readable}
-use Rattle.model.specs.Erasing.{stays, newNumber, newLink, erase}
+use Rattle.model.specs.Arena.{localRootIn, localRootBelow, localRootOf, decode}
+use Rattle.model.specs.Erasing.{stays, newNumber, erase}
 use Rattle.laws.proofs.BigEndianLaws.{Bytes}
-use Rattle.laws.proofs.SnapshotLaws.{record-length}
 use Rattle.laws.proofs.Spares.{Spares}
 use Rattle.laws.proofs.EraseSets.{can-erase-iff}
-use Rattle.laws.proofs.EraseLists.{new-number-no-larger, new-number-grows, at-new-numbers}
-use Rattle.laws.proofs.EraseLaws.{size-erased, node-erased, no-children-beyond, node0-links-erased, erase-looks-like, tree-erased}
-use Rattle.arena.proofs.Encodable.{Encodable, fit-at}
-use Rattle.arena.proofs.HeldEncodable.{held-encodable}
-use Rattle.arena.proofs.ReadNodes.{sizes, all, node-read, root-held}
+use Rattle.laws.proofs.EraseLists.{new-number-grows}
+use Rattle.laws.proofs.EraseLaws.{size-erased, no-children-beyond, node0-links-erased, erase-looks-like, tree-erased}
+use Rattle.arena.proofs.Encodable.{Encodable}
+use Rattle.arena.proofs.ReadNodes.{sizes, root-held}
 use Rattle.links.specs.Links.{Segments, Parted}
 use Rattle.links.proofs.SegmentLaws.{tree-parted}
 use Rattle.links.proofs.LinkStores.{Linkable}
-use Rattle.erase_nodes.specs.EraseNodes.{Numbered, newLinkIn, nodeRenumbered}
+use Rattle.erase_records.specs.EraseRecords.{Numbered, newLinkIn}
+use Rattle.erase_records.proofs.ErasedRecords as records
 
 root-below : (ns : List Node) (m n : ℕ) → 0 < m → n ≤ m → localRootBelow ns n < m
 root-below ns m zero some l = some
@@ -50,14 +45,14 @@ module _ (bs set : List ℕ) (count : ℕ) (numbers : List ℕ) (bytes : Bytes b
   abbrev kept : ℕ → Bool
   kept = stays set
 
-  pub ok : Encodable g
-  ok = held-encodable bs bytes (ready .opened .whole) (ready .opened .holds)
+  ok : Encodable g
+  ok = records.ok bs set count numbers bytes ready
 
-  pub sized : size g ≡ count
-  sized = sizes bs (ready .opened) ∙ sym (ready .counted)
+  size-kept : size h ≡ newNumber kept count
+  size-kept = records.size-kept bs set count numbers bytes ready
 
-  pub few-nodes : count ≤ 1024
-  few-nodes = omega (arith, sized, ok .legal .few-nodes)
+  few : size h ≤ 1024
+  few = records.few bs set count numbers bytes ready
 
   some-node : 0 < size g
   some-node = omega (arith, sizes bs (ready .opened), ready .some-node)
@@ -65,53 +60,8 @@ module _ (bs set : List ℕ) (count : ℕ) (numbers : List ℕ) (bytes : Bytes b
   spares : Spares g kept
   spares = can-erase-iff g set (ok .legal .node-0 some-node .arc) .0 (ready .accepted) .1
 
-  pub size-kept : size h ≡ newNumber kept count
-  size-kept = size-erased kept g ∙ ap (newNumber kept) sized
-
-  pub few : size h ≤ 1024
-  few = omega (arith, size-erased kept g, new-number-no-larger kept (size g), ok .legal .few-nodes)
-
   pub some-kept : 0 < size h
   some-kept = omega (arith, size-erased kept g, new-number-grows kept 0 (size g) (spares .node0) some-node)
-
-  -- ---- The records
-
-  pub site-short : (k : ℕ) → k < size h → length (siteBytes h k) ≤ 285
-  site-short k l = at-new-numbers kept (λ k. length (siteBytes h k) ≤ 285) (size g) short k (omega (arith, size-erased kept g))
-    where
-      short : (n : ℕ) → n < size g → kept n ≡ true → length (siteBytes h (newNumber kept n)) ≤ 285
-      short n l k =
-          let x = nodeAt (h .nodes) (newNumber kept n) in
-          let same : length (x .path) ≡ length (nodeAt (g .nodes) n .path) = ap (λ (y : Node). length (y .path)) (node-erased kept g n l k) in
-          omega (arith, record-length x, fit-at (g .nodes) (ok .fit) n l .path-short)
-
-  link-same : (l : ℕ) → newLinkIn numbers count l ≡ newLink kept (size g) l
-  link-same l = go (ltb l count) refl ∙ ap (λ (n : ℕ). cond (ltb l n) (newNumber kept l) l) (sym sized)
-    where
-      go : (b : Bool) → ltb l count ≡ b → cond b (getD numbers l 0) l ≡ cond b (newNumber kept l) l
-      go true e = ready .numbered .number l (ltb-true l count e)
-      go false e = refl
-
-  module _ (n : ℕ) (here : n < count) (k : kept n ≡ true) (arena : List ℕ) (same : (a : ℕ) → slotAt n ≤ a → drop a arena ≡ drop a bs) where
-    readable : Readable bs n
-    readable = record { opened = ready .opened; below = omega (arith, ready .counted) }
-
-    node-same : nodeIn arena n ≡ nodeAt (g .nodes) n
-    node-same =
-        (λ i. readRecord (take (value (take 2 (same (slotAt n + 17) (omega arith) i))) (same (slotAt n + 19) (omega arith) i)))
-        ∙ sym (node-read bs n readable)
-
-    prim-same : primCountIn arena n ≡ primCount (nodeAt (g .nodes) n .path)
-    prim-same =
-        ap (λ (l : List ℕ). value (take 1 l)) (same (slotAt n + 16) (omega arith)) ∙ all bs n readable .node n (readable .below) .prim-count
-        ∙ ap (λ (x : Node). primCount (x .path)) (sym (node-read bs n readable))
-
-    pub site-erased : primCountIn arena n ∷ recordBytes (nodeRenumbered numbers count (nodeIn arena n)) ≡ siteBytes h (newNumber kept n)
-    site-erased =
-        let x = nodeAt (g .nodes) n in
-        (λ i. prim-same i ∷ recordBytes (nodeRenumbered numbers count (node-same i)))
-        ∙ (λ i. primCount (x .path) ∷ recordBytes (changed (x .flags) (link-same (x .parent) i) (link-same (x .origin) i) (x .path) x))
-        ∙ ap (λ (y : Node). primCount (y .path) ∷ recordBytes y) (sym (node-erased kept g n (omega (arith, sized)) k))
 
   -- ---- The child lists
 
@@ -159,5 +109,6 @@ module _ (bs set : List ℕ) (count : ℕ) (numbers : List ℕ) (bytes : Bytes b
   root-erased =
       let held = root-held bs (ready .opened) (ready .some-node) in
       let low : localRootIn bs < size g = omega (arith, held, root-below (g .nodes) (size g) (size g) some-node (omega arith)) in
-      link-same (localRootIn bs) ∙ ap (λ (t : Bool). cond t (newNumber kept (localRootIn bs)) (localRootIn bs)) (lt-ltb (localRootIn bs) (size g) low)
+      records.link-same bs set count numbers bytes ready (localRootIn bs)
+      ∙ ap (λ (t : Bool). cond t (newNumber kept (localRootIn bs)) (localRootIn bs)) (lt-ltb (localRootIn bs) (size g) low)
       ∙ ap (newNumber kept) held ∙ sym (root-moves (size g) (omega arith)) ∙ ap (localRootBelow (h .nodes)) (sym (size-erased kept g))

@@ -1,4 +1,3 @@
--- What erasing leaves of the graph; the moves of the records; and what all stores leave.
+-- What erasing leaves of the graph; and what all stores leave.
 mod ErasedLaws
-mod MoveLaws
 mod EncodeErased

@@ -1,19 +1,17 @@
 // Erasing nodes of an arena, in place. New numbers, child lists, links and order are found first, in local arrays over the unchanged arena (crates/
-// erase_lists and links); then each kept record moves to its new slot, which is not higher, and links, order and header are stored. It never refuses:
+// erase_lists and links); then each kept record moves to its new slot (crates/erase_records), and links, order and header are stored. It never refuses:
 // that the arena holds a graph and that the set passes question 11 its callers prove.
-// The definitions are in model/specs/Erasing.antt; specs/EraseNodes.antt says what each part stores.
-use arena::Node;
-use model::NodeId;
+// The definitions are in model/specs/Erasing.antt; specs/EraseNodes.antt says what is found and what is left.
 ghost use mathlib.Core.Path.{_≡_};
 ghost use mathlib.Core.Bool.{true};
-ghost use Prim.Native.Nat.{_≤_, _<_};
+ghost use Prim.Native.Nat.{_<_};
 ghost use lib.ListN.{length};
 ghost use Rattle.model.specs.Arena.{arenaBytes, countIn, decode, encode};
 ghost use Rattle.model.specs.ArenaCalls.{Opened};
 ghost use Rattle.model.specs.Erasing.{stays, canErase, newNumber, erase as erased};
 ghost use Rattle.arena.specs.Header.{countStored, localRootStored};
-ghost use Rattle.arena.specs.Slot.{HasSlot, HasPath};
-ghost use Rattle.erase_nodes.specs.EraseNodes.{ErasedArena, Numbered, LinksFound, newLinkIn, renumberedIn, recordMoved, sitesStored};
+ghost use Rattle.erase_records.specs.EraseRecords.{Numbered};
+ghost use Rattle.erase_nodes.specs.EraseNodes.{ErasedArena, LinksFound};
 
 // The links of the kept nodes, by new numbers.
 fn find_links(
@@ -34,64 +32,6 @@ fn find_links(
     let mut ends: [u32; 1024] = [0; 1024];
     erase_lists::gather_lists(arena, set, numbers, count, &mut lists, &mut ends);
     links::link_lists(&lists, &ends, kept, first, last, next);
-}
-
-// The new number of a parent, an origin or the local root; what is no node's number, as node 0's parent, stays.
-fn new_link(numbers: &[u32], count: u32, link: u32) -> u32
-    requires { ⌜ (length (now numbers) ≡ 1024) × (count ≤ 1024) ⌝ }
-    ensures { λ r. ⌜ r ≡ newLinkIn (now (numbers .entry)) count link ⌝ }
-{
-    if link < count {
-        return numbers[link as usize];
-    }
-    link
-}
-
-// The record with the new numbers of its parent and its origin.
-fn renumber(mut node: Node, numbers: &[u32], count: u32) -> Node
-    requires { ⌜ (length (now numbers) ≡ 1024) × (count ≤ 1024) ⌝ }
-    ensures { λ r. ⌜ r ≡ renumberedIn (now (numbers .entry)) count node ⌝ }
-{
-    let parent = NodeId(new_link(numbers, count, node.parent.0));
-    let origin = NodeId(new_link(numbers, count, node.origin.0));
-    node.parent = parent;
-    node.origin = origin;
-    node
-}
-
-// Moves the record of node `from` to slot `to`. `path` is room for its path.
-fn move_record(arena: &mut [u8], numbers: &[u32], count: u32, from: u32, to: u32, path: &mut [u8])
-    requires { ⌜ HasPath (now arena) from × HasSlot (now arena) to × (length (now path) ≡ 255) ⌝ }
-    requires { ⌜ (length (now numbers) ≡ 1024) × (count ≤ 1024) ⌝ }
-    ensures { λ _. ⌜ now (arena .exit) ≡ recordMoved (now (numbers .entry)) count from to (now (arena .entry)) ⌝ }
-{
-    let node = renumber(arena::load_node(arena, from), numbers, count);
-    let length = arena::path(arena, from).len();
-    big_endian::write_bytes(path, 0, arena::path(arena, from));
-    arena::store_record(arena, to, node, &path[..length]);
-}
-
-// Moves the record of each kept node to its new slot, which is not higher.
-fn move_records(arena: &mut [u8], set: &[u8], numbers: &[u32], count: u32)
-    requires { ⌜ Numbered (now arena) (now set) count (now numbers) ⌝ }
-    ensures { λ _. ⌜ now (arena .exit) ≡ sitesStored (erased (now (set .entry)) (decode (now (arena .entry)))) (newNumber (stays (now (set .entry))) count) (now (arena .entry)) ⌝ }
-{
-    let mut path: [u8; 255] = [0; 255];
-    let mut n: u32 = 0;
-    while n < count {
-        let from = n;
-        n += 1;
-        if set[from as usize] == 0 {
-            move_record(
-                arena,
-                numbers,
-                count,
-                from,
-                numbers[from as usize],
-                &mut path,
-            );
-        }
-    }
 }
 
 // Stores the count and the local root. The marks stay.
@@ -124,10 +64,10 @@ fn write_erased(arena: &mut [u8], set: &[u8], numbers: &[u32], count: u32, kept:
     );
     let listed = erase_lists::filter_order(arena, set, numbers, count, &mut order);
     let root = arena::local_root(arena);
-    move_records(arena, set, numbers, count);
+    erase_records::move_records(arena, set, numbers, count);
     links::write_links(arena, kept, &first, &last, &next);
     links::write_entries(arena, listed, &order);
-    write_header(arena, kept, new_link(numbers, count, root));
+    write_header(arena, kept, erase_records::new_link(numbers, count, root));
 }
 
 // Erases the nodes that the set names, and answers how many are kept.

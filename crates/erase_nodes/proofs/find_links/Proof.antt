@@ -9,7 +9,8 @@ use Rattle.model.specs.Erasing.{erase}
 use Rattle.laws.proofs.BigEndianLaws.{Bytes}
 use Rattle.laws.proofs.StoredLaws.{bytes-by-place}
 use Rattle.links.specs.Links.{Segments, Parted}
-use Rattle.erase_nodes.proofs.ErasedLaws.{size-kept, few, parted}
+use Rattle.erase_records.proofs.ErasedRecords.{size-kept, few}
+use Rattle.erase_nodes.proofs.ErasedLaws.{parted}
 use Rattle.erase_nodes.proofs.find_links.Statement.{statement}
 use Rattle.erase_nodes.proofs.find_links.Tie as tie
 

@@ -4,8 +4,8 @@ use native.Mathlib.Omega.{arith}
 use borrow.Author.Needs.{needs}
 use Rattle.laws.proofs.BigEndianLaws.{Bytes}
 use Rattle.laws.proofs.StoredLaws.{bytes-by-place}
-use Rattle.erase_nodes.specs.EraseNodes.{newLinkIn}
-use Rattle.erase_nodes.proofs.ErasedLaws.{few-nodes, size-kept, few}
+use Rattle.erase_records.specs.EraseRecords.{newLinkIn}
+use Rattle.erase_records.proofs.ErasedRecords.{few-nodes, size-kept, few}
 use Rattle.erase_nodes.proofs.EncodeErased.{erased-encoded}
 use Rattle.erase_nodes.proofs.write_erased.Statement.{statement}
 use Rattle.erase_nodes.proofs.write_erased.Tie as tie

@@ -9,9 +9,9 @@ use Rattle.model.specs.Bytes.{stored}
 use Rattle.model.specs.Arena.{nodeIn}
 use Rattle.arena.specs.declared.Node.{Node}
 use Rattle.arena.specs.Slot.{recordStored}
-use Rattle.erase_nodes.proofs.MoveLaws.{path-short, path-copied, counts-path, record-moved}
-use Rattle.erase_nodes.proofs.move_record.Statement.{statement}
-use Rattle.erase_nodes.proofs.move_record.Tie as tie
+use Rattle.erase_records.proofs.MoveLaws.{path-short, path-copied, counts-path, record-moved}
+use Rattle.erase_records.proofs.move_record.Statement.{statement}
+use Rattle.erase_records.proofs.move_record.Tie as tie
 
 load-node-requires : tie.Need-load-node-requires
 load-node-requires c κs = search needs

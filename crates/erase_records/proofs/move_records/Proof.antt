@@ -7,10 +7,10 @@ use borrow.Author.Needs.{needs}
 use lib.ListN.{length}
 use Rattle.laws.proofs.BigEndianLaws.{Bytes}
 use Rattle.laws.proofs.StoredLaws.{bytes-by-place}
-use Rattle.erase_nodes.proofs.ErasedLaws.{few-nodes}
-use Rattle.erase_nodes.proofs.MoveLaws.{Moving, moving-path, moving-slot, moving-kept, moving-gone, moving-end}
-use Rattle.erase_nodes.proofs.move_records.Statement.{statement}
-use Rattle.erase_nodes.proofs.move_records.Tie as tie
+use Rattle.erase_records.proofs.ErasedRecords.{few-nodes}
+use Rattle.erase_records.proofs.MoveLaws.{Moving, moving-path, moving-slot, moving-kept, moving-gone, moving-end}
+use Rattle.erase_records.proofs.move_records.Statement.{statement}
+use Rattle.erase_records.proofs.move_records.Tie as tie
 
 abbrev Inv-loop : tie.InvT-loop
 Inv-loop arena₀ set numbers count path₀ n₀ arena path n = Moving arena₀ set count arena n × (length path ≡ 255)

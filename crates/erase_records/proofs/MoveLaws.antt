@@ -21,8 +21,8 @@ use Rattle.arena.specs.declared.Node.{Node}
 use Rattle.arena.specs.Slot.{HasSlot, HasPath, Loaded, recordStored}
 use Rattle.arena.proofs.SlotLaws.{loaded-node, path-length}
 use Rattle.arena.proofs.ReadNodes.{has-path}
-use Rattle.erase_nodes.specs.EraseNodes.{Numbered, renumberedIn, nodeRenumbered, recordMoved, sitesStored}
-use Rattle.erase_nodes.proofs.ErasedLaws.{size-kept, few, site-short, site-erased}
+use Rattle.erase_records.specs.EraseRecords.{Numbered, renumberedIn, nodeRenumbered, recordMoved, sitesStored}
+use Rattle.erase_records.proofs.ErasedRecords.{size-kept, few, site-short, site-erased}
 
 -- ---- One record
 

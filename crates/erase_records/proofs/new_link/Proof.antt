@@ -1,8 +1,8 @@
 -- `new_link` meets its contract: a number below the count is looked up, any other stays. Assumes nothing.
 use borrow.Author.Needs.{needs}
 use borrow.Author.Tests.{lt-ltb, le-ltb}
-use Rattle.erase_nodes.proofs.new_link.Statement.{statement}
-use Rattle.erase_nodes.proofs.new_link.Tie as tie
+use Rattle.erase_records.proofs.new_link.Statement.{statement}
+use Rattle.erase_records.proofs.new_link.Tie as tie
 
 mul-result : tie.Need-mul-result
 mul-result c = search needs

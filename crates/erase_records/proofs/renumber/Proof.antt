@@ -1,7 +1,7 @@
 -- `renumber` meets its contract: both links by `new_link`. Assumes nothing.
 use borrow.Author.Needs.{needs}
-use Rattle.erase_nodes.proofs.renumber.Statement.{statement}
-use Rattle.erase_nodes.proofs.renumber.Tie as tie
+use Rattle.erase_records.proofs.renumber.Statement.{statement}
+use Rattle.erase_records.proofs.renumber.Tie as tie
 
 new-link-requires : tie.Need-new-link-requires
 new-link-requires c κs = search needs

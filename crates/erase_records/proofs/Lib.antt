@@ -1,0 +1,3 @@
+-- The records of the erased graph; and their moves.
+pub mod ErasedRecords
+pub mod MoveLaws
