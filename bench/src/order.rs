@@ -51,8 +51,8 @@ fn order(shape: &str, graph: &Graph) {
         println!("{shape:8} {:5} (build oracle/ for the Rust's time)", graph.size);
         return;
     };
-    let Times { rust, call, check, comparing } = rounds.into_iter().fold(Times::MOST, Times::least);
-    let (ordering, comparing) = (call - check, (comparing - check).max(0.0));
+    let Times { rust, call, check, asking, comparing } = rounds.into_iter().fold(Times::MOST, Times::least);
+    let (ordering, comparing) = (call - check, (comparing - asking).max(0.0));
     let (pairs, of_rust) = (graph.pairs.len() / 8, call / rust);
     let of_comparing = if pairs == 0 { "-".to_string() } else { format!("{:.2}", ordering / comparing) };
     let times = [rust, call, check, ordering, comparing].map(|nanoseconds| format!("{:10.2}", nanoseconds / 1_000.0));
@@ -66,18 +66,21 @@ struct Times {
     call: f64,
     /// Question 2 alone.
     check: f64,
-    /// Question 2, and comparing each pair of siblings.
+    /// Question 2, and the questions of each pair of siblings.
+    asking: f64,
+    /// The same, then comparing each pair.
     comparing: f64,
 }
 
 impl Times {
-    const MOST: Self = Self { rust: f64::MAX, call: f64::MAX, check: f64::MAX, comparing: f64::MAX };
+    const MOST: Self = Self { rust: f64::MAX, call: f64::MAX, check: f64::MAX, asking: f64::MAX, comparing: f64::MAX };
 
     fn least(self, other: Self) -> Self {
         Self {
             rust: self.rust.min(other.rust),
             call: self.call.min(other.call),
             check: self.check.min(other.check),
+            asking: self.asking.min(other.asking),
             comparing: self.comparing.min(other.comparing),
         }
     }
@@ -96,9 +99,10 @@ fn round(shape: &str, graph: &Graph) -> Option<Times> {
     });
     let copying = time::least_for(|| fill(black_box(&mut arena), &graph.unordered));
     let check = time::least_for(|| _ = black_box(proved::is_graph(black_box(&graph.arena))));
+    let asking = time::least_for(|| _ = black_box(proved::ask_pairs(black_box(&graph.arena), &graph.pairs, true)));
     let comparing =
         time::least_for(|| _ = black_box(proved::compare_sibling_pairs(black_box(&graph.arena), &graph.pairs)));
-    Some(Times { rust, call: call - copying, check, comparing })
+    Some(Times { rust, call: call - copying, check, asking, comparing })
 }
 
 fn fill(arena: &mut [u8], front: &[u8]) {

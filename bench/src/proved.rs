@@ -14,6 +14,7 @@ unsafe extern "C" {
     fn bench_compare_node_strength(arena: *const u8, length: usize, a: u32, b: u32) -> u32;
     fn bench_compare_pairs(arena: *const u8, alen: usize, pairs: *const u8, plen: usize) -> u64;
     fn bench_compare_sibling_pairs(arena: *const u8, alen: usize, pairs: *const u8, plen: usize) -> u64;
+    fn bench_ask_pairs(arena: *const u8, alen: usize, pairs: *const u8, plen: usize, siblings: bool) -> u64;
 }
 
 /// The prim count, or 65,536 where the bytes are no path.
@@ -88,4 +89,9 @@ pub fn compare_pairs(arena: &[u8], pairs: &[u8]) -> u64 {
 /// The same of pairs of siblings.
 pub fn compare_sibling_pairs(arena: &[u8], pairs: &[u8]) -> u64 {
     unsafe { bench_compare_sibling_pairs(arena.as_ptr(), arena.len(), pairs.as_ptr(), pairs.len()) }
+}
+
+/// 0, and no comparison: only the questions that both put before they compare.
+pub fn ask_pairs(arena: &[u8], pairs: &[u8], siblings: bool) -> u64 {
+    unsafe { bench_ask_pairs(arena.as_ptr(), arena.len(), pairs.as_ptr(), pairs.len(), siblings) }
 }

@@ -17,7 +17,7 @@ const SIZES: [usize; 4] = [16, 64, 256, 1_024];
 const ROUNDS: usize = 3;
 
 pub fn measure() -> bool {
-    println!("nanoseconds for each pair, without the one check of the arena\n");
+    println!("nanoseconds for each pair, without the questions, put to all before the first is compared\n");
     println!("{:14} {:^35}   {:^26}   both", "", "all siblings", "10,000 random pairs");
     println!("{:14} {:>8} {MEASURED}   {MEASURED}  proved / Rust", "", "pairs");
     for (name, shape) in SHAPES {
@@ -74,10 +74,7 @@ fn compare(shape: &str, graph: &Graph) {
 /// The Rust, then ours: of siblings and of random pairs.
 fn round(shape: &str, graph: &Graph) -> Option<[Times; 2]> {
     let [siblings, random] = time_of_the_rust(shape, graph.size)?;
-    Some([
-        beside(graph, proved::compare_sibling_pairs, &graph.siblings, siblings),
-        beside(graph, proved::compare_pairs, &graph.random, random),
-    ])
+    Some([beside(graph, true, &graph.siblings, siblings), beside(graph, false, &graph.random, random)])
 }
 
 /// Nanoseconds for each pair.
@@ -104,16 +101,21 @@ impl fmt::Display for Times {
     }
 }
 
-/// Ours are less what a call with no pairs takes. The answers must have one sum. No pairs take no time.
-fn beside(graph: &Graph, compare: fn(&[u8], &[u8]) -> u64, pairs: &[(u32, u32)], rust: Compared) -> Times {
+/// Ours are less what the questions take, which are all put before the first pair is compared: of the arena, then of every
+/// pair. The answers must have one sum. No pairs take no time.
+fn beside(graph: &Graph, siblings: bool, pairs: &[(u32, u32)], rust: Compared) -> Times {
     let bytes: Vec<u8> = pairs.iter().flat_map(|(a, b)| [a.to_be_bytes(), b.to_be_bytes()].concat()).collect();
+    let compare = if siblings { proved::compare_sibling_pairs } else { proved::compare_pairs };
     assert_eq!(compare(&graph.arena, &bytes), rust.sum, "the answers are the Rust's");
-    let time = |bytes: &[u8]| time::least_for(|| _ = black_box(compare(black_box(&graph.arena), black_box(bytes))));
+    assert_eq!(proved::ask_pairs(&graph.arena, &bytes, siblings), 0, "no pair is refused");
     if pairs.is_empty() {
         return Times { rust: 0.0, proved: 0.0 };
     }
-    let (check, each) = (time(&[]), pairs.len() as f64);
-    Times { rust: rust.nanoseconds / each, proved: (time(&bytes) - check) / each }
+    let asking =
+        time::least_for(|| _ = black_box(proved::ask_pairs(black_box(&graph.arena), black_box(&bytes), siblings)));
+    let call = time::least_for(|| _ = black_box(compare(black_box(&graph.arena), black_box(&bytes))));
+    let each = pairs.len() as f64;
+    Times { rust: rust.nanoseconds / each, proved: (call - asking) / each }
 }
 
 /// One public call on the last two nodes.

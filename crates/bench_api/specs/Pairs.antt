@@ -1,49 +1,77 @@
--- Comparisons added up, for the programs in bench/: over a list of pairs of node numbers, eight bytes a pair, both big-endian.
-use mathlib.Core.Path.{_≡_}
-use mathlib.Core.Bool.{Bool, _&&_, cond}
-use mathlib.Core.List.{List}
+-- Comparisons added up, for the programs in bench/: over a list of pairs of node numbers, eight bytes a pair, both big-endian. Every pair is asked before
+-- the first is compared.
+use mathlib.Core.Bool.{Bool, not, _||_, _&&_, cond}
+use mathlib.Core.List.{List, [], _∷_}
 use Prim.Native.Nat.{ℕ, zero, suc, _+_, _*_, _/_}
 use lib.Dec.{eqb, ltb, leb}
 use lib.ListN.{length}
 use Rattle.model.specs.Answers.{orderingNumber}
-use Rattle.model.specs.Arena.{countIn, localRootIn, holdsGraph}
-use Rattle.model.specs.ArenaCalls.{isArena, Opened}
+use Rattle.model.specs.Arena.{countIn, holdsGraph}
+use Rattle.model.specs.ArenaCalls.{isArena}
+use Rattle.model.specs.Refusals.{Question, ask, refusal}
 use Rattle.model.specs.Snapshot.{field}
 use Rattle.model.specs.Strength.{compareNodeStrength, compareSiblingNodeStrength}
+use Rattle.model.specs.declared.Ordering.{Ordering}
 use Rattle.view.specs.View.{viewIn}
 
--- an arena that holds a graph, its count and its local root
-pub record Ready (bs : List ℕ) (count root : ℕ) : Type 0 where
-  pub opened : Opened bs
-  pub counted : count ≡ countIn bs
-  pub root-read : root ≡ localRootIn bs
+-- the two numbers of pair k
+abbrev pub firstOf : List ℕ → ℕ → ℕ
+firstOf ps k = field (8 * k) 4 ps
 
-abbrev pub bothNodes : List ℕ → ℕ → ℕ → Bool
-bothNodes bs a b = ltb a (countIn bs) && ltb b (countIn bs)
+abbrev pub secondOf : List ℕ → ℕ → ℕ
+secondOf ps k = field (8 * k + 4) 4 ps
 
-abbrev pub areSiblings : List ℕ → ℕ → ℕ → Bool
+-- ---- The questions
+
+unfoldable pub areSiblings : List ℕ → ℕ → ℕ → Bool
 areSiblings bs a b = ltb 0 a && (ltb 0 b && eqb (viewIn bs .parent a) (viewIn bs .parent b))
 
--- what two nodes add: the number of their ordering, or 1,000,000 and a refusal's number
-unfoldable pub nodePair : List ℕ → ℕ → ℕ → ℕ
-nodePair bs a b = cond (bothNodes bs a b) (orderingNumber (compareNodeStrength (viewIn bs) a b)) 1000004
+-- of one pair: are both nodes; and, where siblings are asked for, are they?
+abbrev pub pairQuestions : Bool → List ℕ → ℕ → ℕ → List Question
+pairQuestions siblings bs a b =
+    ask 4 (ltb a (countIn bs) && ltb b (countIn bs)) ∷ ask 8 (not siblings || areSiblings bs a b) ∷ []
 
-unfoldable pub siblingPair : List ℕ → ℕ → ℕ → ℕ
-siblingPair bs a b =
-    cond (bothNodes bs a b) (cond (areSiblings bs a b) (orderingNumber (compareSiblingNodeStrength (viewIn bs) a b)) 1000008) 1000004
+unfoldable pub pairRefused : Bool → List ℕ → ℕ → ℕ → ℕ
+pairRefused siblings bs a b = refusal (pairQuestions siblings bs a b)
 
-unfoldable pub pairNumber : List ℕ → Bool → ℕ → ℕ → ℕ
-pairNumber bs siblings a b = cond siblings (siblingPair bs a b) (nodePair bs a b)
+-- a refusal, or the next where there is none
+abbrev pub orElse : ℕ → ℕ → ℕ
+orElse zero next = next
+orElse (suc number) next = suc number
 
--- the sum of the first k pairs
-abbrev pub pairSum : (ℕ → ℕ → ℕ) → List ℕ → ℕ → ℕ
-pairSum f ps zero = 0
-pairSum f ps (suc k) = pairSum f ps k + f (field (8 * k) 4 ps) (field (8 * k + 4) 4 ps)
+-- of the first k pairs: the refusal of the first that is refused, 0 where none is
+abbrev pub pairsRefused : (ℕ → ℕ → ℕ) → List ℕ → ℕ → ℕ
+pairsRefused refused ps zero = 0
+pairsRefused refused ps (suc k) = orElse (pairsRefused refused ps k) (refused (firstOf ps k) (secondOf ps k))
 
 abbrev pub mostPairBytes : ℕ
 mostPairBytes = 8388608
 
--- the sum of all, or 1,000,000 and the refusal's number
-unfoldable pub pairsNumber : Bool → List ℕ → List ℕ → ℕ
-pairsNumber siblings bs ps =
-    cond (isArena bs && leb (length ps) mostPairBytes) (cond (holdsGraph bs) (pairSum (pairNumber bs siblings) ps (length ps / 8)) 1000002) 1000001
+abbrev pub callQuestions : List ℕ → List ℕ → List Question
+callQuestions bs ps = ask 1 (isArena bs && leb (length ps) mostPairBytes) ∷ ask 2 (holdsGraph bs) ∷ []
+
+-- of a call: its own questions, then every pair's
+unfoldable pub callRefused : Bool → List ℕ → List ℕ → ℕ
+callRefused siblings bs ps = orElse (refusal (callQuestions bs ps)) (pairsRefused (pairRefused siblings bs) ps (length ps / 8))
+
+-- ---- The sum
+
+unfoldable pub comparison : Bool → List ℕ → ℕ → ℕ → Ordering
+comparison siblings bs a b = cond siblings (compareSiblingNodeStrength (viewIn bs) a b) (compareNodeStrength (viewIn bs) a b)
+
+-- of the first k pairs
+abbrev pub pairSum : (ℕ → ℕ → Ordering) → List ℕ → ℕ → ℕ
+pairSum compare ps zero = 0
+pairSum compare ps (suc k) = pairSum compare ps k + orderingNumber (compare (firstOf ps k) (secondOf ps k))
+
+-- ---- The answers: a number, or 1,000,000 and the refusal's
+
+abbrev pub unlessRefused : ℕ → ℕ → ℕ
+unlessRefused zero number = number
+unlessRefused (suc refused) number = 1000000 + suc refused
+
+abbrev pub askedNumber : Bool → List ℕ → List ℕ → ℕ
+askedNumber siblings bs ps = unlessRefused (callRefused siblings bs ps) 0
+
+abbrev pub pairsNumber : Bool → List ℕ → List ℕ → ℕ
+pairsNumber siblings bs ps = unlessRefused (callRefused siblings bs ps) (pairSum (comparison siblings bs) ps (length ps / 8))

@@ -18,7 +18,7 @@ ghost use Rattle.model.specs.Path.{countPrims};
 ghost use Rattle.model.specs.Strength.{view, compareNodeStrength};
 ghost use Rattle.bench_api.specs.Numbers.{countNumber, answerNumber, orderNumber, graphNumber, referenceDesc, WroteNumber, WrittenNumber, ComparedNumber, finishedNumber, FinishesNumber, ErasableNumber};
 ghost use Rattle.erasing.specs.Erasures.{eraseIn};
-ghost use Rattle.bench_api.specs.Pairs.{pairsNumber};
+ghost use Rattle.bench_api.specs.Pairs.{askedNumber, pairsNumber};
 
 // The prim count, or 65,536 where the bytes are no path.
 #[no_mangle]
@@ -130,6 +130,14 @@ pub extern "C" fn bench_compare_sibling_pairs(arena: &[u8], pairs: &[u8]) -> u64
     ensures { λ r. ⌜ r ≡ pairsNumber true (now (arena .entry)) (now (pairs .entry)) ⌝ }
 {
     sums::compare_pairs(arena, pairs, true)
+}
+
+// What both put before they compare, and nothing more: 0, or 1,000,000 and the refusal's number.
+#[no_mangle]
+pub extern "C" fn bench_ask_pairs(arena: &[u8], pairs: &[u8], siblings: bool) -> u64
+    ensures { λ r. ⌜ r ≡ askedNumber siblings (now (arena .entry)) (now (pairs .entry)) ⌝ }
+{
+    sums::only_ask(arena, pairs, siblings)
 }
 
 // 0, or 1,000,000 and the refusal's number.

@@ -1,97 +1,129 @@
-// Comparisons below the questions, which are put once: what bench/ measures. specs/Pairs.antt says what is added up.
+// Comparisons below the questions, which are put before, to every pair: what bench/ measures. specs/Pairs.antt says what is asked and what is added up.
+use model::Ordering;
 ghost use mathlib.Core.Path.{_≡_};
-ghost use Prim.Native.Nat.{_<_, _≤_, _/_};
+ghost use Prim.Native.Nat.{_≤_, _/_};
 ghost use lib.ListN.{length};
-ghost use Rattle.view.specs.View.{Standing};
-ghost use Rattle.bench_api.specs.Pairs.{Ready, nodePair, siblingPair, pairNumber, pairSum, pairsNumber, mostPairBytes};
+ghost use Rattle.model.specs.Arena.{countIn, localRootIn};
+ghost use Rattle.model.specs.ArenaCalls.{Opened, Readable};
+ghost use Rattle.bench_api.specs.Pairs.{areSiblings, pairRefused, pairsRefused, callRefused, comparison, pairSum, askedNumber, pairsNumber, mostPairBytes};
 
-// What two nodes add.
-fn node_pair(arena: &[u8], count: u32, root: u32, a: u32, b: u32) -> u32
-    requires { ⌜ Ready (now arena) count root ⌝ }
-    ensures { λ r. ⌜ (r ≡ nodePair (now (arena .entry)) a b) × (r ≤ 1000008) ⌝ }
+// Whether two nodes have one parent, and neither is node 0.
+fn are_siblings(arena: &[u8], a: u32, b: u32) -> bool
+    requires { ⌜ Readable (now arena) a × Readable (now arena) b ⌝ }
+    ensures { λ r. ⌜ r ≡ areSiblings (now (arena .entry)) a b ⌝ }
 {
-    if a >= count {
-        return 1000004;
-    }
-    if b >= count {
-        return 1000004;
-    }
-    strength::compare_node_strength(arena, root, a, b).number() as u32
-}
-
-// What two siblings add, once they are known to be nodes other than 0.
-fn sibling_pair_above(arena: &[u8], root: u32, a: u32, b: u32) -> u32
-    requires { ⌜ Standing (now arena) root a × Standing (now arena) root b × (0 < a) × (0 < b) ⌝ }
-    ensures { λ r. ⌜ (r ≡ siblingPair (now (arena .entry)) a b) × (r ≤ 1000008) ⌝ }
-{
-    if view::parent(arena, a) != view::parent(arena, b) {
-        return 1000008;
-    }
-    strength::compare_sibling_node_strength(arena, root, a, b).number() as u32
-}
-
-// What two siblings add.
-fn sibling_pair(arena: &[u8], count: u32, root: u32, a: u32, b: u32) -> u32
-    requires { ⌜ Ready (now arena) count root ⌝ }
-    ensures { λ r. ⌜ (r ≡ siblingPair (now (arena .entry)) a b) × (r ≤ 1000008) ⌝ }
-{
-    if a >= count {
-        return 1000004;
-    }
-    if b >= count {
-        return 1000004;
-    }
     if a == 0 {
-        return 1000008;
+        return false;
     }
     if b == 0 {
-        return 1000008;
+        return false;
     }
-    sibling_pair_above(arena, root, a, b)
+    view::parent(arena, a) == view::parent(arena, b)
 }
 
-// What a pair adds.
-fn pair_number(arena: &[u8], siblings: bool, count: u32, root: u32, a: u32, b: u32) -> u32
-    requires { ⌜ Ready (now arena) count root ⌝ }
-    ensures { λ r. ⌜ (r ≡ pairNumber (now (arena .entry)) siblings a b) × (r ≤ 1000008) ⌝ }
+// What refuses a pair: 4, of siblings 4 or 8; or 0.
+fn ask_pair(arena: &[u8], siblings: bool, count: u32, a: u32, b: u32) -> u32
+    requires { ⌜ Opened (now arena) × (count ≡ countIn (now arena)) ⌝ }
+    ensures { λ r. ⌜ r ≡ pairRefused siblings (now (arena .entry)) a b ⌝ }
+{
+    if a >= count {
+        return 4;
+    }
+    if b >= count {
+        return 4;
+    }
+    if !siblings {
+        return 0;
+    }
+    if !are_siblings(arena, a, b) {
+        return 8;
+    }
+    0
+}
+
+// What refuses the first pair that is refused, or 0.
+fn ask_pairs(arena: &[u8], pairs: &[u8], siblings: bool) -> u32
+    requires { ⌜ Opened (now arena) × (length (now pairs) ≤ mostPairBytes) ⌝ }
+    ensures { λ r. ⌜ r ≡ pairsRefused (pairRefused siblings (now (arena .entry))) (now (pairs .entry)) (length (now (pairs .entry)) / 8) ⌝ }
+{
+    let count = arena::count(arena);
+    let n = pairs.len() / 8;
+    let mut i: usize = 0;
+    while i < n {
+        let a = big_endian::read_u32(pairs, 8 * i);
+        let b = big_endian::read_u32(pairs, 8 * i + 4);
+        let refused = ask_pair(arena, siblings, count, a, b);
+        if refused != 0 {
+            return refused;
+        }
+        i += 1;
+    }
+    0
+}
+
+// What refuses a call: questions 1 and 2, then every pair's.
+fn ask_call(arena: &[u8], pairs: &[u8], siblings: bool) -> u32
+    ensures { λ r. ⌜ r ≡ callRefused siblings (now (arena .entry)) (now (pairs .entry)) ⌝ }
+{
+    if arena.len() != 327744 {
+        return 1;
+    }
+    if pairs.len() > 8388608 {
+        return 1;
+    }
+    if !validate::is_graph(arena) {
+        return 2;
+    }
+    ask_pairs(arena, pairs, siblings)
+}
+
+// Which of a pair that has passed is the stronger.
+fn compare_pair(arena: &[u8], siblings: bool, root: u32, a: u32, b: u32) -> Ordering
+    requires { ⌜ Opened (now arena) × (root ≡ localRootIn (now arena)) × (pairRefused siblings (now arena) a b ≡ 0) ⌝ }
+    ensures { λ r. ⌜ r ≡ comparison siblings (now (arena .entry)) a b ⌝ }
 {
     if siblings {
-        return sibling_pair(arena, count, root, a, b);
+        return strength::compare_sibling_node_strength(arena, root, a, b);
     }
-    node_pair(arena, count, root, a, b)
+    strength::compare_node_strength(arena, root, a, b)
 }
 
-// The sum over all pairs.
-fn sum_pairs(arena: &[u8], pairs: &[u8], siblings: bool, count: u32, root: u32) -> u64
-    requires { ⌜ Ready (now arena) count root × (length (now pairs) ≤ mostPairBytes) ⌝ }
-    ensures { λ r. ⌜ r ≡ pairSum (pairNumber (now (arena .entry)) siblings) (now (pairs .entry)) (length (now (pairs .entry)) / 8) ⌝ }
+// The sum over pairs that have passed: nothing is asked here.
+fn sum_pairs(arena: &[u8], pairs: &[u8], siblings: bool) -> u64
+    requires { ⌜ callRefused siblings (now arena) (now pairs) ≡ 0 ⌝ }
+    ensures { λ r. ⌜ r ≡ pairSum (comparison siblings (now (arena .entry))) (now (pairs .entry)) (length (now (pairs .entry)) / 8) ⌝ }
 {
+    let root = arena::local_root(arena);
     let n = pairs.len() / 8;
     let mut sum: u64 = 0;
     let mut i: usize = 0;
     while i < n {
         let a = big_endian::read_u32(pairs, 8 * i);
         let b = big_endian::read_u32(pairs, 8 * i + 4);
-        sum += pair_number(arena, siblings, count, root, a, b) as u64;
+        sum += compare_pair(arena, siblings, root, a, b).number() as u64;
         i += 1;
     }
     sum
 }
 
-// The sum, after questions 1 and 2.
+// 0, or 1,000,000 and the refusal's number.
+pub(crate) fn only_ask(arena: &[u8], pairs: &[u8], siblings: bool) -> u64
+    ensures { λ r. ⌜ r ≡ askedNumber siblings (now (arena .entry)) (now (pairs .entry)) ⌝ }
+{
+    let refused = ask_call(arena, pairs, siblings);
+    if refused != 0 {
+        return 1000000 + (refused as u64);
+    }
+    0
+}
+
+// The sum, or 1,000,000 and the refusal's number.
 pub(crate) fn compare_pairs(arena: &[u8], pairs: &[u8], siblings: bool) -> u64
     ensures { λ r. ⌜ r ≡ pairsNumber siblings (now (arena .entry)) (now (pairs .entry)) ⌝ }
 {
-    if arena.len() != 327744 {
-        return 1000001;
+    let refused = ask_call(arena, pairs, siblings);
+    if refused != 0 {
+        return 1000000 + (refused as u64);
     }
-    if pairs.len() > 8388608 {
-        return 1000001;
-    }
-    if !validate::is_graph(arena) {
-        return 1000002;
-    }
-    let count = arena::count(arena);
-    let root = arena::local_root(arena);
-    sum_pairs(arena, pairs, siblings, count, root)
+    sum_pairs(arena, pairs, siblings)
 }
