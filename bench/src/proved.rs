@@ -3,15 +3,15 @@
 unsafe extern "C" {
     fn bench_prim_count(path: *const u8, length: usize) -> u32;
     fn bench_is_graph(arena: *const u8, length: usize) -> u32;
-    fn bench_read_snapshot(arena: *mut u8, alen: usize, bytes: *const u8, blen: usize) -> u32;
-    fn bench_write_snapshot(arena: *const u8, alen: usize, out: *mut u8, olen: usize) -> u32;
-    fn bench_init_root(arena: *mut u8, alen: usize, stack: u32, layer: u32, path: *const u8, plen: usize) -> u32;
-    fn bench_add_child(arena: *mut u8, alen: usize, parent: u32, path: *const u8, plen: usize) -> u32;
-    fn bench_finalize_strength_order(arena: *mut u8, length: usize) -> u32;
-    fn bench_cull(arena: *mut u8, length: usize) -> u32;
-    fn bench_erasable(arena: *const u8, alen: usize, set: *mut u8, slen: usize) -> u32;
-    fn bench_erase(arena: *mut u8, alen: usize, set: *const u8, slen: usize) -> u32;
-    fn bench_compare_node_strength(arena: *const u8, length: usize, a: u32, b: u32) -> u32;
+    fn bench_read_snapshot(arena: *mut u8, alen: usize, bytes: *const u8, blen: usize) -> u64;
+    fn bench_write_snapshot(arena: *const u8, alen: usize, out: *mut u8, olen: usize) -> u64;
+    fn bench_init_root(arena: *mut u8, alen: usize, stack: u32, layer: u32, path: *const u8, plen: usize) -> u64;
+    fn bench_add_child(arena: *mut u8, alen: usize, parent: u32, path: *const u8, plen: usize) -> u64;
+    fn bench_finalize_strength_order(arena: *mut u8, length: usize) -> u64;
+    fn bench_cull(arena: *mut u8, length: usize) -> u64;
+    fn bench_erasable(arena: *const u8, alen: usize, set: *mut u8, slen: usize) -> u64;
+    fn bench_erase(arena: *mut u8, alen: usize, set: *const u8, slen: usize) -> u64;
+    fn bench_compare_node_strength(arena: *const u8, length: usize, a: u32, b: u32) -> u64;
     fn bench_compare_pairs(arena: *const u8, alen: usize, pairs: *const u8, plen: usize) -> u64;
     fn bench_compare_sibling_pairs(arena: *const u8, alen: usize, pairs: *const u8, plen: usize) -> u64;
     fn bench_ask_pairs(arena: *const u8, alen: usize, pairs: *const u8, plen: usize, siblings: bool) -> u64;
@@ -22,12 +22,13 @@ pub fn prim_count(path: &[u8]) -> u32 {
     unsafe { bench_prim_count(path.as_ptr(), path.len()) }
 }
 
-/// Added to a refusal's number.
-const REFUSED: u32 = 1_000_000;
-
-/// The answer, or the refusal.
-fn answer(number: u32) -> Result<u32, u32> {
-    if number < REFUSED { Ok(number) } else { Err(number - REFUSED) }
+/// The value, or the refusal: this is in the upper half of the number, 0 where there is none, and the value in the lower
+/// half.
+fn answer(number: u64) -> Result<u32, u32> {
+    match (number >> 32) as u32 {
+        0 => Ok(number as u32),
+        refusal => Err(refusal),
+    }
 }
 
 /// Whether the arena holds a graph: 1 or 0.
@@ -82,16 +83,16 @@ pub fn compare_node_strength(arena: &[u8], a: u32, b: u32) -> Result<u32, u32> {
 }
 
 /// The sum of the comparisons of pairs of nodes, each pair two big-endian numbers.
-pub fn compare_pairs(arena: &[u8], pairs: &[u8]) -> u64 {
-    unsafe { bench_compare_pairs(arena.as_ptr(), arena.len(), pairs.as_ptr(), pairs.len()) }
+pub fn compare_pairs(arena: &[u8], pairs: &[u8]) -> Result<u32, u32> {
+    answer(unsafe { bench_compare_pairs(arena.as_ptr(), arena.len(), pairs.as_ptr(), pairs.len()) })
 }
 
 /// The same of pairs of siblings.
-pub fn compare_sibling_pairs(arena: &[u8], pairs: &[u8]) -> u64 {
-    unsafe { bench_compare_sibling_pairs(arena.as_ptr(), arena.len(), pairs.as_ptr(), pairs.len()) }
+pub fn compare_sibling_pairs(arena: &[u8], pairs: &[u8]) -> Result<u32, u32> {
+    answer(unsafe { bench_compare_sibling_pairs(arena.as_ptr(), arena.len(), pairs.as_ptr(), pairs.len()) })
 }
 
 /// 0, and no comparison: only the questions that both put before they compare.
-pub fn ask_pairs(arena: &[u8], pairs: &[u8], siblings: bool) -> u64 {
-    unsafe { bench_ask_pairs(arena.as_ptr(), arena.len(), pairs.as_ptr(), pairs.len(), siblings) }
+pub fn ask_pairs(arena: &[u8], pairs: &[u8], siblings: bool) -> Result<u32, u32> {
+    answer(unsafe { bench_ask_pairs(arena.as_ptr(), arena.len(), pairs.as_ptr(), pairs.len(), siblings) })
 }

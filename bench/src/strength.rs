@@ -106,8 +106,8 @@ impl fmt::Display for Times {
 fn beside(graph: &Graph, siblings: bool, pairs: &[(u32, u32)], rust: Compared) -> Times {
     let bytes: Vec<u8> = pairs.iter().flat_map(|(a, b)| [a.to_be_bytes(), b.to_be_bytes()].concat()).collect();
     let compare = if siblings { proved::compare_sibling_pairs } else { proved::compare_pairs };
-    assert_eq!(compare(&graph.arena, &bytes), rust.sum, "the answers are the Rust's");
-    assert_eq!(proved::ask_pairs(&graph.arena, &bytes, siblings), 0, "no pair is refused");
+    assert_eq!(compare(&graph.arena, &bytes), Ok(rust.sum), "the answers are the Rust's");
+    assert_eq!(proved::ask_pairs(&graph.arena, &bytes, siblings), Ok(0), "no pair is refused");
     if pairs.is_empty() {
         return Times { rust: 0.0, proved: 0.0 };
     }
@@ -136,7 +136,7 @@ fn call(shape: &str, graph: &Graph) {
 #[derive(Clone, Copy)]
 struct Compared {
     nanoseconds: f64,
-    sum: u64,
+    sum: u32,
 }
 
 /// What `oracle time-comparing` measures: siblings, then random pairs.

@@ -6,20 +6,21 @@ use mathlib.Core.List.{List}
 use Prim.Native.Nat.{ℕ, zero, suc, _+_, _/_, _<_, _≤_}
 use lib.Dec.{eqb, ltb, leb}
 use lib.ListN.{length}
-use native.Mathlib.Nat.{eq-or-lt-of-le}
+use native.Mathlib.Nat.{zero-add, eq-or-lt-of-le}
 use native.Mathlib.Numerals.{add-one}
 use native.Mathlib.Omega.{arith}
 use borrow.Author.Tests.{ltb-true, leb-true, eqb-true, lt-ltb, le-ltb, le-leb, lt-leb, eq-eqb, ne-eqb}
 use Rattle.model.specs.Answers.{orderingNumber}
 use Rattle.model.specs.Arena.{arenaBytes, countIn, localRootIn, holdsGraph}
-use Rattle.model.specs.ArenaCalls.{isArena, Opened}
+use Rattle.model.specs.ArenaCalls.{isArena, Opened, valueUnless}
 use Rattle.model.specs.Refusals.{refusal}
 use Rattle.model.specs.Strength.{compareNodeStrength, compareSiblingNodeStrength}
 use Rattle.model.specs.declared.Ordering.{Ordering}
+use Rattle.carried.specs.Carried.{carried}
 use Rattle.laws.proofs.AcceptedQuestions.{Accepted, none-refused-accepted}
 use Rattle.view.specs.View.{viewIn, Standing}
 use Rattle.verdicts.specs.Verdicts.{Pair}
-use Rattle.bench_api.specs.Pairs.{firstOf, secondOf, areSiblings, pairQuestions, pairRefused, orElse, pairsRefused, mostPairBytes, callQuestions, callRefused, comparison, pairSum, unlessRefused}
+use Rattle.bench_api.specs.Pairs.{firstOf, secondOf, areSiblings, pairQuestions, pairRefused, orElse, pairsRefused, mostPairBytes, callQuestions, callRefused, comparison, pairSum}
 
 -- ---- A refusal, or the next
 
@@ -202,10 +203,17 @@ module _ (siblings : Bool) (bs ps : List ℕ) where
 
 -- ---- The answer
 
-pub refused-number : (refused number : ℕ) {r : ℕ} → r ≡ refused → (r ≡ 0 → ⊥) → 1000000 + r ≡ unlessRefused refused number
-refused-number zero number e h = absurd (h e)
-refused-number (suc refused) number e h = ap (λ (n : ℕ). 1000000 + n) e
+module _ (refused sum : ℕ) {r : ℕ} (number : r ≡ carried refused 0) where
+  pub refused-number : (r ≡ 0 → ⊥) → r ≡ carried refused (valueUnless refused sum)
+  refused-number = go refused number
+    where
+      go : (k : ℕ) → r ≡ carried k 0 → (r ≡ 0 → ⊥) → r ≡ carried k (valueUnless k sum)
+      go zero e h = absurd (h e)
+      go (suc k) e h = e
 
-pub number-passed : (refused number : ℕ) {r : ℕ} → r ≡ refused → r ≡ 0 → number ≡ unlessRefused refused number
-number-passed zero number e none = refl
-number-passed (suc refused) number e none = absurd (omega arith)
+  module _ (none : r ≡ 0) where
+    pub not-refused : refused ≡ 0
+    not-refused = omega (arith, number, none)
+
+    pub sum-number : sum ≡ carried refused (valueUnless refused sum)
+    sum-number = sym (zero-add sum) ∙ ap (λ (k : ℕ). carried k (valueUnless k sum)) (sym not-refused)

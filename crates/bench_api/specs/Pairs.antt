@@ -7,11 +7,12 @@ use lib.Dec.{eqb, ltb, leb}
 use lib.ListN.{length}
 use Rattle.model.specs.Answers.{orderingNumber}
 use Rattle.model.specs.Arena.{countIn, holdsGraph}
-use Rattle.model.specs.ArenaCalls.{isArena}
+use Rattle.model.specs.ArenaCalls.{isArena, valueUnless}
 use Rattle.model.specs.Refusals.{Question, ask, refusal}
 use Rattle.model.specs.Snapshot.{field}
 use Rattle.model.specs.Strength.{compareNodeStrength, compareSiblingNodeStrength}
 use Rattle.model.specs.declared.Ordering.{Ordering}
+use Rattle.carried.specs.Carried.{carried}
 use Rattle.view.specs.View.{viewIn}
 
 -- the two numbers of pair k
@@ -64,14 +65,11 @@ abbrev pub pairSum : (ℕ → ℕ → Ordering) → List ℕ → ℕ → ℕ
 pairSum compare ps zero = 0
 pairSum compare ps (suc k) = pairSum compare ps k + orderingNumber (compare (firstOf ps k) (secondOf ps k))
 
--- ---- The answers: a number, or 1,000,000 and the refusal's
-
-abbrev pub unlessRefused : ℕ → ℕ → ℕ
-unlessRefused zero number = number
-unlessRefused (suc refused) number = 1000000 + suc refused
+-- ---- The answers
 
 abbrev pub askedNumber : Bool → List ℕ → List ℕ → ℕ
-askedNumber siblings bs ps = unlessRefused (callRefused siblings bs ps) 0
+askedNumber siblings bs ps = carried (callRefused siblings bs ps) 0
 
 abbrev pub pairsNumber : Bool → List ℕ → List ℕ → ℕ
-pairsNumber siblings bs ps = unlessRefused (callRefused siblings bs ps) (pairSum (comparison siblings bs) ps (length ps / 8))
+pairsNumber siblings bs ps =
+    carried (callRefused siblings bs ps) (valueUnless (callRefused siblings bs ps) (pairSum (comparison siblings bs) ps (length ps / 8)))

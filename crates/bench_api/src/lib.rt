@@ -1,23 +1,23 @@
-// C functions for the programs in bench/, and for nothing else: each is one call of the library below it, with its answer as a number.
+// C functions for the programs in bench/, and for nothing else: each is one call of the library below it, with its answer as a number, which carries refusal
+// and value where the call may be refused (crates/carried).
 mod sums;
 
-use model::Compared;
-use model::Finished;
 use model::NodeId;
-use model::Numbered;
 use model::PrimCount;
 use prim_graph::Depth;
 use prim_graph::NodeDesc;
 ghost use mathlib.Core.Path.{_≡_};
 ghost use mathlib.Core.Bool.{true, false};
+ghost use Rattle.model.specs.Answers.{orderingNumber};
 ghost use Rattle.model.specs.Arena.{decode};
 ghost use Rattle.model.specs.ArenaCalls.{onArena, intoArena, askArena};
 ghost use Rattle.model.specs.Calls.{initRoot, addChild, readInto, comparesNodes, finalizeStrengthOrder, cull};
 ghost use Rattle.model.specs.Graph.{emptyGraph};
 ghost use Rattle.model.specs.Path.{countPrims};
 ghost use Rattle.model.specs.Strength.{view, compareNodeStrength};
-ghost use Rattle.bench_api.specs.Numbers.{countNumber, answerNumber, orderNumber, graphNumber, referenceDesc, WroteNumber, WrittenNumber, ComparedNumber, finishedNumber, FinishesNumber, ErasableNumber};
+ghost use Rattle.carried.specs.Carried.{carriedAnswer, WroteCarried};
 ghost use Rattle.erasing.specs.Erasures.{eraseIn};
+ghost use Rattle.bench_api.specs.Numbers.{countNumber, graphNumber, referenceDesc, SnapshotCarried, ErasableCarried};
 ghost use Rattle.bench_api.specs.Pairs.{askedNumber, pairsNumber};
 
 // The prim count, or 65,536 where the bytes are no path.
@@ -29,16 +29,6 @@ pub extern "C" fn bench_prim_count(path: &[u8]) -> u32
     match count {
         PrimCount::Names(names) => names as u32,
         PrimCount::Malformed => 65536,
-    }
-}
-
-// A number that a call answers, or 1,000,000 and its refusal's number.
-fn number(answer: Numbered) -> u32
-    ensures { λ r. ⌜ r ≡ answerNumber answer ⌝ }
-{
-    match answer {
-        Numbered::Number(n) => n,
-        Numbered::Refused(refusal) => 1000000 + (refusal.number() as u32),
     }
 }
 
@@ -55,16 +45,16 @@ pub extern "C" fn bench_is_graph(arena: &[u8]) -> u32
 
 // `init_root`.
 #[no_mangle]
-pub extern "C" fn bench_init_root(arena: &mut [u8], stack: u32, layer: u32, path: &[u8]) -> u32
-    ensures { λ r. ⌜ WroteNumber (onArena (initRoot stack layer (now (path .entry))) (now (arena .entry))) (now (arena .entry)) r (now (arena .exit)) ⌝ }
+pub extern "C" fn bench_init_root(arena: &mut [u8], stack: u32, layer: u32, path: &[u8]) -> u64
+    ensures { λ r. ⌜ WroteCarried (onArena (initRoot stack layer (now (path .entry))) (now (arena .entry))) (now (arena .entry)) r (now (arena .exit)) ⌝ }
 {
-    number(prim_graph::init_root(arena, stack, layer, path))
+    carried::carry_number(prim_graph::init_root(arena, stack, layer, path))
 }
 
 // `add_child` of a Reference whose origin and depth are missing, other fields 0.
 #[no_mangle]
-pub extern "C" fn bench_add_child(arena: &mut [u8], parent: u32, path: &[u8]) -> u32
-    ensures { λ r. ⌜ WroteNumber (onArena (addChild (referenceDesc parent (now (path .entry)))) (now (arena .entry))) (now (arena .entry)) r (now (arena .exit)) ⌝ }
+pub extern "C" fn bench_add_child(arena: &mut [u8], parent: u32, path: &[u8]) -> u64
+    ensures { λ r. ⌜ WroteCarried (onArena (addChild (referenceDesc parent (now (path .entry)))) (now (arena .entry))) (now (arena .entry)) r (now (arena .exit)) ⌝ }
 {
     let desc = NodeDesc {
         arc: 4,
@@ -79,41 +69,31 @@ pub extern "C" fn bench_add_child(arena: &mut [u8], parent: u32, path: &[u8]) ->
         spec_from: 0,
         has_specs: 0,
     };
-    number(prim_graph::add_child(arena, desc, path))
+    carried::carry_number(prim_graph::add_child(arena, desc, path))
 }
 
 // `read_snapshot`.
 #[no_mangle]
-pub extern "C" fn bench_read_snapshot(arena: &mut [u8], bytes: &[u8]) -> u32
-    ensures { λ r. ⌜ WroteNumber (intoArena (readInto (now (bytes .entry)) emptyGraph) (now (arena .entry))) (now (arena .entry)) r (now (arena .exit)) ⌝ }
+pub extern "C" fn bench_read_snapshot(arena: &mut [u8], bytes: &[u8]) -> u64
+    ensures { λ r. ⌜ WroteCarried (intoArena (readInto (now (bytes .entry)) emptyGraph) (now (arena .entry))) (now (arena .entry)) r (now (arena .exit)) ⌝ }
 {
-    number(prim_graph::read_snapshot(arena, bytes))
+    carried::carry_number(prim_graph::read_snapshot(arena, bytes))
 }
 
 // `write_snapshot`.
 #[no_mangle]
-pub extern "C" fn bench_write_snapshot(arena: &[u8], out: &mut [u8]) -> u32
-    ensures { λ r. ⌜ WrittenNumber (now (arena .entry)) (now (out .entry)) r (now (out .exit)) ⌝ }
+pub extern "C" fn bench_write_snapshot(arena: &[u8], out: &mut [u8]) -> u64
+    ensures { λ r. ⌜ SnapshotCarried (now (arena .entry)) (now (out .entry)) r (now (out .exit)) ⌝ }
 {
-    number(prim_graph::write_snapshot(arena, out))
-}
-
-// What a comparison answers, or 1,000,000 and its refusal's number.
-fn order_number(answer: Compared) -> u32
-    ensures { λ r. ⌜ r ≡ orderNumber answer ⌝ }
-{
-    match answer {
-        Compared::As(ordering) => ordering.number() as u32,
-        Compared::Refused(refusal) => 1000000 + (refusal.number() as u32),
-    }
+    carried::carry_number(prim_graph::write_snapshot(arena, out))
 }
 
 // `compare_node_strength`.
 #[no_mangle]
-pub extern "C" fn bench_compare_node_strength(arena: &[u8], a: u32, b: u32) -> u32
-    ensures { λ r. ⌜ ComparedNumber (askArena (now (arena .entry)) (comparesNodes (decode (now (arena .entry))) a b)) (compareNodeStrength (view (decode (now (arena .entry)) .nodes)) a b) r ⌝ }
+pub extern "C" fn bench_compare_node_strength(arena: &[u8], a: u32, b: u32) -> u64
+    ensures { λ r. ⌜ r ≡ carriedAnswer (askArena (now (arena .entry)) (comparesNodes (decode (now (arena .entry))) a b)) (orderingNumber (compareNodeStrength (view (decode (now (arena .entry)) .nodes)) a b)) ⌝ }
 {
-    order_number(prim_graph::compare_node_strength(arena, a, b))
+    carried::carry_order(prim_graph::compare_node_strength(arena, a, b))
 }
 
 // The sum of `compare_node_strength` over pairs of node numbers, eight bytes a pair: Less 0, Equal 1, Greater 2.
@@ -132,7 +112,7 @@ pub extern "C" fn bench_compare_sibling_pairs(arena: &[u8], pairs: &[u8]) -> u64
     sums::compare_pairs(arena, pairs, true)
 }
 
-// What both put before they compare, and nothing more: 0, or 1,000,000 and the refusal's number.
+// What both put before they compare, and nothing more: the refusal, and no value.
 #[no_mangle]
 pub extern "C" fn bench_ask_pairs(arena: &[u8], pairs: &[u8], siblings: bool) -> u64
     ensures { λ r. ⌜ r ≡ askedNumber siblings (now (arena .entry)) (now (pairs .entry)) ⌝ }
@@ -140,44 +120,34 @@ pub extern "C" fn bench_ask_pairs(arena: &[u8], pairs: &[u8], siblings: bool) ->
     sums::only_ask(arena, pairs, siblings)
 }
 
-// 0, or 1,000,000 and the refusal's number.
-fn finished_number(answer: Finished) -> u32
-    ensures { λ r. ⌜ r ≡ finishedNumber answer ⌝ }
-{
-    match answer {
-        Finished::Done => 0,
-        Finished::Refused(refusal) => 1000000 + (refusal.number() as u32),
-    }
-}
-
 // `finalize_strength_order`.
 #[no_mangle]
-pub extern "C" fn bench_finalize_strength_order(arena: &mut [u8]) -> u32
-    ensures { λ r. ⌜ FinishesNumber (onArena finalizeStrengthOrder (now (arena .entry))) (now (arena .entry)) r (now (arena .exit)) ⌝ }
+pub extern "C" fn bench_finalize_strength_order(arena: &mut [u8]) -> u64
+    ensures { λ r. ⌜ WroteCarried (onArena finalizeStrengthOrder (now (arena .entry))) (now (arena .entry)) r (now (arena .exit)) ⌝ }
 {
-    finished_number(prim_graph::finalize_strength_order(arena))
+    carried::carry_finish(prim_graph::finalize_strength_order(arena))
 }
 
 // `cull_subtrees_without_opinions`.
 #[no_mangle]
-pub extern "C" fn bench_cull(arena: &mut [u8]) -> u32
-    ensures { λ r. ⌜ FinishesNumber (onArena cull (now (arena .entry))) (now (arena .entry)) r (now (arena .exit)) ⌝ }
+pub extern "C" fn bench_cull(arena: &mut [u8]) -> u64
+    ensures { λ r. ⌜ WroteCarried (onArena cull (now (arena .entry))) (now (arena .entry)) r (now (arena .exit)) ⌝ }
 {
-    finished_number(prim_graph::cull_subtrees_without_opinions(arena))
+    carried::carry_finish(prim_graph::cull_subtrees_without_opinions(arena))
 }
 
 // `erasable`.
 #[no_mangle]
-pub extern "C" fn bench_erasable(arena: &[u8], set: &mut [u8]) -> u32
-    ensures { λ r. ⌜ ErasableNumber (now (arena .entry)) (now (set .entry)) r (now (set .exit)) ⌝ }
+pub extern "C" fn bench_erasable(arena: &[u8], set: &mut [u8]) -> u64
+    ensures { λ r. ⌜ ErasableCarried (now (arena .entry)) (now (set .entry)) r (now (set .exit)) ⌝ }
 {
-    finished_number(prim_graph::erasable(arena, set))
+    carried::carry_finish(prim_graph::erasable(arena, set))
 }
 
 // `erase`.
 #[no_mangle]
-pub extern "C" fn bench_erase(arena: &mut [u8], set: &[u8]) -> u32
-    ensures { λ r. ⌜ WroteNumber (eraseIn (now (set .entry)) (now (arena .entry))) (now (arena .entry)) r (now (arena .exit)) ⌝ }
+pub extern "C" fn bench_erase(arena: &mut [u8], set: &[u8]) -> u64
+    ensures { λ r. ⌜ WroteCarried (eraseIn (now (set .entry)) (now (arena .entry))) (now (arena .entry)) r (now (arena .exit)) ⌝ }
 {
-    number(prim_graph::erase(arena, set))
+    carried::carry_number(prim_graph::erase(arena, set))
 }

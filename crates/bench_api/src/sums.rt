@@ -106,24 +106,20 @@ fn sum_pairs(arena: &[u8], pairs: &[u8], siblings: bool) -> u64
     sum
 }
 
-// 0, or 1,000,000 and the refusal's number.
+// The refusal, and no value.
 pub(crate) fn only_ask(arena: &[u8], pairs: &[u8], siblings: bool) -> u64
     ensures { λ r. ⌜ r ≡ askedNumber siblings (now (arena .entry)) (now (pairs .entry)) ⌝ }
 {
-    let refused = ask_call(arena, pairs, siblings);
-    if refused != 0 {
-        return 1000000 + (refused as u64);
-    }
-    0
+    (ask_call(arena, pairs, siblings) as u64) * 4294967296
 }
 
-// The sum, or 1,000,000 and the refusal's number.
+// The refusal, or the sum.
 pub(crate) fn compare_pairs(arena: &[u8], pairs: &[u8], siblings: bool) -> u64
     ensures { λ r. ⌜ r ≡ pairsNumber siblings (now (arena .entry)) (now (pairs .entry)) ⌝ }
 {
-    let refused = ask_call(arena, pairs, siblings);
+    let refused = only_ask(arena, pairs, siblings);
     if refused != 0 {
-        return 1000000 + (refused as u64);
+        return refused;
     }
     sum_pairs(arena, pairs, siblings)
 }

@@ -1,9 +1,6 @@
 -- `cadgweri_finalize_strength_order` meets its contract. Assumes nothing.
 use borrow.Author.Needs.{needs}
-use mathlib.Core.Path.{sym, ap, _∙_}
-use Prim.Native.Nat.{ℕ}
-use Rattle.c_api.specs.Carried.{carried}
-use Rattle.c_api.proofs.FinishLaws.{finalize-value}
+use Rattle.carried.proofs.FinishLaws.{finalize-value, finishes-carried}
 use Rattle.c_api.proofs.cadgweri_finalize_strength_order.Statement.{statement}
 use Rattle.c_api.proofs.cadgweri_finalize_strength_order.Tie as tie
 
@@ -17,12 +14,7 @@ same-length : tie.Need-same-length
 same-length c = search needs
 
 returns : tie.Need-returns
-returns c =
-    let finalized = c .before .before .before .finalize-strength-order .ensures in
-    record {
-      number = c .carry-finish .ensures ∙ ap (λ (number : ℕ). carried number 0) (finalized .refused) ∙ ap (carried _) (sym (finalize-value _));
-      arena = finalized .arena;
-    }
+returns c = finishes-carried (finalize-value _) (c .carry-finish .ensures) (c .before .before .before .finalize-strength-order .ensures)
 
 pub cadgweri-finalize-strength-order-spec : {M : Type 1} → statement M
 cadgweri-finalize-strength-order-spec =

@@ -3,8 +3,8 @@ use borrow.Author.Needs.{needs}
 use mathlib.Core.Path.{sym, ap, _∙_}
 use Prim.Native.Nat.{ℕ, _*_}
 use native.Mathlib.Nat.{add-zero}
-use Rattle.c_api.proofs.carry_refusal.Statement.{statement}
-use Rattle.c_api.proofs.carry_refusal.Tie as tie
+use Rattle.carried.proofs.carry_refusal.Statement.{statement}
+use Rattle.carried.proofs.carry_refusal.Tie as tie
 
 number-requires : tie.Need-number-requires
 number-requires c κs = search needs

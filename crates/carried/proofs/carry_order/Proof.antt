@@ -2,9 +2,9 @@
 use borrow.Author.Needs.{needs}
 use mathlib.Core.Path.{sym, ap, _∙_}
 use native.Mathlib.Nat.{zero-add}
-use Rattle.c_api.specs.Carried.{carriedOrder}
-use Rattle.c_api.proofs.carry_order.Statement.{statement}
-use Rattle.c_api.proofs.carry_order.Tie as tie
+use Rattle.carried.specs.Carried.{carriedOrder}
+use Rattle.carried.proofs.carry_order.Statement.{statement}
+use Rattle.carried.proofs.carry_order.Tie as tie
 
 enum-known-answer : tie.Need-enum-known-answer
 enum-known-answer c = search needs

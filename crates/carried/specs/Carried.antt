@@ -1,21 +1,15 @@
 -- One number for a call's refusal and value, for callers in C. A value has 32 bits, so the number tells both: the refusal is in its upper half, 0
 -- where there is none, and the value in its lower half, 0 where the call was refused.
 use mathlib.Core.Path.{_≡_}
-use mathlib.Core.Bool.{cond}
 use mathlib.Core.List.{List}
 use Prim.Native.Nat.{ℕ, _+_, _*_}
-use lib.Dec.{eqb}
-use lib.ListN.{length}
 use Rattle.model.specs.Answers.{numberedRefusal, numberedValue, comparedRefusal, comparedValue, finishedRefusal}
-use Rattle.model.specs.Bytes.{stored}
 use Rattle.model.specs.Refusals.{Question, refusal}
 use Rattle.model.specs.Calls.{Outcome}
-use Rattle.model.specs.Arena.{decode}
 use Rattle.model.specs.ArenaCalls.{left, valueUnless}
 use Rattle.model.specs.declared.Numbered.{Numbered}
 use Rattle.model.specs.declared.Compared.{Compared}
 use Rattle.model.specs.declared.Finished.{Finished}
-use Rattle.order_reading.specs.Orders.{orderBytes, listQuestions}
 
 -- "refusal's number times 4,294,967,296 plus the value"
 abbrev pub carried : ℕ → ℕ → ℕ
@@ -39,8 +33,3 @@ carriedAnswer questions answer = carried (refusal questions) (valueUnless (refus
 pub record WroteCarried (o : Outcome) (before : List ℕ) (r : ℕ) (after : List ℕ) : Type 0 where
   pub number : r ≡ carried (o .refused) (o .value)
   pub arena : after ≡ left o before
-
--- the number of a call that reads the order, and the buffer after it: the order's bytes at its front; refused, it is as it was
-pub record OrderCarried (arena out : List ℕ) (r : ℕ) (after : List ℕ) : Type 0 where
-  pub number : r ≡ carriedAnswer (listQuestions arena out) (length (decode arena .order))
-  pub bytes : after ≡ cond (eqb (refusal (listQuestions arena out)) 0) (stored 0 (orderBytes (decode arena .order)) out) out

@@ -1,9 +1,9 @@
 -- `carry_finish` meets its contract, case by case. Assumes nothing.
 use borrow.Author.Needs.{needs}
 use mathlib.Core.Path.{sym, ap, _∙_}
-use Rattle.c_api.specs.Carried.{carriedFinish}
-use Rattle.c_api.proofs.carry_finish.Statement.{statement}
-use Rattle.c_api.proofs.carry_finish.Tie as tie
+use Rattle.carried.specs.Carried.{carriedFinish}
+use Rattle.carried.proofs.carry_finish.Statement.{statement}
+use Rattle.carried.proofs.carry_finish.Tie as tie
 
 enum-told : tie.Need-enum-told
 enum-told c = search needs
