@@ -130,11 +130,12 @@ fn random_graphs() {
     }
 }
 
-/// As many nodes as a graph may have.
+/// As many nodes as a graph may have; of long origins that takes too long.
 #[test]
 fn full_graphs() {
-    let found = [0, 1, 2].map(|at| (SHAPES[at].0, orders(&SHAPES[at].1(MAX_NODES))));
-    assert_eq!(found, [("chain", Some(true)), ("star", Some(true)), ("mixed", None)]);
+    let shapes = SHAPES.iter().filter(|(name, _)| *name != "origins");
+    let found: Vec<_> = shapes.map(|(name, shape)| (*name, orders(&shape(MAX_NODES)))).collect();
+    assert_eq!(found, [("chain", Some(true)), ("chains", Some(true)), ("star", Some(true)), ("mixed", None)]);
 }
 
 /// Whatever the bytes are, each function answers, and as the check of the arena and its marks say.
