@@ -62,7 +62,7 @@ pub fn compare_node_strength(arena: &[u8], root: u32, a: u32, b: u32) -> Orderin
         Parting::Same => Ordering::Equal,
         Parting::Above => Ordering::Less,
         Parting::Below => Ordering::Greater,
-        Parting::Apart(x, y) => match lines::settle(arena, root, x, y) {
+        Parting::Apart(x, y) => match lines::by_rank(arena, root, x, y) {
             Known::As(o) => o,
             Known::Open => compare_siblings(arena, root, x, y),
         },

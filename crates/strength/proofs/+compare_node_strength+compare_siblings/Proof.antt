@@ -13,7 +13,7 @@ use Rattle.strength.proofs.+compare_node_strength+compare_siblings.Lts-
 use Rattle.strength.proofs.compare_siblings.Reads as siblings
 use Rattle.strength.proofs.compare_siblings.Kinds as siblings-kinds
 use Rattle.strength.proofs.+compare_node_strength+compare_siblings.Lts-compare_siblings as siblings-lts
-use Rattle.strength.proofs.lines.settle.Reads as settle
+use Rattle.strength.proofs.lines.by_rank.Reads as by-rank
 use Rattle.strength.proofs.lines.weigh.Reads as weigh
 use Rattle.verdicts.proofs.or_else.Reads as or-else
 use Rattle.walks.proofs.part_chains.Reads as part-chains
@@ -35,8 +35,8 @@ module _ (t : ℕ) where
   nodes-ask = (
     part-chains.Asked,
     part-chains.Learnt,
-    settle.Asked,
-    settle.Learnt,
+    by-rank.Asked,
+    by-rank.Learnt,
     and 1 siblings-kinds.ps (falls 1 siblings-kinds.ps _<_ μ-siblings t) siblings.Pre,
     siblings.Post,
   )
@@ -71,8 +71,8 @@ module _ (t : ℕ) where
   known-apart : nodes-lts.Need-enum-known-x nodes-ask nodes-at nodes.Post
   known-apart c = search needs
 
-  settle-requires : nodes-lts.Need-settle-requires nodes-ask nodes-at nodes.Post
-  settle-requires c κs =
+  by-rank-requires : nodes-lts.Need-by-rank-requires nodes-ask nodes-at nodes.Post
+  by-rank-requires c κs =
       let given = c .before .before .before .before .before .pre .1 in
       parted-pair (given .0) (given .1) _ (c .before .x .given .1) (c .before .before .before .part-chains .ensures) .0
 
@@ -86,7 +86,7 @@ module _ (t : ℕ) where
   siblings-requires c κs =
       let given = c .before .before .before .before .before .before .before .before .pre in
       let parted = parted-pair (given .1 .0) (given .1 .1) _ (c .before .before .before .before .x .given .1) (c .before .before .before .before .before .before .part-chains .ensures) in
-      (omega (arith, given .0, parted .1), (parted .0, left-open _ _ _ _ (c .enum-told4 .given .1) (c .before .before .settle .ensures)))
+      (omega (arith, given .0, parted .1), (parted .0, left-open _ _ _ _ (c .enum-told4 .given .1) (c .before .before .by-rank .ensures)))
 
   returns-same : nodes-lts.Need-returns nodes-ask nodes-at nodes.Post
   returns-same c = nodes-compared _ _ _ _ _ (c .enum-told .given .1) (c .before .before .part-chains .ensures)
@@ -99,7 +99,7 @@ module _ (t : ℕ) where
 
   returns-known : nodes-lts.Need-returns-4 nodes-ask nodes-at nodes.Post
   returns-known c =
-      at-once _ _ _ _ (c .before .o .given .1) (c .before .before .before .settle .ensures)
+      at-once _ _ _ _ (c .before .o .given .1) (c .before .before .before .by-rank .ensures)
       ∙ nodes-compared _ _ _ _ _ (c .before .before .before .before .before .x .given .1) (c .before .before .before .before .before .before .before .part-chains .ensures)
 
   returns-compared : nodes-lts.Need-returns-5 nodes-ask nodes-at nodes.Post
@@ -154,7 +154,7 @@ pub +compare-node-strength+compare-siblings-spec : {M : Type 1} → statement M
     (told-above t)
     (told-below t)
     (known-apart t)
-    (settle-requires t)
+    (by-rank-requires t)
     (known-as t)
     (told-open t)
     (siblings-requires t)
