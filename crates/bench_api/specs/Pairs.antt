@@ -24,6 +24,7 @@ secondOf ps k = field (8 * k + 4) 4 ps
 
 -- ---- The questions
 
+-- narrower than question 8 of the call, which lets node 0 with itself pass: below the questions no node 0 is compared with a sibling
 unfoldable pub areSiblings : List ℕ → ℕ → ℕ → Bool
 areSiblings bs a b = ltb 0 a && (ltb 0 b && eqb (viewIn bs .parent a) (viewIn bs .parent b))
 

@@ -6,7 +6,7 @@ use mathlib.Core.List.{List, [], _∷_}
 use Prim.Native.Nat.{ℕ, zero, suc, _^_, _<_}
 use native.Mathlib.Omega.{arith}
 use lib.ListN.{length}
-use Rattle.model.specs.Node.{Node, noNode}
+use Rattle.model.specs.Node.{Node}
 use Rattle.model.specs.Graph.{Graph, size, nodeAt}
 use Rattle.model.specs.Refusals.{Question, refusal}
 use Rattle.model.specs.Calls.{Outcome, settled, decided}

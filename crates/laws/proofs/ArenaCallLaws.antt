@@ -14,7 +14,6 @@ use Rattle.model.specs.Arena.{arenaBytes, decode, encode, holdsGraph}
 use Rattle.model.specs.ArenaCalls.{isArena, Opened, onArena, Wrote, askArena, valueUnless, Answers, Answered}
 use Rattle.model.specs.declared.Refusal.{Refusal}
 use Rattle.model.specs.declared.Refusal.the-variants.{Size, NotAGraph, NodeZero, Node as NodeNumber, Path, Kind, Capacity, NotSiblings, NoOrder, NotOrdered, EraseSet, Snapshot}
-use Rattle.model.specs.declared.Numbered.{Numbered}
 use Rattle.model.specs.declared.Numbered.the-variants.{Number, Refused as NumberRefused}
 
 -- ---- Refusals

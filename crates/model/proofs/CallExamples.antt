@@ -3,7 +3,6 @@ use mathlib.Core.Path.{_≡_, refl}
 use mathlib.Core.List.{List, [], _∷_, _++_}
 use Prim.Native.Nat.{ℕ}
 use lib.ListN.{replicate}
-use Rattle.model.proofs.Text.{bytes}
 use Rattle.model.proofs.ExampleGraphs.{plain, from, line, four, ring}
 use Rattle.model.specs.Path.{isNameStart, isWordByte, samePath, wellFormed, primCount, endsInName, nameStart, lastName, separator, appendName}
 use Rattle.model.specs.Node.{sameSite}

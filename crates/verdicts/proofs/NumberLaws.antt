@@ -24,18 +24,6 @@ pub smaller-gt : (x y : ℕ) → y < x → smaller x y ≡ Greater
 unfolding smaller
 smaller-gt x y h = rw (le-ltb x y (omega arith), ne-eqb x y (λ e. omega arith), smaller)
 
-pub smaller-equal : (x y : ℕ) → smaller x y ≡ Equal → x ≡ y
-smaller-equal x y e = go (decLt x y) (decLt y x)
-  where
-    go : Dec (x < y) → Dec (y < x) → x ≡ y
-    go (yes l) _ =
-        let less = smaller-lt x y l in
-        let z : _≡_ {A = ℕ} 0 1 = cc in absurd (omega arith)
-    go (no l) (yes m) =
-        let greater = smaller-gt x y m in
-        let z : _≡_ {A = ℕ} 0 1 = cc in absurd (omega arith)
-    go (no l) (no m) = omega arith
-
 -- a line that does not differ is passed
 pub passed : (x y : ℕ) (rest : Ordering) → x ≡ y → first (smaller x y) rest ≡ rest
 passed x y rest h = rw (smaller-eq x y h)

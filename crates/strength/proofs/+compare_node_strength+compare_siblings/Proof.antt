@@ -1,7 +1,7 @@
 -- The two comparisons of the cycle meet their contracts: siblings ask nodes whose sum is lower, and nodes ask siblings whose sum is no higher. The measures
 -- are twice the sum, and one more for nodes. Assumes nothing.
 use borrow.Author.Needs.{needs}
-use mathlib.Core.Path.{sym, _∙_}
+use mathlib.Core.Path.{_∙_}
 use Prim.Native.Nat.{ℕ, _+_, _*_, _<_}
 use native.Mathlib.Omega.{arith}
 use borrow.Fn.Kinds.{In}
