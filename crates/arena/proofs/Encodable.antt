@@ -1,5 +1,5 @@
 -- What `encode` asks of a graph: `Encodable`. Every legal graph whose numbers fit their widths is such, but for an empty one marked shallow:
--- `legal-encodable`. Assumes nothing.
+-- `legal-encodable`; and ordering leaves such a graph such: `ordered-encodable`. Assumes nothing.
 use mathlib.Core.Path.{_≡_, refl}
 use mathlib.Core.Bool.{Bool, true, false, false≢true}
 use mathlib.Core.List.{List, [], _∷_}
@@ -9,10 +9,12 @@ use lib.ListN.{length}
 use Rattle.model.specs.Lists.{All, count}
 use Rattle.model.specs.Node.{Node}
 use Rattle.model.specs.Graph.{Graph, emptyGraph, size, nodeAt}
+use Rattle.model.specs.Order.{isStronger, hasOrder, ordering}
 use Rattle.laws.proofs.SnapshotLaws.{FieldsFit, NodesFit}
 use Rattle.laws.proofs.OrderLaws.{in-order-ordered}
 use Rattle.laws.proofs.LengthLaws.{length-once}
 use Rattle.laws.proofs.LegalGraphs.{Legal, empty-legal}
+use Rattle.laws.proofs.LegalAlike.{ordered-legal}
 
 -- the graph with no order
 abbrev pub unordered : Graph → Graph
@@ -64,6 +66,12 @@ legal-encodable g legal fit empty = record {
 
 pub empty-encodable : Encodable emptyGraph
 empty-encodable = legal-encodable emptyGraph empty-legal tt (λ e. refl)
+
+-- ordering does not look at the order there was
+pub ordered-encodable : (g : Graph) → Encodable g → 0 < size g → hasOrder g ≡ true → Encodable (ordering g)
+unfolding ordering hasOrder isStronger
+ordered-encodable g ok some-node e =
+    legal-encodable (ordering g) (ordered-legal (unordered g) some-node e (ok .legal)) (ok .fit) (λ none. absurd (omega arith))
 
 -- ---- What follows
 

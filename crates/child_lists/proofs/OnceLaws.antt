@@ -1,5 +1,4 @@
--- Nothing stands twice in a list that the links of an arena lead through to the end (`linked-once`); and a list of n numbers below n that has none twice
--- has each once (`once-of-length`). Assumes nothing.
+-- Nothing stands twice in a list that the links of an arena lead through to the end (`linked-once`). Assumes nothing.
 use mathlib.Core.Path.{_≡_, refl, sym, ap, _∙_}
 use mathlib.Core.Bool.{Bool, true, false}
 use mathlib.Core.List.{List, [], _∷_}
@@ -10,7 +9,6 @@ use lib.ListN.{length}
 use borrow.Author.Tests.{eqb-true}
 use Rattle.model.specs.Lists.{All, bit, count}
 use Rattle.model.specs.Arena.{countIn, nextSiblingIn, chainIn, firstOf}
-use Rattle.laws.proofs.LengthLaws.{length-at-most-once}
 use Rattle.arena.proofs.ChainLaws.{Linked, chain-linked}
 
 -- the nodes of an arena, linked one by one
@@ -58,19 +56,3 @@ module _ (bs : List ℕ) (few : countIn bs ≤ 1024) where
           let same = same-links cs (again .rest) tail (again .links) (sym (l .linked .0) ∙ ap (nextSiblingIn bs) (sym (eqb-true a c e)) ∙ again .first) in
           absurd (omega (arith, again .shorter, ap length same))
       go false e k q later = omega arith
-
-module _ (n : ℕ) (xs : List ℕ) (only : All (λ x. x < n) xs) (most : (a : ℕ) → a < n → count a xs ≤ 1) where
-  pub once-of-length : length xs ≡ n → (a : ℕ) → a < n → count a xs ≡ 1
-  once-of-length l a h = go (count a xs) refl
-    where
-      -- if a stood nowhere, it could stand in front
-      more : count a xs ≡ 0 → (b : ℕ) → b < n → count b (a ∷ xs) ≤ 1
-      more none b i = go (eqb b a) refl
-        where
-          go : (t : Bool) → eqb b a ≡ t → bit t + count b xs ≤ 1
-          go true e = omega (arith, ap (λ x. count x xs) (eqb-true b a e))
-          go false e = omega (arith, most b i)
-
-      go : (k : ℕ) → count a xs ≡ k → count a xs ≡ 1
-      go zero e = absurd (omega (arith, length-at-most-once n (a ∷ xs) (h, only) (more e)))
-      go (suc k) e = omega (arith, most a h)

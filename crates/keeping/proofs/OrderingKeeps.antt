@@ -3,27 +3,14 @@ use mathlib.Core.Path.{_≡_, refl}
 use mathlib.Core.Bool.{Bool, true, false, _||_, cond}
 use mathlib.Core.List.{[], _∷_}
 use Prim.Native.Nat.{_<_}
-use native.Mathlib.Omega.{arith}
 use borrow.Author.Tests.{ltb-true}
 use Rattle.model.specs.Graph.{Graph, size}
-use Rattle.model.specs.Order.{isStronger, hasOrder, ordering}
+use Rattle.model.specs.Order.{hasOrder, ordering}
 use Rattle.model.specs.Refusals.{ask}
 use Rattle.model.specs.Calls.{hasNodeZero, finalizeStrengthOrder}
-use Rattle.laws.proofs.LegalGraphs.{Legal}
-use Rattle.laws.proofs.LegalAlike.{ordered-legal}
 use Rattle.laws.proofs.AcceptedQuestions.{none-refused-accepted}
-use Rattle.arena.proofs.Encodable.{unordered, Encodable, legal-encodable}
+use Rattle.arena.proofs.Encodable.{Encodable, ordered-encodable}
 use Rattle.keeping.proofs.FitLaws.{FinalUnlessShallow, Keeps, decided-keeps}
-
-module _ (g : Graph) (ok : Encodable g) (some-node : 0 < size g) where
-  -- ordering does not look at the order there was
-  ordered-legal-anew : hasOrder g ≡ true → Legal (ordering g)
-  unfolding ordering hasOrder isStronger
-  ordered-legal-anew e = ordered-legal (unordered g) some-node e (ok .legal)
-
-  ordered-encodable : hasOrder g ≡ true → Encodable (ordering g)
-  unfolding ordering
-  ordered-encodable e = legal-encodable (ordering g) (ordered-legal-anew e) (ok .fit) (λ none. absurd (omega arith))
 
 pub ordering-keeps : (g : Graph) → Encodable g → Keeps g (finalizeStrengthOrder g)
 unfolding finalizeStrengthOrder ordering

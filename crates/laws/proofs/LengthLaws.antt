@@ -1,16 +1,16 @@
--- A list's length by its counts: one that has each number below n at most once, and nothing else, is no longer than n; one that has each once has
--- length n; and one of length n that has each once has nothing else. Assumes nothing.
-use mathlib.Core.Path.{_≡_, refl, sym, _∙_}
+-- A list's length by its counts: one that has each number below n at most once, and nothing else, is no longer than n; if it has length n, it has
+-- each once, and conversely; and one of length n that has each once has nothing else. Assumes nothing.
+use mathlib.Core.Path.{_≡_, refl, sym, ap, _∙_}
 use mathlib.Core.Logic.{_⊎_, inl, inr}
 use mathlib.Core.Bool.{Bool, true, false}
 use mathlib.Core.List.{List, [], _∷_}
 use Prim.Native.Nat.{ℕ, zero, suc, _+_, _≤_, _<_}
 use native.Mathlib.Nat.{eq-or-lt-of-le}
 use native.Mathlib.Omega.{arith}
-use lib.Dec.{ltb}
+use lib.Dec.{eqb, ltb}
 use lib.ListN.{length}
-use borrow.Author.Tests.{ltb-true, ltb-false}
-use Rattle.model.specs.Lists.{All, count}
+use borrow.Author.Tests.{eqb-true, ltb-true, ltb-false}
+use Rattle.model.specs.Lists.{All, bit, count}
 use Rattle.laws.proofs.ListLaws.{bit-eq, bit-ne}
 
 -- how many elements are below n
@@ -52,6 +52,22 @@ module _ (n : ℕ) (xs : List ℕ) (only : All (λ x. x < n) xs) where
 
   pub length-once : ((a : ℕ) → a < n → count a xs ≡ 1) → length xs ≡ n
   length-once h = omega (arith, counted-length n xs only, counted-once xs n h)
+
+module _ (n : ℕ) (xs : List ℕ) (only : All (λ x. x < n) xs) (most : (a : ℕ) → a < n → count a xs ≤ 1) where
+  pub once-of-length : length xs ≡ n → (a : ℕ) → a < n → count a xs ≡ 1
+  once-of-length l a h = go (count a xs) refl
+    where
+      -- if a stood nowhere, it could stand in front
+      more : count a xs ≡ 0 → (b : ℕ) → b < n → count b (a ∷ xs) ≤ 1
+      more none b i = go (eqb b a) refl
+        where
+          go : (t : Bool) → eqb b a ≡ t → bit t + count b xs ≤ 1
+          go true e = omega (arith, ap (λ x. count x xs) (eqb-true b a e))
+          go false e = omega (arith, most b i)
+
+      go : (k : ℕ) → count a xs ≡ k → count a xs ≡ 1
+      go zero e = absurd (omega (arith, length-at-most-once n (a ∷ xs) (h, only) (more e)))
+      go (suc k) e = omega (arith, most a h)
 
 -- ---- Nothing else
 

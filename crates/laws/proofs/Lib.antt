@@ -1,5 +1,5 @@
--- What follows from the definitions. Paths; lists, trees and walks; strength; order; culling and erasing; deepening and adding; snapshots; what every
--- list of calls keeps; and demand 3. Files named Examples show that the laws' hypotheses can be met.
+-- What follows from the definitions. Paths; lists, trees and walks; strength; order; culling and erasing; deepening and adding; numbers in bytes
+-- and keys; snapshots; what every list of calls keeps; and demand 3. Files named Examples show that the laws' hypotheses can be met.
 pub mod PathLemmas
 pub mod PathGrammar
 pub mod PathParts
@@ -9,14 +9,20 @@ pub mod ListLaws
 pub mod LengthLaws
 pub mod SortLaws
 pub mod Trees
+pub mod ListsPermute
 pub mod FollowLaws
 pub mod WalkLaws
+pub mod SmallerLaws
 pub mod StrengthWalks
+pub mod StrengthTables
 pub mod StrengthCongruence
 pub mod StrengthLaws
 pub mod StrengthFlips
 pub mod StrengthExamples
 pub mod OrderLaws
+pub mod OrderPlaces
+pub mod OrderRings
+pub mod OrderKeys
 pub mod OrderExamples
 pub mod ErasableLaws
 pub mod CullingLaws
@@ -29,6 +35,7 @@ pub mod DeepenLaws
 pub mod AddLaws
 pub mod GraphExamples
 pub mod BigEndianLaws
+pub mod PackLaws
 pub mod StoredLaws
 pub mod SnapshotLaws
 pub mod SnapshotReadLaws
@@ -40,6 +47,7 @@ pub mod LegalAdded
 pub mod LegalAlike
 pub mod LegalErased
 pub mod CallsKeepLegal
+pub mod PlacesExamples
 pub mod LegalGrows
 pub mod Demand3
 pub mod Demand3Proof

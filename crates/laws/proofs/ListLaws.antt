@@ -102,6 +102,33 @@ pairs-distinct R (x ∷ xs) once h = (
   pairs-distinct R xs (λ a. omega (arith, once a)) (h .1),
 )
 
+pub pairs-once : (xs : List ℕ) → Pairs (λ a b. a ≡ b → ⊥) xs → (a : ℕ) → count a xs ≤ 1
+pairs-once [] h a = omega arith
+pairs-once (x ∷ xs) h a = go (eqb a x) refl (pairs-once xs (h .1) a)
+  where
+    go : (t : Bool) → eqb a x ≡ t → count a xs ≤ 1 → bit t + count a xs ≤ 1
+    go true e later = omega (arith, count-none a xs (rw (eqb-true a x e) (h .0)))
+    go false e later = omega arith
+
+pub pairs-both : (R S : ℕ → ℕ → Type 0) (xs : List ℕ) → Pairs R xs → Pairs S xs → Pairs (λ a b. R a b × S a b) xs
+pairs-both R S [] h k = tt
+pairs-both R S (x ∷ xs) h k = (
+  all-of (λ b. R x b × S x b) xs (λ b m. (all-at (R x) xs b (h .0) m, all-at (S x) xs b (k .0) m)),
+  pairs-both R S xs (h .1) (k .1),
+)
+
+-- two that stand there are one, or one of them stands before the other
+pub pairs-at : (R : ℕ → ℕ → Type 0) (xs : List ℕ) (a b : ℕ) → Pairs R xs → 0 < count a xs → 0 < count b xs → (a ≡ b) ⊎ (R a b ⊎ R b a)
+pairs-at R [] a b h m k = absurd (omega arith)
+pairs-at R (x ∷ xs) a b h m k = go (eqb a x) refl (eqb b x) refl m k (pairs-at R xs a b (h .1))
+  where
+    go : (s : Bool) → eqb a x ≡ s → (t : Bool) → eqb b x ≡ t → 0 < bit s + count a xs → 0 < bit t + count b xs
+        → (0 < count a xs → 0 < count b xs → (a ≡ b) ⊎ (R a b ⊎ R b a)) → (a ≡ b) ⊎ (R a b ⊎ R b a)
+    go true e true f m k later = inl (eqb-true a x e ∙ sym (eqb-true b x f))
+    go true e false f m k later = inr (inl (rw (eqb-true a x e) (all-at (R x) xs b (h .0) (omega arith))))
+    go false e true f m k later = inr (inr (rw (eqb-true b x f) (all-at (R x) xs a (h .0) (omega arith))))
+    go false e false f m k later = later (omega arith) (omega arith)
+
 -- ---- Filtering
 
 pub all-filter : (P : ℕ → Type 0) (k : ℕ → Bool) (xs : List ℕ) → All P xs → All (λ x. (k x ≡ true) × P x) (filter k xs)

@@ -298,7 +298,7 @@ module _ {n : ℕ} {keep : ℕ → Bool} {r : ℕ → ℕ} {u v : View} (legal :
       plain-lines-alike =
           rw (looks .depths a p k, looks .depths b q l, origins-alike, looks .siblings a p k, looks .siblings b q l, smaller-alike a b k l)
 
-      sibling-lines-alike : siblingLines v nodes′ (r a) (r b) ≡ siblingLines u nodes a b
+      pub sibling-lines-alike : siblingLines v nodes′ (r a) (r b) ≡ siblingLines u nodes a b
       unfolding siblingLines
       sibling-lines-alike =
           rw (
@@ -382,9 +382,10 @@ module _ {n : ℕ} {keep : ℕ → Bool} {r : ℕ → ℕ} {u v : View} (legal :
             let j : d ≡ b = omega (arith, la, lb) in
             absurd (differ (cc (eqb-true (u .origin a) (u .parent a) e, eqb-true (u .origin b) (u .parent b) f)))
 
-    -- so the lines are the same if two comparisons of siblings agree on lower pairs
+    -- so the lines are the same if two comparisons of siblings agree on lower pairs; of node 0, which has no sibling, nothing is asked
     pub lower-pairs-alike : (s s′ : ℕ → ℕ → Ordering)
-        → ((c d : ℕ) → c < n → d < n → keep c ≡ true → keep d ≡ true → c + d < a + b → r c + r d < r a + r b → s′ (r c) (r d) ≡ s c d)
+        → ((c d : ℕ) → 0 < c → 0 < d → c < n → d < n → keep c ≡ true → keep d ≡ true → c + d < a + b → r c + r d < r a + r b
+        → s′ (r c) (r d) ≡ s c d)
         → siblingLines v (nodesBy (v .parent) s′) (r a) (r b) ≡ siblingLines u (nodesBy (u .parent) s) a b
     lower-pairs-alike s s′ agree =
         let oa = legal .origin-lower a ha p in
@@ -401,7 +402,8 @@ module _ {n : ℕ} {keep : ℕ → Bool} {r : ℕ → ℕ} {u v : View} (legal :
         asked x y la lb kx ky falls =
             nodes-by-alike s s′ x y
             (λ t c d i j. let h = falls t c d i j in
-            agree c d (omega arith) (omega arith) (i .kept) (j .kept) h (sums-rise a b c d k l (i .kept) (j .kept) (omega arith) (omega arith) h))
+            agree c d (i .positive) (j .positive) (omega arith) (omega arith) (i .kept) (j .kept) h
+            (sums-rise a b c d k l (i .kept) (j .kept) (omega arith) (omega arith) h))
             (omega arith) (omega arith) kx ky
 
   -- with any fuel above the sum of the two numbers, on either side
@@ -419,7 +421,7 @@ module _ {n : ℕ} {keep : ℕ → Bool} {r : ℕ → ℕ} {u v : View} (legal :
           ≡ cond (i && j) (siblingLines u (nodesBy (u .parent) (siblingsUpTo u f)) a b) (smaller a b)
       go true e true e′ ih =
           lower-pairs-alike a b (ltb-true 0 a e) (ltb-true 0 b e′) p q k l (siblingsUpTo u f) (siblingsUpTo v g)
-          (λ c d i j m o h h′. ih c d i j m o (omega arith) (omega arith))
+          (λ c d _ _ i j m o h h′. ih c d i j m o (omega arith) (omega arith))
       go true e false e′ ih = refl
       go false e j e′ ih = refl
 

@@ -17,6 +17,11 @@ flip Less = Greater
 flip Equal = Equal
 flip Greater = Less
 
+pub flip-fixed : (o : Ordering) → o ≡ flip o → o ≡ Equal
+flip-fixed Less e = cc
+flip-fixed Equal e = refl
+flip-fixed Greater e = cc
+
 -- ---- The connectives
 
 pub eqb-sym : (x y : ℕ) → eqb x y ≡ eqb y x
@@ -35,7 +40,7 @@ flip-cond : (b : Bool) (x y : Ordering) → flip (cond b x y) ≡ cond b (flip x
 flip-cond true x y = refl
 flip-cond false x y = refl
 
-flip-smaller : (x y : ℕ) → flip (smaller x y) ≡ smaller y x
+pub flip-smaller : (x y : ℕ) → flip (smaller x y) ≡ smaller y x
 unfolding smaller
 flip-smaller x y = rw (eqb-sym y x) (go (ltb x y) refl (ltb y x) refl (eqb x y) refl)
   where
@@ -109,11 +114,11 @@ module _ (u : View) where
     unfolding plainLines
     flip-plain = simp (flip-first, flip-smaller, flip-nodes)
 
-    flip-lines : flip (siblingLines u nodes a b) ≡ siblingLines u nodes b a
+    pub flip-lines : flip (siblingLines u nodes a b) ≡ siblingLines u nodes b a
     unfolding siblingLines
     flip-lines = simp (flip-first, flip-cond, flip-smaller, flip-specializes, flip-plain, and-comm (u .special a) (u .special b))
 
-  flip-nodes-by : (s : ℕ → ℕ → Ordering) → ((x y : ℕ) → flip (s x y) ≡ s y x) → (a b : ℕ)
+  pub flip-nodes-by : (s : ℕ → ℕ → Ordering) → ((x y : ℕ) → flip (s x y) ≡ s y x) → (a b : ℕ)
       → flip (nodesBy (u .parent) s a b) ≡ nodesBy (u .parent) s b a
   unfolding nodesBy
   flip-nodes-by s flips a b = flip-parting s flips (chain (u .parent) a) (chain (u .parent) b)
@@ -183,12 +188,7 @@ module _ (u : View) where
   siblings-equal a b = ends-cond a b (ltb 0 a && ltb 0 b) _ _ (ends-lines a b u _) (ends-smaller a b)
 
   pub siblings-same : (a : ℕ) → compareSiblingNodeStrength u a a ≡ Equal
-  siblings-same a = go (compareSiblingNodeStrength u a a) (siblings-flip u a a)
-    where
-      go : (o : Ordering) → o ≡ flip o → o ≡ Equal
-      go Less e = cc
-      go Equal e = refl
-      go Greater e = cc
+  siblings-same a = flip-fixed (compareSiblingNodeStrength u a a) (siblings-flip u a a)
 
 -- ---- Nodes: chains that do not part are one chain, and a chain ends in its node
 

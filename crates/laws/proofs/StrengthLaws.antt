@@ -44,7 +44,7 @@ compare-siblings-lines {n} {u} legal a b ha hb p q =
     let itself = looks-like-itself n u in
     rw (lt-ltb 0 a ha, lt-ltb 0 b hb)
     (lower-pairs-alike legal itself a b ha hb p q refl refl (compareSiblingNodeStrength u) (siblingsUpTo u (a + b))
-    (λ c d i j _ _ h _. siblings-up-to-alike legal itself (suc (c + d)) (a + b) c d i j refl refl (omega arith) h))
+    (λ c d _ _ i j _ _ h _. siblings-up-to-alike legal itself (suc (c + d)) (a + b) c d i j refl refl (omega arith) h))
 
 -- ---- Nodes
 

@@ -51,7 +51,7 @@ is-less Greater e = absurd (false≢true e)
 
 module _ (n : ℕ) (parent : ℕ → ℕ) (children : ℕ → List ℕ) (tree : Tree n parent children) where
   -- what holds of each child of v, a higher node
-  of-children : (P : ℕ → Type 0) (v : ℕ) → ((c : ℕ) → c < n → v < c → parent c ≡ v → P c) → All P (children v)
+  pub of-children : (P : ℕ → Type 0) (v : ℕ) → ((c : ℕ) → c < n → v < c → parent c ≡ v → P c) → All P (children v)
   of-children P v f =
       all-imp (Child n parent v) P (children v) (λ c h. f c (h .1) (omega (arith, tree .lower c (h .0) (h .1))) (h .2))
       (all-children n parent children tree v)

@@ -6,6 +6,7 @@ pub mod Node
 pub mod Graph
 pub mod Strength
 pub mod Order
+pub mod Places
 pub mod Culling
 pub mod Erasing
 pub mod Deepening

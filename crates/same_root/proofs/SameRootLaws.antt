@@ -74,7 +74,7 @@ module _ (u : View) (bs : List ℕ) (a b : ℕ) where
   }
 
   -- the local line
-  alike-passed : RootsAlike u a b → (nodes : ℕ → ℕ → Ordering) → sameRootLines u nodes a b ≡ first (localLine u a b) (originsThenNumbers u nodes a b)
+  pub alike-passed : RootsAlike u a b → (nodes : ℕ → ℕ → Ordering) → sameRootLines u nodes a b ≡ first (localLine u a b) (originsThenNumbers u nodes a b)
   unfolding sameRootLines
   alike-passed r nodes =
       rw (passed (classDepth u a) (classDepth u b) _ (r .classes), passed (originHops u b) (originHops u a) _ (sym (r .hops)), sameRootLines)

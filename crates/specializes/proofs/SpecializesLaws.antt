@@ -17,7 +17,7 @@ use Rattle.walks.specs.Walks.{RootOf}
 use Rattle.verdicts.specs.declared.Verdict.{Verdict}
 use Rattle.verdicts.specs.declared.Verdict.the-variants.{Settled, Ask}
 use Rattle.verdicts.specs.Verdicts.{Pair, Weighed}
-use Rattle.verdicts.proofs.NumberLaws.{smaller-eq}
+use Rattle.laws.proofs.SmallerLaws.{smaller-eq}
 use Rattle.verdicts.proofs.VerdictLaws.{links-lower}
 
 -- ---- "Unless R(a), R(b) are nested: larger depth"

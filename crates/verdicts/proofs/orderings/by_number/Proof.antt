@@ -1,5 +1,5 @@
 -- `by_number` meets its contract: the tests are the definition's, in its order. Assumes nothing.
-use Rattle.verdicts.proofs.NumberLaws.{smaller-lt, smaller-eq, smaller-gt}
+use Rattle.laws.proofs.SmallerLaws.{smaller-lt, smaller-eq, smaller-gt}
 use native.Mathlib.Omega.{arith}
 use mathlib.Core.Path.{sym}
 use Rattle.verdicts.proofs.orderings.by_number.Statement.{statement}
