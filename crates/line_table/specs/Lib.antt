@@ -1,0 +1,2 @@
+-- The names that this crate's contracts cite.
+pub mod LineTable
