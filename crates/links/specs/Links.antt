@@ -1,7 +1,7 @@
 -- Child lists in an array, one after the other, and the links that they make.
 use mathlib.Core.Path.{_≡_}
 use mathlib.Core.List.{List, [], _∷_, _++_}
-use Prim.Native.Nat.{ℕ, zero, suc, _≤_, _<_}
+use Prim.Native.Nat.{ℕ, zero, suc, _+_, _≤_, _<_}
 use lib.ListN.{length, getD, set}
 use lib.Seq.{slice}
 use Rattle.model.specs.Arena.{slotAt, firstOf, lastOf}
@@ -61,3 +61,22 @@ linksWritten first last next zero bs = bs
 linksWritten first last next (suc n) bs =
     stored (slotAt n) (bigEndian 4 (getD first n 0) ++ (bigEndian 4 (getD last n 0) ++ bigEndian 4 (getD next n 0)))
     (linksWritten first last next n bs)
+
+-- ---- The same list by list: the sibling after each child, then the first and the last child of the parent
+
+abbrev pub nextStored : ℕ → ℕ → List ℕ → List ℕ
+nextStored n next bs = stored (slotAt n + 8) (bigEndian 4 next) bs
+
+abbrev pub endsStored : ℕ → ℕ → ℕ → List ℕ → List ℕ
+endsStored n first last bs = stored (slotAt n) (bigEndian 4 first ++ bigEndian 4 last) bs
+
+abbrev pub nextsStored : List ℕ → List ℕ → List ℕ
+nextsStored [] bs = bs
+nextsStored (c ∷ cs) bs = nextStored c (firstOf cs) (nextsStored cs bs)
+
+abbrev pub listStored : ℕ → List ℕ → List ℕ → List ℕ
+listStored p cs bs = endsStored p (firstOf cs) (lastOf cs) (nextsStored cs bs)
+
+abbrev pub listsStored : List ℕ → List ℕ → ℕ → List ℕ → List ℕ
+listsStored sorted ends zero bs = bs
+listsStored sorted ends (suc p) bs = listStored p (part sorted ends p) (listsStored sorted ends p bs)

@@ -1,7 +1,11 @@
 // The links that child lists make, and storing them: lists that stand in an array one after the other become first child, last child and next sibling of
-// each node in three arrays, and these and an order are stored in the arena, a loop each. It decides nothing and asks nothing of the graph.
-// specs/Links.antt says what stands in the arrays.
+// each node, stored list by list (module `storing`), or made in three arrays that are stored in the arena, as an order is, a loop each. It decides
+// nothing and asks nothing of the graph.
+// specs/Links.antt says what stands in the arrays, and what is stored.
+mod storing;
+
 use model::NodeId;
+pub use storing::store_lists;
 ghost use mathlib.Core.Path.{_≡_};
 ghost use Prim.Native.Nat.{ℕ, _<_, _≤_};
 ghost use lib.ListN.{length, getD};

@@ -2,57 +2,42 @@
 -- Assumes nothing.
 use mathlib.Core.Path.{_≡_, refl, sym, ap, _∙_}
 use mathlib.Core.Bool.{Bool, true, false, cond}
-use mathlib.Core.List.{List}
-use Prim.Native.Nat.{ℕ, zero, suc, _+_, _<_}
+use Prim.Native.Nat.{ℕ, zero, suc, _+_, _≤_, _<_}
 use native.Mathlib.Omega.{arith}
 use lib.Dec.{eqb}
-use lib.ListN.{getD}
 use borrow.Author.Tests.{eqb-false, eq-eqb, ne-eqb}
-use Rattle.model.specs.Arena.{countIn}
-use Rattle.model.specs.ArenaCalls.{Opened, Readable}
 use Rattle.model.specs.Node.{invalid}
-use Rattle.arena.specs.Slot.{parentIn}
-use Rattle.arena.proofs.ArenaBack.{parent-lower}
-use Rattle.arena.proofs.ReadNodes.{all, fields-read}
 use Rattle.ordering.specs.Ordering.{onward}
 
-pub parent-below : (bs : List ℕ) → Opened bs → (n : ℕ) → 0 < n → n < countIn bs → parentIn bs n < n
-parent-below bs opened n higher below =
-    let r : Readable bs n = record { opened = opened; below = below } in
-    omega (arith, fields-read bs n r .parent, parent-lower bs (all bs n r) n higher below)
-
-module _ (next bs : List ℕ) (opened : Opened bs) where
-  onward-fuel : (j k n : ℕ) → n < j → n < k → n < countIn bs → onward next bs j n ≡ onward next bs k n
+module _ (next up : ℕ → ℕ) (from : ℕ) (lower : (y : ℕ) → 0 < y → y ≤ from → up y < y) where
+  onward-fuel : (j k n : ℕ) → n < j → n < k → n ≤ from → onward next up j n ≡ onward next up k n
   onward-fuel zero k n a b h = absurd (omega arith)
   onward-fuel (suc j) zero n a b h = absurd (omega arith)
-  onward-fuel (suc j) (suc k) n a b h = go (eqb n 0) refl (onward-fuel j k (parentIn bs n))
+  onward-fuel (suc j) (suc k) n a b h = go (eqb n 0) refl (onward-fuel j k (up n))
     where
-      go : (t : Bool) → eqb n 0 ≡ t
-          → (parentIn bs n < j → parentIn bs n < k → parentIn bs n < countIn bs → onward next bs j (parentIn bs n) ≡ onward next bs k (parentIn bs n))
-          → cond t invalid (cond (eqb (getD next n 0) invalid) (onward next bs j (parentIn bs n)) (getD next n 0))
-          ≡ cond t invalid (cond (eqb (getD next n 0) invalid) (onward next bs k (parentIn bs n)) (getD next n 0))
+      go : (t : Bool) → eqb n 0 ≡ t → (up n < j → up n < k → up n ≤ from → onward next up j (up n) ≡ onward next up k (up n))
+          → cond t invalid (cond (eqb (next n) invalid) (onward next up j (up n)) (next n))
+          ≡ cond t invalid (cond (eqb (next n) invalid) (onward next up k (up n)) (next n))
       go true e above = refl
       go false e above =
-          let lower = parent-below bs opened n (omega (arith, eqb-false n 0 e)) h in
-          ap (λ (m : ℕ). cond (eqb (getD next n 0) invalid) m (getD next n 0)) (above (omega arith) (omega arith) (omega arith))
+          let down = lower n (omega (arith, eqb-false n 0 e)) h in
+          ap (λ (m : ℕ). cond (eqb (next n) invalid) m (next n)) (above (omega arith) (omega arith) (omega arith))
 
   -- one node's turn
-  onward-at : (n : ℕ) → (n ≡ 0 → ⊥)
-      → onward next bs (n + 1) n ≡ cond (eqb (getD next n 0) invalid) (onward next bs n (parentIn bs n)) (getD next n 0)
+  onward-at : (n : ℕ) → (n ≡ 0 → ⊥) → onward next up (n + 1) n ≡ cond (eqb (next n) invalid) (onward next up n (up n)) (next n)
   onward-at n other =
-      ap (λ (k : ℕ). onward next bs k n) (let e : n + 1 ≡ suc n = omega arith in e)
-      ∙ ap (λ (t : Bool). cond t invalid (cond (eqb (getD next n 0) invalid) (onward next bs n (parentIn bs n)) (getD next n 0))) (ne-eqb n 0 other)
+      ap (λ (k : ℕ). onward next up k n) (let e : n + 1 ≡ suc n = omega arith in e)
+      ∙ ap (λ (t : Bool). cond t invalid (cond (eqb (next n) invalid) (onward next up n (up n)) (next n))) (ne-eqb n 0 other)
 
-  pub onward-up : (n : ℕ) → (n ≡ 0 → ⊥) → n < countIn bs → getD next n 0 ≡ invalid
-      → onward next bs (parentIn bs n + 1) (parentIn bs n) ≡ onward next bs (n + 1) n
+  pub onward-up : (n : ℕ) → (n ≡ 0 → ⊥) → n ≤ from → next n ≡ invalid → onward next up (up n + 1) (up n) ≡ onward next up (n + 1) n
   onward-up n other h none =
-      let lower = parent-below bs opened n (omega arith) h in
-      onward-fuel (parentIn bs n + 1) n (parentIn bs n) (omega arith) (omega arith) (omega arith)
-      ∙ ap (λ (t : Bool). cond t (onward next bs n (parentIn bs n)) (getD next n 0)) (sym (eq-eqb (getD next n 0) invalid none)) ∙ sym (onward-at n other)
+      let down = lower n (omega arith) h in
+      onward-fuel (up n + 1) n (up n) (omega arith) (omega arith) (omega arith)
+      ∙ ap (λ (t : Bool). cond t (onward next up n (up n)) (next n)) (sym (eq-eqb (next n) invalid none)) ∙ sym (onward-at n other)
 
-  pub onward-out : (n : ℕ) → (n ≡ 0 → ⊥) → (getD next n 0 ≡ invalid → ⊥) → getD next n 0 ≡ onward next bs (n + 1) n
+  pub onward-out : (n : ℕ) → (n ≡ 0 → ⊥) → (next n ≡ invalid → ⊥) → next n ≡ onward next up (n + 1) n
   onward-out n other some =
-      ap (λ (t : Bool). cond t (onward next bs n (parentIn bs n)) (getD next n 0)) (sym (ne-eqb (getD next n 0) invalid some)) ∙ sym (onward-at n other)
+      ap (λ (t : Bool). cond t (onward next up n (up n)) (next n)) (sym (ne-eqb (next n) invalid some)) ∙ sym (onward-at n other)
 
-  pub onward-root : (n : ℕ) → n ≡ 0 → invalid ≡ onward next bs (n + 1) n
+  pub onward-root : (n : ℕ) → n ≡ 0 → invalid ≡ onward next up (n + 1) n
   onward-root n e = rw e

@@ -1,5 +1,6 @@
--- Climbing; the walk by steps; what the stores leave; and all together.
+-- Climbing; the walk by steps; storing it; what the stores leave; and all together.
 mod ClimbLaws
 mod StepLaws
+mod WayLaws
 mod EncodeOrdered
 mod OrderingLaws

@@ -18,7 +18,6 @@ use Rattle.laws.proofs.LengthLaws.{length-once}
 use Rattle.laws.proofs.ListLaws.{bit-eq}
 use Rattle.laws.proofs.Trees.{Child, Tree, child-once}
 use Rattle.laws.proofs.WalkLaws.{walk-fuel, walk-once, walk-only}
-use Rattle.arena.specs.Slot.{parentIn}
 use Rattle.ordering.specs.Ordering.{onward, stepOf, stepAt}
 
 -- ---- Those after x in a list
@@ -124,53 +123,53 @@ module _ (n : ℕ) (parent : ℕ → ℕ) (lists : ℕ → List ℕ) (tree : Tre
   abbrev Onward : ℕ → ℕ → Type 0
   Onward x y = (after x ≡ left y) × Fine y
 
-  module _ (first next bs : List ℕ) (parents : (x : ℕ) → 0 < x → x < n → parentIn bs x ≡ parent x)
-      (firsts : (x : ℕ) → x < n → getD first x 0 ≡ firstOf (lists x))
-      (nexts : (x : ℕ) → 0 < x → x < n → getD next x 0 ≡ afterIn x (lists (parent x))) where
-    onward-left : (k x : ℕ) → x < k → x < n → Onward x (onward next bs k x)
+  module _ (first next up : ℕ → ℕ) (parents : (x : ℕ) → 0 < x → x < n → up x ≡ parent x)
+      (firsts : (x : ℕ) → x < n → first x ≡ firstOf (lists x))
+      (nexts : (x : ℕ) → 0 < x → x < n → next x ≡ afterIn x (lists (parent x))) where
+    onward-left : (k x : ℕ) → x < k → x < n → Onward x (onward next up k x)
     onward-left zero x a h = absurd (omega arith)
     onward-left (suc k) x a h = go (eqb x 0) refl (onward-left k (parent x))
       where
-        up : 0 < x → (ls : List ℕ) → later x (lists (parent x)) ≡ ls → (parent x < k → parent x < n → Onward (parent x) (onward next bs k (parent x)))
-            → Onward x (cond (eqb (firstOf ls) invalid) (onward next bs k (parent x)) (firstOf ls))
-        up higher [] e above =
+        goes-up : 0 < x → (ls : List ℕ) → later x (lists (parent x)) ≡ ls → (parent x < k → parent x < n → Onward (parent x) (onward next up k (parent x)))
+            → Onward x (cond (eqb (firstOf ls) invalid) (onward next up k (parent x)) (firstOf ls))
+        goes-up higher [] e above =
             let lower = tree .lower x higher h in
             let rest = above (omega arith) (omega arith) in
             (after-open x higher h ∙ ap (λ (l : List ℕ). concatMap (walkUpTo lists n) l ++ after (parent x)) e ∙ rest .0, rest .1)
-        up higher (z ∷ zs) e above =
+        goes-up higher (z ∷ zs) e above =
             let in-list : 0 < count z (lists (parent x)) =
             omega (arith, later-count x (lists (parent x)) z, ap (count z) e, bit-eq z z refl) in
             let child = tree .only (parent x) z in-list in
             let ne : z ≡ invalid → ⊥ = λ q. omega (arith, child .1) in
             let rest : later z (lists (parent x)) ≡ zs = later-later x (lists (parent x)) z zs e (child-once n parent lists tree (parent x) z) in
-            subst (λ (t : Bool). Onward x (cond t (onward next bs k (parent x)) z)) (sym (ne-eqb z invalid ne)) (
+            subst (λ (t : Bool). Onward x (cond t (onward next up k (parent x)) z)) (sym (ne-eqb z invalid ne)) (
               after-open x higher h ∙ ap (λ (l : List ℕ). concatMap (walkUpTo lists n) l ++ after (parent x)) e
                   ∙ sym (from-child (parent x) z zs child rest) ∙ sym (left-node z ne),
               λ q. child .1,
             )
 
-        go : (t : Bool) → eqb x 0 ≡ t → (parent x < k → parent x < n → Onward (parent x) (onward next bs k (parent x)))
-            → Onward x (cond t invalid (cond (eqb (getD next x 0) invalid) (onward next bs k (parentIn bs x)) (getD next x 0)))
+        go : (t : Bool) → eqb x 0 ≡ t → (parent x < k → parent x < n → Onward (parent x) (onward next up k (parent x)))
+            → Onward x (cond t invalid (cond (eqb (next x) invalid) (onward next up k (up x)) (next x)))
         go true e above = (ap after (eqb-true x 0 e), λ q. absurd (q refl))
         go false e above =
             let higher : 0 < x = omega (arith, eqb-false x 0 e) in
-            subst (λ (y : ℕ). Onward x (cond (eqb y invalid) (onward next bs k (parentIn bs x)) y))
+            subst (λ (y : ℕ). Onward x (cond (eqb y invalid) (onward next up k (up x)) y))
             (sym (nexts x higher h ∙ after-later x (lists (parent x))))
-            (subst (λ (y : ℕ). Onward x (cond (eqb (firstOf (later x (lists (parent x)))) invalid) (onward next bs k y) (firstOf (later x (lists (parent x))))))
-            (sym (parents x higher h)) (up higher (later x (lists (parent x))) refl above))
+            (subst (λ (y : ℕ). Onward x (cond (eqb (firstOf (later x (lists (parent x)))) invalid) (onward next up k y) (firstOf (later x (lists (parent x))))))
+            (sym (parents x higher h)) (goes-up higher (later x (lists (parent x))) refl above))
 
     -- x, and then what is left at the next
     abbrev Step : ℕ → ℕ → Type 0
     Step x y = (left x ≡ x ∷ left y) × Fine y
 
-    left-step : (x : ℕ) → x < n → Step x (stepOf first next bs x)
+    left-step : (x : ℕ) → x < n → Step x (stepOf first next up x)
     left-step x h =
-        subst (λ (y : ℕ). Step x (cond (eqb y invalid) (onward next bs (x + 1) x) y)) (sym (firsts x h)) (go (lists x) refl)
+        subst (λ (y : ℕ). Step x (cond (eqb y invalid) (onward next up (x + 1) x) y)) (sym (firsts x h)) (go (lists x) refl)
       where
         here : left x ≡ x ∷ (concatMap (walkUpTo lists n) (lists x) ++ after x)
         here = left-node x (λ e. omega arith) ∙ ap (λ (l : List ℕ). l ++ after x) (under-open x h)
 
-        go : (cs : List ℕ) → lists x ≡ cs → Step x (cond (eqb (firstOf cs) invalid) (onward next bs (x + 1) x) (firstOf cs))
+        go : (cs : List ℕ) → lists x ≡ cs → Step x (cond (eqb (firstOf cs) invalid) (onward next up (x + 1) x) (firstOf cs))
         go [] e =
             let rest = onward-left (x + 1) x (omega arith) h in
             (here ∙ ap (λ (l : List ℕ). x ∷ (concatMap (walkUpTo lists n) l ++ after x)) e ∙ ap (λ (l : List ℕ). x ∷ l) (rest .0), rest .1)
@@ -178,7 +177,7 @@ module _ (n : ℕ) (parent : ℕ → ℕ) (lists : ℕ → List ℕ) (tree : Tre
             let child = tree .only x c (omega (arith, ap (count c) e, bit-eq c c refl)) in
             let ne : c ≡ invalid → ⊥ = λ q. omega (arith, child .1) in
             let rest : later c (lists x) ≡ cs = ap (later c) e ∙ later-first c cs in
-            subst (λ (t : Bool). Step x (cond t (onward next bs (x + 1) x) c)) (sym (ne-eqb c invalid ne)) (
+            subst (λ (t : Bool). Step x (cond t (onward next up (x + 1) x) c)) (sym (ne-eqb c invalid ne)) (
               here ∙ ap (λ (l : List ℕ). x ∷ (concatMap (walkUpTo lists n) l ++ after x)) e
                   ∙ ap (λ (l : List ℕ). x ∷ l) (sym (from-child x c cs child rest) ∙ sym (left-node c ne)),
               λ q. child .1,
@@ -191,7 +190,7 @@ module _ (n : ℕ) (parent : ℕ → ℕ) (lists : ℕ → List ℕ) (tree : Tre
       walk-length = length-once n (walk lists n) (walk-only n parent lists tree some-node) (walk-once n parent lists tree)
 
       abbrev at : ℕ → ℕ
-      at k = stepAt first next bs k
+      at k = stepAt first next up k
 
       node-at : (k : ℕ) → k < n → drop k (walk lists n) ≡ left (at k) → Fine (at k) → at k < n
       node-at k h e fine =

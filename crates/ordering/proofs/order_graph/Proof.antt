@@ -1,84 +1,70 @@
--- `order_graph` meets its contract: where every list has an order, `write_order` leaves the ordered graph; else nothing is written. Assumes
--- nothing.
-use mathlib.Core.Path.{refl, sym, subst, _∙_}
-use Prim.Native.Nat.{ℕ}
+-- `order_graph` meets its contract: lists that stand in order are an order of the graph; else `sort_graph` decides. Assumes nothing.
+use mathlib.Core.Path.{sym, subst}
+use mathlib.Core.Bool.{true}
 use native.Mathlib.Omega.{arith}
 use borrow.Author.Needs.{needs}
-use borrow.Author.Tests.{not-true, not-false}
 use Rattle.model.specs.Arena.{decode}
-use Rattle.model.specs.Order.{sortedChildren}
-use Rattle.arena.proofs.ReadNodes.{sizes}
-use Rattle.links.specs.Links.{Segments}
+use Rattle.laws.proofs.StoredLaws.{bytes-by-place}
+use Rattle.sorting.specs.Standing.{Stands}
+use Rattle.ordering.proofs.OrderingLaws.{standing-has-order}
 use Rattle.ordering.proofs.order_graph.Statement.{statement}
 use Rattle.ordering.proofs.order_graph.Tie as tie
 
 count-requires : tie.Need-count-requires
 count-requires c κs = search needs
 
-local-root-requires : tie.Need-local-root-requires
-local-root-requires c κs = search needs
+stands-requires : tie.Need-stands-requires
+stands-requires c κs = search needs
 
-slice-aggregate-sort-children : tie.Need-slice-aggregate-sort-children
-slice-aggregate-sort-children c = search needs
+-- the lists stand in order
+stands : (c : tie.Then1) → Stands (decode (c .before .before .before .before .before .before .args .arena .now)) true
+stands c =
+    let s = c .before .before .before .before .before .before in
+    subst (Stands (decode (s .args .arena .now))) (c .if1 .taken) (c .before .stands .ensures)
 
-slice-aggregate-sort-children-2 : tie.Need-slice-aggregate-sort-children-2
-slice-aggregate-sort-children-2 c = search needs
-
-sort-children-requires : tie.Need-sort-children-requires
-sort-children-requires c κs = search needs
+write-standing-requires : tie.Need-write-standing-requires
+write-standing-requires c κs =
+    let test = c .before in
+    let read = test .before .before .before in
+    let s = read .before .before .before in
+    (s .pre .0, read .count .ensures, omega (arith, s .pre .1, read .count .ensures), stands test)
 
 same-length : tie.Need-same-length
 same-length c = search needs
 
 returns : tie.Need-returns
 returns c =
-    let sorts = c .before .before .before in
-    record { answer = sym (not-true _ (c .if1 .taken)) ∙ sorts .sort-children .ensures .answer; bytes = refl }
+    let write = c .before .before in
+    let test = write .before .before in
+    let known = test .before .before .before .before .before in
+    let s = known .before in
+    record {
+      answer = sym (standing-has-order (s .args .arena .now) (bytes-by-place (s .args .arena .now) (λ k. known .slice-known .given k .fits)) (s .pre .0)
+          (stands test));
+      bytes = write .write-standing .ensures;
+    }
 
-slice-aggregate-write-order : tie.Need-slice-aggregate-write-order
-slice-aggregate-write-order c = search needs
-
-slice-aggregate-write-order-2 : tie.Need-slice-aggregate-write-order-2
-slice-aggregate-write-order-2 c = search needs
-
-write-order-requires : tie.Need-write-order-requires
-write-order-requires c κs =
-    let test = c .before .before .before in
-    let sorts = test .before .before .before in
-    let count = sorts .before .before .before .before .before .before in
-    let s = count .before .before .before in
-    let a = s .args in
-    let counted = count .count .ensures in
-    let sorted = sorts .sort-children .last .1 .1 .1 .0 in
-    let ends = sorts .sort-children .last .1 .1 .1 .1 .0 in (
-      (s .pre .0, counted, omega (arith, s .pre .1)),
-      subst (λ (n : ℕ). Segments (sortedChildren (decode (a .arena .now))) n sorted ends) (sizes (a .arena .now) (s .pre .0) ∙ sym counted)
-          (sorts .sort-children .ensures .segments (not-false _ (test .if1 .left))),
-    )
+sort-graph-requires : tie.Need-sort-graph-requires
+sort-graph-requires c κs =
+    let read = c .before .before .before .before in
+    let s = read .before .before .before in
+    (s .pre .0, read .count .ensures, omega (arith, s .pre .1, read .count .ensures))
 
 same-length-2 : tie.Need-same-length-2
 same-length-2 c = search needs
 
 returns-2 : tie.Need-returns-2
-returns-2 c =
-    let write = c .before .before in
-    let test = write .before .before .before .before in
-    let sorts = test .before .before .before in
-    record { answer = sym (not-false _ (test .if1 .left)) ∙ sorts .sort-children .ensures .answer; bytes = write .write-order .ensures }
+returns-2 c = search needs
 
 pub order-graph-spec : {M : Type 1} → statement M
 order-graph-spec =
     tie.close
     (tie.spec
     count-requires
-    local-root-requires
-    slice-aggregate-sort-children
-    slice-aggregate-sort-children-2
-    sort-children-requires
+    stands-requires
+    write-standing-requires
     same-length
     returns
-    slice-aggregate-write-order
-    slice-aggregate-write-order-2
-    write-order-requires
+    sort-graph-requires
     same-length-2
     returns-2)

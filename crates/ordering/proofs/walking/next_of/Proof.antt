@@ -1,27 +1,22 @@
 -- `walking::next_of` meets its contract. Assumes nothing.
-use native.Mathlib.Omega.{arith}
-use borrow.Author.Needs.{needs}
 use borrow.Author.Tests.{eq-eqb, ne-eqb}
-use Rattle.arena.proofs.ReadNodes.{has-slot}
+use mathlib.Core.Path.{sym, _∙_}
 use Rattle.ordering.proofs.walking.next_of.Statement.{statement}
 use Rattle.ordering.proofs.walking.next_of.Tie as tie
 
-mul-child : tie.Need-mul-child
-mul-child c = search needs
-
-shared-slice-read-child : tie.Need-shared-slice-read-child
-shared-slice-read-child c =
-    let s = c .before .before .before .before in
-    omega (arith, s .pre .1, s .pre .2, has-slot _ (s .args .x) (s .pre .0))
+first-child-requires : tie.Need-first-child-requires
+first-child-requires c κs = let s = c .before in record { whole = s .pre .whole; within = s .pre .within }
 
 returns : tie.Need-returns
-returns c = rw (ne-eqb _ _ (c .if1 .taken))
+returns c =
+    let e = c .before .first-child .ensures in
+    rw (ne-eqb _ _ (λ none. c .if1 .taken (e ∙ none))) e
 
 climb-requires : tie.Need-climb-requires
-climb-requires c κs = let s = c .before .before .before .before .before in (s .pre .0, s .pre .2)
+climb-requires c κs = c .before .before .before .pre
 
 returns-2 : tie.Need-returns-2
-returns-2 c = rw (eq-eqb _ _ (c .before .if1 .left)) (c .climb .ensures)
+returns-2 c = rw (eq-eqb _ _ (sym (c .before .before .first-child .ensures) ∙ c .before .if1 .left)) (c .climb .ensures)
 
 pub next-of-spec : {M : Type 1} → statement M
-next-of-spec = tie.close (tie.spec mul-child shared-slice-read-child returns climb-requires returns-2)
+next-of-spec = tie.close (tie.spec first-child-requires returns climb-requires returns-2)
