@@ -95,6 +95,7 @@ pub fn check_desc(arena: &[u8], count: u32, desc: NodeDesc, path: &[u8]) -> Chec
         origin,
         specs_told(desc.flags, desc.has_specs),
         path,
+        path::prim_count(path),
     )
 }
 

@@ -1,5 +1,5 @@
 // Paths on lent bytes: whether they are well formed, their prim count, parent, last name and introduction path, equality, and appending a
-// child's name. No public function has a `requires`: on bytes that are no path each answers what its definition gives for them. Only
+// child's name. No public function has a `requires` on a path: on bytes that are none each answers what its definition gives for them. Only
 // `append_child_name` copies; every other path handed back is a part of the caller's. The definitions are in model/specs/Path.antt.
 mod joining;
 
@@ -8,6 +8,7 @@ use model::PrimCount;
 use model::Refusal;
 ghost use mathlib.Core.Path.{_≡_};
 ghost use Prim.Native.Nat.{_<_};
+ghost use Rattle.path_tables.specs.Tables.{Tables};
 ghost use Rattle.model.specs.Path.{wellFormed, countPrims, parent, lastName, appendChildName, written, pathAtIntroDepth, samePath};
 
 // How many names the path has, or that the bytes are no path.
@@ -18,6 +19,18 @@ pub fn prim_count(path: &[u8]) -> PrimCount
         return PrimCount::Malformed;
     }
     path_scan::read_path(path)
+}
+
+// The same, by the tables of crates/path_tables, which the caller makes once for many paths.
+pub fn prim_count_by(kinds: &[u8], pairs: &[u64], path: &[u8]) -> PrimCount
+    requires { ⌜ Tables (now kinds) (now pairs) ⌝ }
+    ensures { λ r. ⌜ r ≡ countPrims (now (path .entry)) ⌝ }
+{
+    let length = path.len();
+    if 255 < length {
+        return PrimCount::Malformed;
+    }
+    path_tables::read_path(kinds, pairs, path)
 }
 
 // Whether the bytes are a path (question 5).

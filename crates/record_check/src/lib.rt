@@ -7,6 +7,7 @@ ghost use mathlib.Core.Path.{_≡_};
 ghost use mathlib.Core.Bool.{_&&_};
 ghost use Prim.Native.Nat.{_≤_};
 ghost use lib.Dec.{eqb};
+ghost use Rattle.model.specs.Path.{countPrims};
 ghost use Rattle.model.specs.Node.{rootArc, hasFlag, inertFlag, culledFlag};
 ghost use Rattle.record_check.specs.RecordCheck.{rootAt, linksAt, arcAt, kindAt, roomAt, questionsAt, RecordChecked};
 
@@ -119,7 +120,8 @@ fn narrow(names: u16) -> u8
     names as u8
 }
 
-// The first question that a record's answer to is no, where `count` nodes with `path_bytes` bytes of paths come before it; or its prim count.
+// The first question that a record's answer to is no, where `count` nodes with `path_bytes` bytes of paths come before it; or its prim count. `read` is what its
+// path was read as: how it is read is the caller's choice.
 pub fn check_record(
     count: u32,
     path_bytes: u32,
@@ -130,14 +132,14 @@ pub fn check_record(
     origin: u32,
     has_specs: u8,
     path: &[u8],
+    read: PrimCount,
 ) -> Checked
-    requires { ⌜ «path_bytes» ≤ 32768 ⌝ }
+    requires { ⌜ («path_bytes» ≤ 32768) × (read ≡ countPrims (now path)) ⌝ }
     ensures { λ r. ⌜ RecordChecked (questionsAt count «path_bytes» «has_root» arc flags parent origin «has_specs» (now (path .entry))) (now (path .entry)) r ⌝ }
 {
     if !links_allowed(count, arc, flags, parent, origin) {
         return Checked::Refused(Refusal::Node);
     }
-    let read = path::prim_count(path);
     let PrimCount::Names(names) = read else {
         return Checked::Refused(Refusal::Path);
     };

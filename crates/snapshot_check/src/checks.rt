@@ -13,6 +13,7 @@ ghost use Prim.Native.Nat.{_+_, _≤_};
 ghost use lib.Dec.{eqb, ltb};
 ghost use lib.ListN.{length, take, drop};
 ghost use Rattle.model.specs.Snapshot.{field, readRecord, readRecords, readSnapshot};
+ghost use Rattle.path_tables.specs.Tables.{Tables};
 ghost use Rattle.record_check.specs.RecordCheck.{RecordChecked};
 ghost use Rattle.snapshot_check.specs.Reading.{countedAs, Exact, RecordAt, questionsOf, RecordsChecked};
 
@@ -82,7 +83,15 @@ fn with_root(has_root: bool, n: u32, arc: u8) -> bool
 }
 
 // Questions 4 to 7 of a record, where n nodes with `path_bytes` bytes of paths come before it. A field that is missing, which none is, refuses 12.
-fn check_one(body: &[u8], n: u32, path_bytes: u32, has_root: bool) -> Checked
+fn check_one(
+    kinds: &[u8],
+    pairs: &[u64],
+    body: &[u8],
+    n: u32,
+    path_bytes: u32,
+    has_root: bool,
+) -> Checked
+    requires { ⌜ Tables (now kinds) (now pairs) ⌝ }
     requires { ⌜ (28 ≤ length (now body)) × («path_bytes» ≤ 32768) ⌝ }
     ensures { λ r. ⌜ RecordChecked (questionsOf n «path_bytes» «has_root» (readRecord (now (body .entry)))) (readRecord (now (body .entry)) .path) r ⌝ }
 {
@@ -101,6 +110,7 @@ fn check_one(body: &[u8], n: u32, path_bytes: u32, has_root: bool) -> Checked
     let Byte::Value(has_specs) = fields::take_u8(body, 26) else {
         return Checked::Refused(Refusal::Snapshot);
     };
+    let path = &body[27..];
     record_check::check_record(
         n,
         path_bytes,
@@ -110,7 +120,8 @@ fn check_one(body: &[u8], n: u32, path_bytes: u32, has_root: bool) -> Checked
         parent,
         origin,
         has_specs,
-        &body[27..],
+        path,
+        path::prim_count_by(kinds, pairs, path),
     )
 }
 
@@ -120,13 +131,15 @@ pub fn check_records(bytes: &[u8], count: u32, prims: &mut [u8]) -> Finished
     requires { ⌜ length (now prims) ≡ 1024 ⌝ }
     ensures { λ r. ⌜ RecordsChecked (now (bytes .entry)) r (now (prims .exit)) ⌝ }
 {
+    let kinds = path_tables::kinds();
+    let pairs = path_tables::pairs();
     let mut at: usize = 7;
     let mut path_bytes: u32 = 0;
     let mut has_root = false;
     let mut n: u32 = 0;
     while n < count {
         let record = record_at(bytes, at);
-        let checked = check_one(record, n, path_bytes, has_root);
+        let checked = check_one(&kinds, &pairs, record, n, path_bytes, has_root);
         match checked {
             Checked::Refused(refusal) => {
                 return Finished::Refused(refusal);

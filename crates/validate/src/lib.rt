@@ -8,6 +8,7 @@ ghost use Prim.Native.Nat.{_≤_, _<_};
 ghost use lib.Dec.{eqb};
 ghost use lib.ListN.{length};
 ghost use Rattle.model.specs.Arena.{arenaBytes, countIn, recordLengthIn, localRootIn, marksRight, holdsGraph};
+ghost use Rattle.path_tables.specs.Tables.{Tables};
 ghost use Rattle.arena.specs.Slot.{HasSlot, arcIn, parentIn};
 ghost use Rattle.validate.specs.Validate.{marksAt, rootWith, depthRight, recordRightAfter, recordsRight, entriesRight, orderRight};
 
@@ -69,8 +70,19 @@ fn depth_right(arena: &[u8], n: u32, parent: u32) -> bool
     arena::shallow(arena) == 1
 }
 
-// Whether the record of node n is right, after records that have `path_bytes` bytes of paths and the local root `root`, 0 for none.
-fn record_right(arena: &[u8], n: u32, length: u16, arc: u8, path_bytes: u32, root: u32) -> bool
+// Whether the record of node n is right, after records that have `path_bytes` bytes of paths and the local root `root`, 0 for none. Its path is read by the
+// tables lent.
+fn record_right(
+    kinds: &[u8],
+    pairs: &[u64],
+    arena: &[u8],
+    n: u32,
+    length: u16,
+    arc: u8,
+    path_bytes: u32,
+    root: u32,
+) -> bool
+    requires { ⌜ Tables (now kinds) (now pairs) ⌝ }
     requires { ⌜ HasSlot (now arena) n × (length ≡ recordLengthIn (now arena) n) × (arc ≡ arcIn (now arena) n) × («path_bytes» ≤ 32768) ⌝ }
     ensures { λ r. ⌜ r ≡ recordRightAfter (now (arena .entry)) n «path_bytes» root ⌝ }
 {
@@ -81,6 +93,7 @@ fn record_right(arena: &[u8], n: u32, length: u16, arc: u8, path_bytes: u32, roo
         return false;
     }
     let parent = arena::parent(arena, n);
+    let path = arena::path(arena, n);
     let checked = record_check::check_record(
         n,
         path_bytes,
@@ -90,7 +103,8 @@ fn record_right(arena: &[u8], n: u32, length: u16, arc: u8, path_bytes: u32, roo
         parent,
         arena::origin(arena, n),
         arena::has_specs(arena, n),
-        arena::path(arena, n),
+        path,
+        path::prim_count_by(kinds, pairs, path),
     );
     let Checked::Accepted(prims) = checked else {
         return false;
@@ -130,13 +144,15 @@ fn records_right(arena: &[u8], count: u32) -> bool
     requires { ⌜ (length (now arena) ≡ arenaBytes) × (count ≡ countIn (now arena)) × (count ≤ 1024) ⌝ }
     ensures { λ r. ⌜ r ≡ recordsRight (now (arena .entry)) ⌝ }
 {
+    let kinds = path_tables::kinds();
+    let pairs = path_tables::pairs();
     let mut path_bytes: u32 = 0;
     let mut root: u32 = 0;
     let mut n: u32 = 0;
     while n < count {
         let length = arena::record_length(arena, n);
         let arc = arena::arc(arena, n);
-        if !record_right(arena, n, length, arc, path_bytes, root) {
+        if !record_right(&kinds, &pairs, arena, n, length, arc, path_bytes, root) {
             return false;
         }
         path_bytes += (length - 27) as u32;

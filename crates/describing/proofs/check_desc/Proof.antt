@@ -24,16 +24,20 @@ local-root-requires c κs = search needs
 specs-told-requires : tie.Need-specs-told-requires
 specs-told-requires c κs = search needs
 
+prim-count-requires : tie.Need-prim-count-requires
+prim-count-requires c κs = search needs
+
 check-record-requires : tie.Need-check-record-requires
-check-record-requires c κs = search needs
+check-record-requires c κs = (search needs, c .prim-count .ensures)
 
 returns : tie.Need-returns
 returns c =
-    let a = c .before .before .before .before .before .before .before .before .args in
-    let pre = c .before .before .before .before .before .before .before .before .pre in
+    let a = c .before .before .before .before .before .before .before .before .before .args in
+    let pre = c .before .before .before .before .before .before .before .before .before .pre in
     desc-checked (a .arena .now) (pre .0) (a .desc) (a .path .now) (omega (arith, pre .1, pre .2)) _ _ _ _ _ _ _ (pre .1)
-    (c .before .before .before .path-bytes .ensures .0) (ap (λ (n : ℕ). not (eqb n 0)) (c .before .before .local-root .ensures)) (c .before .before .before .before .before .number-or .ensures)
-    (c .before .before .before .before .number-or2 .ensures) (c .before .specs-told .ensures) (c .check-record .ensures)
+    (c .before .before .before .before .path-bytes .ensures .0) (ap (λ (n : ℕ). not (eqb n 0)) (c .before .before .before .local-root .ensures))
+    (c .before .before .before .before .before .before .number-or .ensures) (c .before .before .before .before .before .number-or2 .ensures)
+    (c .before .before .specs-told .ensures) (c .check-record .ensures)
 
 pub check-desc-spec : {M : Type 1} → statement M
 check-desc-spec =
@@ -44,5 +48,6 @@ check-desc-spec =
     path-bytes-requires
     local-root-requires
     specs-told-requires
+    prim-count-requires
     check-record-requires
     returns)

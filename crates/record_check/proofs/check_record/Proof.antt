@@ -20,17 +20,14 @@ linked c = sym (c .before .links-allowed .ensures) ∙ not-false _ (c .if1 .left
 
 -- the path has so many names
 counted : (c : tie.After-known-told)
-    → countPrims (c .before .before .before .before .before .before .before .args .path .now) ≡ Names (c .before .read .given .0 .0)
-counted c = sym (c .before .before .before .prim-count .ensures) ∙ c .before .read .given .1
+    → countPrims (c .before .before .before .before .before .before .args .path .now) ≡ Names (c .before .read .given .0 .0)
+counted c = sym (c .before .before .before .before .before .before .pre .1) ∙ c .before .read .given .1
 
 links-allowed-requires : tie.Need-links-allowed-requires
 links-allowed-requires c κs = search needs
 
 returns : tie.Need-returns
 returns c = refused-4 _ _ _ _ _ (sym (c .before .links-allowed .ensures) ∙ not-true _ (c .if1 .taken))
-
-prim-count-requires : tie.Need-prim-count-requires
-prim-count-requires c κs = search needs
 
 enum-known-read : tie.Need-enum-known-read
 enum-known-read c = search needs
@@ -40,15 +37,15 @@ enum-told c = search needs
 
 returns-2 : tie.Need-returns-2
 returns-2 c =
-    refused-5 _ _ _ _ _ (linked (c .before .before .before))
-    (sym (uncounted-malformed _ (sym (c .before .before .prim-count .ensures) ∙ c .enum-told .given .1)))
+    refused-5 _ _ _ _ _ (linked (c .before .before))
+    (sym (uncounted-malformed _ (sym (c .before .before .before .before .before .pre .1) ∙ c .enum-told .given .1)))
 
 kind-allowed-requires : tie.Need-kind-allowed-requires
 kind-allowed-requires c κs = search needs
 
 returns-3 : tie.Need-returns-3
 returns-3 c =
-    refused-6 _ _ _ _ _ (linked (c .before .before .before .before .before .before)) (sym (counted-well-formed _ _ (counted (c .before .before))))
+    refused-6 _ _ _ _ _ (linked (c .before .before .before .before .before)) (sym (counted-well-formed _ _ (counted (c .before .before))))
     (sym (c .before .kind-allowed .ensures) ∙ not-true _ (c .if2 .taken))
 
 has-room-requires : tie.Need-has-room-requires
@@ -56,7 +53,7 @@ has-room-requires c κs = search needs
 
 returns-4 : tie.Need-returns-4
 returns-4 c =
-    refused-7 _ _ _ _ _ (linked (c .before .before .before .before .before .before .before .before))
+    refused-7 _ _ _ _ _ (linked (c .before .before .before .before .before .before .before))
     (sym (counted-well-formed _ _ (counted (c .before .before .before .before))))
     (sym (c .before .before .before .kind-allowed .ensures) ∙ not-false _ (c .before .before .if2 .left))
     (sym (c .before .has-room .ensures) ∙ not-true _ (c .if3 .taken))
@@ -66,7 +63,7 @@ narrow-requires c κs = few-names _ _ (counted (c .before .before .before .befor
 
 returns-5 : tie.Need-returns-5
 returns-5 c =
-    accepted _ _ _ _ _ _ (linked (c .before .before .before .before .before .before .before .before .before))
+    accepted _ _ _ _ _ _ (linked (c .before .before .before .before .before .before .before .before))
     (sym (counted-well-formed _ _ (counted (c .before .before .before .before .before))))
     (sym (c .before .before .before .before .kind-allowed .ensures) ∙ not-false _ (c .before .before .before .if2 .left))
     (sym (c .before .before .has-room .ensures) ∙ not-false _ (c .before .if3 .left))
@@ -78,7 +75,6 @@ check-record-spec =
     (tie.spec
     links-allowed-requires
     returns
-    prim-count-requires
     enum-known-read
     enum-told
     returns-2

@@ -1,0 +1,12 @@
+-- `kinds` meets its contract: the table is the definition's. Assumes nothing.
+use mathlib.Core.Path.{refl}
+use Rattle.path_tables.specs.Tables.{kindTable}
+use Rattle.path_tables.proofs.tables.kinds.Statement.{statement}
+use Rattle.path_tables.proofs.tables.kinds.Tie as tie
+
+returns : tie.Need-returns
+unfolding kindTable
+returns c = refl
+
+pub kinds-spec : {M : Type 1} → statement M
+kinds-spec = tie.close (tie.spec returns)
