@@ -7,6 +7,7 @@ mod order;
 mod orders;
 mod paths;
 mod proved;
+mod slowest;
 mod snapshots;
 mod strength;
 mod time;
@@ -15,15 +16,16 @@ use std::env;
 use std::process::ExitCode;
 
 const USAGE: &str = "\
-usage: bench [paths]                measure reading paths
-       bench graphs                 measure the check of an arena, snapshots and adding
-       bench strength               measure comparing nodes
-       bench order                  measure ordering graphs
-       bench culling                measure culling, the erasable set and erasing
-       bench arenas SEED COUNT      compare the check on COUNT damaged arenas, and on whole ones
-       bench snapshots SEED COUNT   compare the reading of COUNT snapshots, whole and damaged
-       bench orders SEED COUNT      compare the ordering of COUNT small graphs, and of larger ones
-       bench erasures SEED COUNT    compare culling and erasing in COUNT arenas";
+usage: bench [paths]                  measure reading paths
+       bench graphs                   measure the check of an arena, snapshots and adding
+       bench strength                 measure comparing nodes
+       bench order                    measure ordering graphs, without question 2 and with it
+       bench culling                  measure culling, the erasable set and erasing
+       bench arenas SEED COUNT        compare the check on COUNT damaged arenas, and on whole ones
+       bench snapshots SEED COUNT     compare the reading of COUNT snapshots, whole and damaged
+       bench orders SEED SMALL LARGE  compare the ordering of so many small graphs, and of so many large ones
+       bench slowest SEED COUNT       order COUNT graphs of 1,024 nodes, and find the slowest
+       bench erasures SEED COUNT      compare culling and erasing in COUNT arenas";
 
 fn main() -> ExitCode {
     let arguments: Vec<String> = env::args().skip(1).collect();
@@ -36,7 +38,8 @@ fn main() -> ExitCode {
         ["culling"] => Some(culling::measure()),
         ["arenas", seed, count] => on_numbers(seed, count, arenas::compare),
         ["snapshots", seed, count] => on_numbers(seed, count, snapshots::compare),
-        ["orders", seed, count] => on_numbers(seed, count, orders::compare),
+        ["orders", seed, small, large] => compare_orders(seed, small, large),
+        ["slowest", seed, count] => on_numbers(seed, count, slowest::search),
         ["erasures", seed, count] => on_numbers(seed, count, erasures::compare),
         _ => None,
     };
@@ -53,4 +56,9 @@ fn main() -> ExitCode {
 /// Whether the proved library agreed; nothing where the words are no numbers.
 fn on_numbers(seed: &str, count: &str, compare: fn(u64, usize) -> bool) -> Option<bool> {
     Some(compare(seed.parse().ok()?, count.parse().ok()?))
+}
+
+/// The same of ordering, which takes two counts.
+fn compare_orders(seed: &str, small: &str, large: &str) -> Option<bool> {
+    Some(orders::compare(seed.parse().ok()?, small.parse().ok()?, large.parse().ok()?))
 }

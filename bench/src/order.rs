@@ -1,124 +1,165 @@
-//! Ordering a graph: the whole call and its parts beside the Rust, and beside comparing each pair of siblings once.
+//! Ordering a graph, without question 2 and with it, beside the Rust: turn and turn about, in one run.
 use std::hint::black_box;
+use std::io::{BufRead, BufReader, Write};
 use std::path::Path;
-use std::process::Command;
+use std::process::{Child, ChildStdout, Command, Stdio};
+use std::time::{Duration, Instant};
 
-use plain::layout::{ARENA_BYTES, HEADER_BYTES, ORDER_ENTRY, SLOT_BYTES, slot_at, u32_at};
+use plain::layout::{ARENA_BYTES, ORDER_ENTRY, PRIM_COUNT, slot_at, u32_at};
 use plain::samples::graphs::{Node, snapshot};
-use plain::samples::strength::{ORDERED_SHAPES, sibling_pairs};
+use plain::samples::ordered::ORDERED_SHAPES;
 
 use crate::{proved, time};
 
 const SIZES: [usize; 4] = [16, 64, 256, 1_024];
 
-/// The Rust and ours are measured turn and turn about, so many times; the least counts.
-const ROUNDS: usize = 3;
+/// A graph has at least so many rounds, and they go on for so long. In each, the call and question 2 have turns for a while.
+const ROUNDS: usize = 5;
+const LONG: Duration = Duration::from_millis(1_000);
+const TURNS: Duration = Duration::from_millis(40);
 
+/// Prints the table, a line for each shape and size. Fails where there is no Rust.
 pub fn measure() -> bool {
-    println!("microseconds for ordering a graph; comparing is comparing each pair of siblings once\n");
-    let titles =
-        ["pairs", "the Rust", "our call", "question 2", "ordering", "comparing"].map(|title| format!("{title:>10}"));
-    println!("{:14} {}  call / Rust  ordering / comparing", "", titles.join(" "));
+    println!("microseconds for ordering a graph; a ratio above 1.00 is marked !\n");
+    println!("| shape | nodes | the Rust | without question 2 | question 2 | without / Rust | with / Rust |");
+    println!("|---|---|---|---|---|---|---|");
+    let mut above = [0; 2];
     for (name, shape) in ORDERED_SHAPES {
-        SIZES.iter().for_each(|&size| order(name, &Graph::new(shape(size))));
+        for size in SIZES {
+            let Some(times) = times(name, shape(size)) else {
+                println!("build oracle/ first: the Rust orders no {name} of {size} nodes");
+                return false;
+            };
+            times.print(name, size);
+            above = [0, 1].map(|at| above[at] + usize::from(is_above(times.ratios()[at])));
+        }
     }
+    let lines = ORDERED_SHAPES.len() * SIZES.len();
+    println!("\nabove 1.00 of {lines} lines: {} without question 2, {} with it", above[0], above[1]);
     true
 }
 
-/// A graph as an arena. Ordering writes only to its header and its nodes' slots, so only these are put back.
-struct Graph {
-    size: usize,
-    arena: Vec<u8>,
-    unordered: Vec<u8>,
-    /// The pairs of siblings, eight bytes each.
-    pairs: Vec<u8>,
+/// A ratio that is printed as more than 1.00.
+fn is_above(ratio: f64) -> bool {
+    ratio >= 1.005
 }
 
-impl Graph {
-    fn new(nodes: Vec<Node>) -> Self {
-        let mut arena = vec![0; ARENA_BYTES];
-        assert_eq!(plain::snapshot::read(&snapshot(&nodes), &mut arena), Ok(nodes.len()));
-        let unordered = arena[..HEADER_BYTES + SLOT_BYTES * nodes.len()].to_vec();
-        let pairs =
-            sibling_pairs(&nodes, 0).iter().flat_map(|(a, b)| [a.to_be_bytes(), b.to_be_bytes()].concat()).collect();
-        Self { size: nodes.len(), arena, unordered, pairs }
-    }
-}
-
-fn order(shape: &str, graph: &Graph) {
-    let rounds: Option<Vec<Times>> = (0..ROUNDS).map(|_| round(shape, graph)).collect();
-    let Some(rounds) = rounds else {
-        println!("{shape:8} {:5} (build oracle/ for the Rust's time)", graph.size);
-        return;
-    };
-    let Times { rust, call, check, asking, comparing } = rounds.into_iter().fold(Times::MOST, Times::least);
-    let (ordering, comparing) = (call - check, (comparing - asking).max(0.0));
-    let (pairs, of_rust) = (graph.pairs.len() / 8, call / rust);
-    let of_comparing = if pairs == 0 { "-".to_string() } else { format!("{:.2}", ordering / comparing) };
-    let times = [rust, call, check, ordering, comparing].map(|nanoseconds| format!("{:10.2}", nanoseconds / 1_000.0));
-    println!("{shape:8} {:5} {pairs:10} {}  {of_rust:11.2}  {of_comparing:>20}", graph.size, times.join(" "));
-}
-
-/// Nanoseconds for one graph.
+/// Nanoseconds for one graph: the Rust, our whole call, and question 2 alone.
+#[derive(Clone, Copy)]
 struct Times {
     rust: f64,
-    /// Our whole call.
     call: f64,
-    /// Question 2 alone.
     check: f64,
-    /// Question 2, and the questions of each pair of siblings.
-    asking: f64,
-    /// The same, then comparing each pair.
-    comparing: f64,
 }
 
 impl Times {
-    const MOST: Self = Self { rust: f64::MAX, call: f64::MAX, check: f64::MAX, asking: f64::MAX, comparing: f64::MAX };
+    const MOST: Self = Self { rust: f64::MAX, call: f64::MAX, check: f64::MAX };
 
     fn least(self, other: Self) -> Self {
-        Self {
-            rust: self.rust.min(other.rust),
-            call: self.call.min(other.call),
-            check: self.check.min(other.check),
-            asking: self.asking.min(other.asking),
-            comparing: self.comparing.min(other.comparing),
-        }
+        Self { rust: self.rust.min(other.rust), call: self.call.min(other.call), check: self.check.min(other.check) }
+    }
+
+    fn without(self) -> f64 {
+        self.call - self.check
+    }
+
+    /// Without question 2, and with it.
+    fn ratios(self) -> [f64; 2] {
+        [self.without() / self.rust, self.call / self.rust]
+    }
+
+    fn print(self, shape: &str, size: usize) {
+        let times = [self.rust, self.without(), self.check].map(|time| format!("{:.2}", time / 1_000.0));
+        let ratios = self.ratios().map(|ratio| format!("{ratio:.2}{}", if is_above(ratio) { " !" } else { "" }));
+        println!("| {shape} | {size} | {} | {} |", times.join(" | "), ratios.join(" | "));
     }
 }
 
-/// The Rust, then ours, whose order must be the Rust's. The call is timed with putting the arena back, which is timed
-/// by itself and taken off.
-fn round(shape: &str, graph: &Graph) -> Option<Times> {
-    let (rust, sum) = time_of_the_rust(shape, graph.size)?;
-    let mut arena = graph.arena.clone();
-    assert_eq!(proved::finalize_strength_order(&mut arena), Ok(0));
-    assert_eq!(order_sum(&arena, graph.size), sum, "the order is the Rust's");
-    let call = time::least_for(|| {
-        fill(&mut arena, &graph.unordered);
-        _ = black_box(proved::finalize_strength_order(black_box(&mut arena)));
-    });
-    let copying = time::least_for(|| fill(black_box(&mut arena), &graph.unordered));
-    let check = time::least_for(|| _ = black_box(proved::is_graph(black_box(&graph.arena))));
-    let asking = time::least_for(|| _ = black_box(proved::ask_pairs(black_box(&graph.arena), &graph.pairs, true)));
-    let comparing =
-        time::least_for(|| _ = black_box(proved::compare_sibling_pairs(black_box(&graph.arena), &graph.pairs)));
-    Some(Times { rust, call: call - copying, check, asking, comparing })
+/// The least of all rounds, each of them the Rust's turns, then ours; our order must be the Rust's.
+fn times(shape: &str, nodes: Vec<Node>) -> Option<Times> {
+    let mut rust = Rust::start(shape, nodes.len())?;
+    let mut graph = Graph::new(&nodes);
+    assert_eq!(proved::finalize_strength_order(&mut graph.arena), Ok(0));
+    let our_sum = graph.order_sum();
+    let (mut times, mut rounds) = (Times::MOST, 0);
+    let begun = Instant::now();
+    while rounds < ROUNDS || begun.elapsed() < LONG {
+        let (nanoseconds, sum) = rust.turns()?;
+        assert_eq!(our_sum, sum, "the order is the Rust's");
+        times = times.least(Times { rust: nanoseconds, ..graph.turns() });
+        rounds += 1;
+    }
+    Some(times)
 }
 
-fn fill(arena: &mut [u8], front: &[u8]) {
-    arena[..front.len()].copy_from_slice(black_box(front));
+/// A graph in an arena, and what ordering writes of it: the header, and of each slot what stands before the record.
+struct Graph {
+    size: usize,
+    arena: Vec<u8>,
+    unordered: Vec<[u8; PRIM_COUNT]>,
 }
 
-/// Each place times its node's number, as `oracle time-ordering` adds them up.
-fn order_sum(arena: &[u8], count: usize) -> u64 {
-    (0..count).map(|place| place as u64 * u64::from(u32_at(arena, slot_at(place) + ORDER_ENTRY))).sum()
+impl Graph {
+    fn new(nodes: &[Node]) -> Self {
+        let mut arena = vec![0; ARENA_BYTES];
+        assert_eq!(plain::snapshot::read(&snapshot(nodes), &mut arena), Ok(nodes.len()));
+        let starts = [0].into_iter().chain((0..nodes.len()).map(slot_at));
+        let unordered = starts.map(|start| arena[start..][..PRIM_COUNT].try_into().expect("as many bytes")).collect();
+        Self { size: nodes.len(), arena, unordered }
+    }
+
+    fn put_back(&mut self) {
+        let starts = [0].into_iter().chain((0..self.size).map(slot_at));
+        starts.zip(&self.unordered).for_each(|(start, bytes)| self.arena[start..][..PRIM_COUNT].copy_from_slice(bytes));
+    }
+
+    fn turns(&mut self) -> Times {
+        let call = time::least_after(TURNS, self, Self::put_back, |graph| {
+            _ = black_box(proved::finalize_strength_order(black_box(&mut graph.arena)));
+        });
+        let check = time::least_after(TURNS, self, Self::put_back, |graph| {
+            _ = black_box(proved::is_graph(black_box(&graph.arena)));
+        });
+        Times { call, check, ..Times::MOST }
+    }
+
+    /// Each place times its node's number, as the oracle adds them up.
+    fn order_sum(&self) -> u64 {
+        let node = |place| u64::from(u32_at(&self.arena, slot_at(place) + ORDER_ENTRY));
+        (0..self.size).map(|place| place as u64 * node(place)).sum()
+    }
 }
 
-/// What `oracle time-ordering` measures, in nanoseconds, and the sum of its order.
-fn time_of_the_rust(shape: &str, size: usize) -> Option<(f64, u64)> {
-    let oracle = Path::new(env!("CARGO_MANIFEST_DIR")).join("../oracle/target/release/oracle");
-    let printed = Command::new(oracle).args(["time-ordering", shape, &size.to_string()]).output().ok()?;
-    let text = String::from_utf8(printed.stdout).ok()?;
-    let (nanoseconds, sum) = text.trim().split_once(' ')?;
-    Some((nanoseconds.parse().ok()?, sum.parse().ok()?))
+/// `oracle time-ordering`: it orders a graph of its own for a while whenever it is sent a line.
+struct Rust {
+    process: Child,
+    answers: BufReader<ChildStdout>,
+}
+
+impl Rust {
+    fn start(shape: &str, size: usize) -> Option<Self> {
+        let oracle = Path::new(env!("CARGO_MANIFEST_DIR")).join("../oracle/target/release/oracle");
+        let mut command = Command::new(oracle);
+        command.args(["time-ordering", shape, &size.to_string()]).stdin(Stdio::piped()).stdout(Stdio::piped());
+        let mut process = command.spawn().ok()?;
+        let answers = BufReader::new(process.stdout.take()?);
+        Some(Self { process, answers })
+    }
+
+    /// Nanoseconds, the least of a few turns, and the sum of the order.
+    fn turns(&mut self) -> Option<(f64, u64)> {
+        self.process.stdin.as_mut()?.write_all(b"\n").ok()?;
+        let mut line = String::new();
+        self.answers.read_line(&mut line).ok()?;
+        let (nanoseconds, sum) = line.trim().split_once(' ')?;
+        Some((nanoseconds.parse().ok()?, sum.parse().ok()?))
+    }
+}
+
+impl Drop for Rust {
+    /// It ends when there is no more input.
+    fn drop(&mut self) {
+        drop(self.process.stdin.take());
+        _ = self.process.wait();
+    }
 }

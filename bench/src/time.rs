@@ -1,6 +1,8 @@
 //! The clock.
 use std::time::{Duration, Instant};
 
+use plain::clock;
+
 /// Nanoseconds for one of so many runs; there must be enough of them that the clock's own time does not count.
 fn turn(runs: usize, run: &mut impl FnMut()) -> f64 {
     let start = Instant::now();
@@ -28,9 +30,23 @@ pub fn least_for(mut run: impl FnMut()) -> f64 {
     least
 }
 
+/// Nanoseconds for one run: the least of those made in so long a time, less the clock's own. What `before` does is not
+/// counted.
+pub fn least_after<T>(long: Duration, on: &mut T, before: impl Fn(&mut T), run: impl Fn(&mut T)) -> f64 {
+    let begun = Instant::now();
+    let (mut least, mut clock) = (f64::MAX, f64::MAX);
+    while least == f64::MAX || begun.elapsed() < long {
+        before(on);
+        least = least.min(clock::nanoseconds(|| run(on)) as f64);
+        clock = clock.min(clock::nanoseconds(|| ()) as f64);
+    }
+    least - clock.min(least)
+}
+
 #[cfg(test)]
 mod tests {
     use std::cell::Cell;
+    use std::time::Duration;
 
     #[test]
     fn turns_and_runs() {
@@ -45,5 +61,13 @@ mod tests {
         let runs = Cell::new(0);
         let least = super::least_for(|| runs.set(runs.get() + 1));
         assert!(runs.get() >= 1 && least < 1e9);
+    }
+
+    #[test]
+    fn turns_after_something() {
+        let mut done = [0; 2];
+        let least = super::least_after(Duration::ZERO, &mut done, |done| done[0] += 1, |done| done[1] += 1);
+        assert_eq!(done, [1, 1]);
+        assert!((0.0..1e9).contains(&least));
     }
 }

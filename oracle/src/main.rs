@@ -45,7 +45,7 @@ usage: oracle answer                                 answer the lines on standar
        oracle deciding SEED COUNT                    print how many pairs of `script strength` each line settles
        oracle time-adding COUNT                      print the nanoseconds that the Rust takes to add COUNT nodes
        oracle time-comparing SHAPE COUNT             print those for comparing its siblings and 10,000 pairs
-       oracle time-ordering SHAPE COUNT              print those for ordering a graph of COUNT nodes
+       oracle time-ordering SHAPE COUNT              print those for ordering such a graph, for each line of input
        oracle time-culling SHAPE COUNT               print those for culling it, for its erasable set and for erasing";
 
 type Script = fn(u64, usize, &mut dyn Write) -> io::Result<()>;
@@ -98,10 +98,19 @@ fn print_comparing(shape: &str, count: &str) -> Option<io::Result<()>> {
     Some(print(|out| writeln!(out, "{first} {} {second} {}", siblings.sum, nodes.sum)))
 }
 
-/// Prints the nanoseconds for ordering and the sum of the order, if there is such a shape.
+/// For each line of standard input, at once, the nanoseconds for ordering and the sum of the order, if there is such a
+/// shape.
 fn print_ordering(shape: &str, count: &str) -> Option<io::Result<()>> {
-    let ordered = timing::ordering(shape, count.parse().ok()?)?;
-    Some(print(|out| writeln!(out, "{} {}", ordered.nanoseconds, ordered.sum)))
+    let timer = timing::OrderTimer::new(shape, count.parse().ok()?)?;
+    Some(print(|out| {
+        for line in io::stdin().lines() {
+            line?;
+            let Some(ordered) = timer.turns() else { break };
+            writeln!(out, "{} {}", ordered.nanoseconds, ordered.sum)?;
+            out.flush()?;
+        }
+        Ok(())
+    }))
 }
 
 /// Prints the nanoseconds for culling, for the erasable set and for erasing, and how many nodes are kept, if there is

@@ -5,9 +5,11 @@ use std::cmp::Ordering;
 use std::hint::black_box;
 use std::time::{Duration, Instant};
 
+use plain::clock;
 use plain::samples::culls::CULLED_SHAPES;
 use plain::samples::graphs::{Node, grown, snapshot};
-use plain::samples::strength::{MEASURED_PAIRS, ORDERED_SHAPES, SHAPES, random_pairs, sibling_pairs};
+use plain::samples::ordered::ORDERED_SHAPES;
+use plain::samples::strength::{MEASURED_PAIRS, SHAPES, random_pairs, sibling_pairs};
 
 use crate::calls::graph_of;
 use crate::narrowing;
@@ -94,32 +96,43 @@ fn number(ordering: Ordering) -> u64 {
     }
 }
 
-/// The time for ordering a graph of this shape, the least of many turns, and the sum of each place times its node's
-/// number; no such shape, or a graph without an order, gives nothing. Each turn has a graph of its own, made before the
-/// clock starts, since the Rust copies what two graphs share.
-pub fn ordering(shape: &str, count: usize) -> Option<Ordered> {
-    let (_, nodes) = ORDERED_SHAPES.iter().find(|(name, _)| *name == shape)?;
-    let snapshot = snapshot(&nodes(count));
-    let unordered = graph_of(&snapshot).ok()?;
-    narrowing::order(unordered.graph(), false).ok()?;
-    let mut ordered = Ordered { nanoseconds: u128::MAX, sum: 0 };
-    let begun = Instant::now();
-    while ordered.nanoseconds == u128::MAX || begun.elapsed() < ORDERING {
-        let mut judge = graph_of(&snapshot).ok()?;
-        let start = Instant::now();
-        judge.finalize_strength_order();
-        ordered.nanoseconds = ordered.nanoseconds.min(start.elapsed().as_nanos());
-        ordered.sum = order_sum(black_box(judge.graph()));
-    }
-    Some(ordered)
+/// A graph of one shape, to be ordered again and again.
+pub struct OrderTimer {
+    snapshot: Vec<u8>,
 }
 
-/// For ordering, turns go on for so long, the making of their graphs included.
-const ORDERING: Duration = Duration::from_millis(400);
+impl OrderTimer {
+    /// No such shape, or a graph without an order, gives nothing.
+    pub fn new(shape: &str, count: usize) -> Option<Self> {
+        let (_, nodes) = ORDERED_SHAPES.iter().find(|(name, _)| *name == shape)?;
+        let snapshot = snapshot(&nodes(count));
+        narrowing::order(graph_of(&snapshot).ok()?.graph(), false).ok()?;
+        Some(Self { snapshot })
+    }
 
-/// What ordering took, and a sum that tells one order from another.
+    /// The least time of the turns of a while, less the clock's own. Each turn has a graph of its own, made before the
+    /// clock starts, since the Rust copies what two graphs share.
+    pub fn turns(&self) -> Option<Ordered> {
+        let mut ordered = Ordered { nanoseconds: u64::MAX, sum: 0 };
+        let mut clock = u64::MAX;
+        let begun = Instant::now();
+        while ordered.nanoseconds == u64::MAX || begun.elapsed() < ORDERING {
+            let mut judge = graph_of(&self.snapshot).ok()?;
+            ordered.nanoseconds = ordered.nanoseconds.min(clock::nanoseconds(|| judge.finalize_strength_order()));
+            clock = clock.min(clock::nanoseconds(|| ()));
+            ordered.sum = order_sum(black_box(judge.graph()));
+        }
+        ordered.nanoseconds -= clock.min(ordered.nanoseconds);
+        Some(ordered)
+    }
+}
+
+/// For ordering, turns go on for so long, the making of their graphs included; others take their turns between.
+const ORDERING: Duration = Duration::from_millis(40);
+
+/// What ordering took, and the sum of each place times its node's number, which tells one order from another.
 pub struct Ordered {
-    pub nanoseconds: u128,
+    pub nanoseconds: u64,
     pub sum: u64,
 }
 

@@ -3,6 +3,7 @@
 //! both are tried on, whole and damaged.
 
 pub mod arena;
+pub mod clock;
 pub mod culling;
 pub mod erasing;
 pub mod graph;
@@ -13,6 +14,7 @@ pub mod random;
 pub mod record;
 pub mod samples;
 pub mod snapshot;
+pub mod stack;
 pub mod strength;
 #[cfg(test)]
 mod tests;

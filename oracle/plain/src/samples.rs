@@ -5,8 +5,10 @@ pub mod culls;
 pub mod damaged_arenas;
 pub mod damaged_snapshots;
 pub mod graphs;
+pub mod ordered;
 pub mod orders;
 pub mod strength;
+pub mod twisted;
 
 use crate::random::Random;
 

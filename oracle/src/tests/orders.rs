@@ -3,12 +3,13 @@
 use plain::order::sorted;
 use plain::random::Random;
 use plain::samples::graphs::{Node, snapshot};
+use plain::samples::ordered::ORDERED_SHAPES;
 use plain::samples::orders::{resequenced, settled, small};
-use plain::samples::strength::ORDERED_SHAPES;
 
 use super::{answers, check, printed};
 use crate::calls::graph_of;
-use crate::{narrowing, scripts, timing};
+use crate::timing::OrderTimer;
+use crate::{narrowing, scripts};
 
 #[test]
 fn words_and_answers() {
@@ -97,9 +98,10 @@ fn sequences() {
 /// The shapes that are measured have an order.
 #[test]
 fn times_and_sums() {
-    assert!(timing::ordering("ring", 16).is_none());
-    let chain = timing::ordering("chain", 16).expect("a shape with an order");
-    assert_eq!(chain.sum, (0..16).map(|place| place * place).sum());
+    assert!(OrderTimer::new("ring", 16).is_none());
+    let chain = OrderTimer::new("chain", 16).expect("a shape with an order");
+    let sum = chain.turns().map(|ordered| ordered.sum);
+    assert_eq!(sum, Some((0..16).map(|place| place * place).sum()));
     for (_, shape) in ORDERED_SHAPES {
         assert!([16, 64, 256].iter().all(|&count| listing(&shape(count)).is_some()));
     }

@@ -121,7 +121,8 @@ impl Arena {
     }
 }
 
-fn shuffle<T>(random: &mut Random, items: &mut [T]) {
+/// Puts the items in another order, any of them.
+pub fn shuffle<T>(random: &mut Random, items: &mut [T]) {
     for at in (1..items.len()).rev() {
         items.swap(at, random.below(at + 1));
     }

@@ -52,22 +52,26 @@ fn any(random: &mut Random, least: usize, most: usize) -> Vec<Node> {
     graphs::nodes(random, count)
 }
 
-/// Document 01's ring below a node of a small graph: two Specializes with HAS_SPECIALIZES and one origin, and one
-/// without, of a depth between theirs. Now and then their sites make an order of it.
+/// Document 01's ring below a node of a small graph.
 fn ringed(random: &mut Random) -> Vec<Node> {
     let mut nodes = strength::small(random);
     nodes.truncate(16);
-    let parent = random.below(nodes.len().min(3)) as u32;
-    let reference = Node { parent, origin: parent, ..Node::reference(b"/R".into()) };
-    let origin = nodes.len() as u32;
+    let parent = random.below(nodes.len().min(3));
+    add_ring(random, &mut nodes, parent);
+    nodes
+}
+
+/// Adds a Reference and document 01's ring below a node: two Specializes with HAS_SPECIALIZES and the Reference as their
+/// origin, and one without, of a depth between theirs. Now and then their sites make an order of it.
+pub(super) fn add_ring(random: &mut Random, nodes: &mut Vec<Node>, parent: usize) {
+    let (parent, origin) = (parent as u32, nodes.len() as u32);
     let shallowest = random.below(3) as u16;
-    nodes.push(reference);
+    nodes.push(Node { parent, origin: parent, ..Node::reference(b"/R".into()) });
     for (flags, origin, deeper) in [(HAS_SPECIALIZES, origin, 0), (HAS_SPECIALIZES, origin, 2), (0, parent, 1)] {
         let path = random.pick(&["/R", "/S", "/T"]).into();
         let depth = shallowest + deeper;
         nodes.push(Node { arc: SPECIALIZE, flags, parent, origin, depth, ..Node::reference(path) });
     }
-    nodes
 }
 
 /// Whether a node number settles some two siblings. Only siblings are settled by a line of document 01's lists, so

@@ -136,18 +136,9 @@ pub fn long_chains(random: &mut Random, count: usize) -> Vec<Node> {
 /// Makes a graph of so many nodes.
 pub type Shape = fn(usize) -> Vec<Node>;
 
-/// The shapes that are measured, and their names.
+/// The shapes of which comparing is measured, and their names.
 pub const SHAPES: [(&str, Shape); 5] =
     [("chain", chain), ("chains", two_chains), ("star", star), ("mixed", mixed), ("origins", long_origins)];
-
-/// The shapes of which ordering is measured: they have an order.
-pub const ORDERED_SHAPES: [(&str, Shape); 5] = [
-    ("chain", chain),
-    ("star", star),
-    ("mixed", |count| alike(mixed(count))),
-    ("origins", |count| alike(long_origins(count))),
-    ("late", late_local_root),
-];
 
 /// Pairs that are measured on a graph: so many random ones, and at least so many of siblings.
 pub const MEASURED_PAIRS: usize = 10_000;
@@ -160,19 +151,20 @@ pub fn shaped(count: usize, child: impl FnMut(usize) -> Node) -> Vec<Node> {
     [root, local_root].into_iter().chain((2..count).map(child)).collect()
 }
 
-fn linked(arc: u8, parent: usize, origin: usize, path: Vec<u8>) -> Node {
+/// A node with these links, HAS_SPECIALIZES where it is a Specialize.
+pub(super) fn linked(arc: u8, parent: usize, origin: usize, path: Vec<u8>) -> Node {
     let flags = if arc == SPECIALIZE { HAS_SPECIALIZES } else { 0 };
     Node { arc, flags, parent: parent as u32, origin: origin as u32, ..Node::reference(path) }
 }
 
 /// Each node is the parent of the next, so there are no siblings.
-fn chain(count: usize) -> Vec<Node> {
+pub(super) fn chain(count: usize) -> Vec<Node> {
     let mut random = Random::new(1);
     shaped(count, |at| linked(REFERENCE, at - 1, at - 1, super::path(&mut random, 22)))
 }
 
 /// Two chains side by side: their first nodes are the only siblings.
-fn two_chains(count: usize) -> Vec<Node> {
+pub(super) fn two_chains(count: usize) -> Vec<Node> {
     let mut random = Random::new(1);
     shaped(count, |at| {
         let above = at.saturating_sub(2).max(1);
@@ -181,7 +173,7 @@ fn two_chains(count: usize) -> Vec<Node> {
 }
 
 /// All nodes below the local root, all authored.
-fn star(count: usize) -> Vec<Node> {
+pub(super) fn star(count: usize) -> Vec<Node> {
     let mut random = Random::new(2);
     shaped(count, |_| {
         let arc = random.pick(&[INHERIT, REFERENCE, SPECIALIZE, SPECIALIZE]);
@@ -190,7 +182,7 @@ fn star(count: usize) -> Vec<Node> {
 }
 
 /// Any tree of all arcs; half of the nodes have another origin than their parent.
-fn mixed(count: usize) -> Vec<Node> {
+pub(super) fn mixed(count: usize) -> Vec<Node> {
     let mut random = Random::new(3);
     shaped(count, |at| {
         let parent = if random.one_in(2) { 1 } else { random.between(1, at - 1) };
@@ -202,7 +194,7 @@ fn mixed(count: usize) -> Vec<Node> {
 
 /// Specializes below the local root in four chains of origins, each as long as a quarter of the nodes. Half of them have
 /// their origin's site; those of two chains are HAS_SPECIALIZES, so that all kinds of pairs meet.
-fn long_origins(count: usize) -> Vec<Node> {
+pub(super) fn long_origins(count: usize) -> Vec<Node> {
     let mut random = Random::new(4);
     let mut paths: Vec<Vec<u8>> = vec![Vec::new(); 2];
     shaped(count, |at| {
@@ -212,16 +204,6 @@ fn long_origins(count: usize) -> Vec<Node> {
         let flags = if at % 4 < 2 { HAS_SPECIALIZES } else { 0 };
         Node { flags, ..linked(SPECIALIZE, 1, origin, path) }
     })
-}
-
-/// All nodes below node 0, the local root last.
-fn late_local_root(count: usize) -> Vec<Node> {
-    let mut nodes = star(count + 1);
-    let local_root = nodes.remove(1);
-    nodes.truncate(count - 1);
-    nodes.iter_mut().skip(1).for_each(|node| (node.parent, node.origin) = (0, 0));
-    nodes.push(local_root);
-    nodes
 }
 
 /// The nodes with one depth for each arc, and HAS_SPECIALIZES on each Specialize and on nothing else: where siblings of

@@ -1,11 +1,13 @@
 //! Graphs whose nodes are added in another sequence, and where node numbers decide.
 
 use crate::layout::{ARENA_BYTES, INVALID, MAX_NODES};
+use crate::order::sorted;
 use crate::random::Random;
 use crate::record::{HAS_SPECIALIZES, INERT, ROOT, SPECIALIZE};
 use crate::samples::graphs::{Node, snapshot};
+use crate::samples::ordered::ORDERED_SHAPES;
 use crate::samples::orders::{largest, numbers_decide, resequenced, small};
-use crate::samples::strength::ORDERED_SHAPES;
+use crate::samples::twisted;
 
 /// The nodes without their links, in an order of their own.
 fn fields(nodes: &[Node]) -> Vec<String> {
@@ -69,13 +71,15 @@ fn numbers() {
     }
 }
 
-/// The local root of the last shape is its last node.
+/// Each is a graph with an order; the local root of one shape is its last node.
 #[test]
 fn shapes() {
+    let mut arena = vec![0; ARENA_BYTES];
     for (name, shape) in ORDERED_SHAPES {
-        for count in [16, 300] {
+        for count in [16, 100] {
             let nodes = shape(count);
-            assert_eq!(nodes.len(), count);
+            assert_eq!(crate::snapshot::read(&snapshot(&nodes), &mut arena), Ok(count));
+            assert!(sorted(&nodes).is_some(), "{name}");
             assert_eq!(
                 nodes.iter().rposition(|node| node.arc == ROOT),
                 Some(if name == "late" { count - 1 } else { 1 })
@@ -97,4 +101,31 @@ fn largest_graphs() {
         short += usize::from(lengths.iter().all(|&length| length < 250));
     }
     assert!((35..50).contains(&short), "{short}");
+}
+
+/// The snapshot of the pairs is the one that was once slow to order.
+#[test]
+fn pairs_of_1_024() {
+    let [(_, pairs)] = ORDERED_SHAPES.iter().filter(|(name, _)| *name == "pairs").collect::<Vec<_>>()[..] else {
+        panic!("one shape of pairs");
+    };
+    assert_eq!(snapshot(&pairs(MAX_NODES)).len(), 31_751);
+}
+
+/// All are graphs of the size asked for; between a fifth and a half of the small ones have no order.
+#[test]
+fn twisted_graphs() {
+    let mut random = Random::new(23);
+    let mut arena = vec![0; ARENA_BYTES];
+    let mut refused = 0;
+    for _ in 0..4_000 {
+        let nodes = twisted::small(&mut random);
+        assert_eq!(crate::snapshot::read(&snapshot(&nodes), &mut arena), Ok(nodes.len()));
+        refused += usize::from(sorted(&nodes).is_none());
+    }
+    assert!((800..2_000).contains(&refused), "{refused}");
+    for count in [1, 2, 3, 30, MAX_NODES, MAX_NODES] {
+        let nodes = twisted::twisted(&mut random, count);
+        assert_eq!(crate::snapshot::read(&snapshot(&nodes), &mut arena), Ok(count));
+    }
 }
