@@ -1,5 +1,5 @@
--- What follows from the definitions. Paths; lists, trees and walks; strength; order; culling and erasing; deepening and adding; numbers in bytes
--- and keys; snapshots; what every list of calls keeps; and demand 3. Files named Examples show that the laws' hypotheses can be met.
+-- What follows from the definitions. Paths; lists, trees and walks; strength; order; culling and erasing; deepening and adding; numbers in bytes;
+-- snapshots; what every list of calls keeps; and demand 3. Files named Examples show that the laws' hypotheses can be met.
 pub mod PathLemmas
 pub mod PathGrammar
 pub mod PathParts
@@ -23,6 +23,7 @@ pub mod OrderLaws
 pub mod OrderPlaces
 pub mod OrderRings
 pub mod OrderKeys
+pub mod OrderCopies
 pub mod OrderExamples
 pub mod ErasableLaws
 pub mod CullingLaws
@@ -35,7 +36,6 @@ pub mod DeepenLaws
 pub mod AddLaws
 pub mod GraphExamples
 pub mod BigEndianLaws
-pub mod PackLaws
 pub mod StoredLaws
 pub mod SnapshotLaws
 pub mod SnapshotReadLaws

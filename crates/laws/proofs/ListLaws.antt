@@ -77,6 +77,10 @@ pub concat-cong : (f g : ℕ → List ℕ) (xs : List ℕ) → All (λ x. f x �
 concat-cong f g [] e = refl
 concat-cong f g (x ∷ xs) e = rw (e .0, concat-cong f g xs (e .1))
 
+pub all-pairs : (P : ℕ → Type 0) (R : ℕ → ℕ → Type 0) → ((a b : ℕ) → P a → P b → R a b) → (xs : List ℕ) → All P xs → Pairs R xs
+all-pairs P R f [] h = tt
+all-pairs P R f (x ∷ xs) h = (all-imp P (R x) xs (λ y. f x y (h .0)) (h .1), all-pairs P R f xs (h .1))
+
 pub pairs-imp : (P : ℕ → Type 0) (R S : ℕ → ℕ → Type 0) → ((a b : ℕ) → P a → P b → R a b → S a b)
     → (xs : List ℕ) → All P xs → Pairs R xs → Pairs S xs
 pairs-imp P R S f [] h k = tt

@@ -13,7 +13,7 @@ use borrow.Author.Tests.{eqb-true, eqb-false, eq-eqb, ne-eqb}
 use Rattle.model.specs.declared.Ordering.{Ordering}
 use Rattle.model.specs.declared.Ordering.the-variants.{Less, Equal, Greater}
 use Rattle.model.specs.Lists.{All, Pairs}
-use Rattle.model.specs.Strength.{View, first, smaller, follow, isAuthored, isPropagatedSpecializes, originRootNode, outward, isNestedUnder, originsAreNested, sameOriginLines, originLines, depthLine, specializesLines, plainLines, siblingLines, compareSiblingNodeStrength, compareNodeStrength}
+use Rattle.model.specs.Strength.{View, first, smaller, having, follow, isAuthored, isPropagatedSpecializes, originRootNode, outward, isNestedUnder, originsAreNested, sameOriginLines, originLines, depthLine, specializesLines, plainLines, siblingLines, compareSiblingNodeStrength, compareNodeStrength}
 use Rattle.model.specs.Order.{isLess, Sorted}
 use Rattle.model.specs.Places.{byPlace, keyLines}
 use Rattle.laws.proofs.ListLaws.{pairs-imp, all-imp}
@@ -123,13 +123,13 @@ module _ {n : ℕ} {u : View} (legal : LegalView n u) {v : ℕ} where
 
 -- ---- Keys are transitive
 
-abbrev NotGreater : Ordering → Type 0
+abbrev pub NotGreater : Ordering → Type 0
 NotGreater Less = Unit {0}
 NotGreater Equal = Unit {0}
 NotGreater Greater = ⊥
 
--- one line of keys: from a over b to c it answers the first answer that differs
-abbrev Level : (ℕ → ℕ → Ordering) → Type 0
+-- one line of keys, or a list of them: from a over b to c it answers the first answer that differs
+abbrev pub Level : (ℕ → ℕ → Ordering) → Type 0
 Level s = (a b c : ℕ) → NotGreater (s a b) → NotGreater (s b c) → s a c ≡ first (s a b) (s b c)
 
 smaller-level : (x y z : ℕ) → NotGreater (smaller x y) → NotGreater (smaller y z) → smaller x z ≡ first (smaller x y) (smaller y z)
@@ -156,13 +156,23 @@ first-swaps Equal Equal h k = refl
 first-swaps Equal Greater h k = refl
 first-swaps Greater p h k = absurd h
 
-level-smaller : (key : ℕ → ℕ) → Level (λ a b. smaller (key a) (key b))
+pub level-smaller : (key : ℕ → ℕ) → Level (λ a b. smaller (key a) (key b))
 level-smaller key a b c = smaller-level (key a) (key b) (key c)
 
-level-larger : (key : ℕ → ℕ) → Level (λ a b. smaller (key b) (key a))
+pub level-larger : (key : ℕ → ℕ) → Level (λ a b. smaller (key b) (key a))
 level-larger key a b c p q = smaller-level (key c) (key b) (key a) q p ∙ first-swaps (smaller (key c) (key b)) (smaller (key b) (key a)) q p
 
-level-first : (s r : ℕ → ℕ → Ordering) → Level s → Level r → Level (λ a b. first (s a b) (r a b))
+pub level-having : (key : ℕ → Bool) → Level (λ a b. having (key a) (key b))
+level-having key a b c = go (key a) (key b) (key c)
+  where
+    go : (x y z : Bool) → NotGreater (having x y) → NotGreater (having y z) → having x z ≡ first (having x y) (having y z)
+    go true true z p q = refl
+    go true false true p q = absurd q
+    go true false false p q = refl
+    go false true z p q = absurd p
+    go false false z p q = refl
+
+pub level-first : (s r : ℕ → ℕ → Ordering) → Level s → Level r → Level (λ a b. first (s a b) (r a b))
 level-first s r hs hr a b c = go (s a b) (s b c) (hs a b c)
   where
     ends : (o : Ordering) → NotGreater o → Less ≡ first o Less
