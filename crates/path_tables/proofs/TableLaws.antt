@@ -7,16 +7,16 @@ use Prim.Native.Nat.{ℕ, suc, _+_, _*_, _/_, _%_, _^_, _≤_, _<_}
 use native.Mathlib.Nat.{add-zero}
 use native.Mathlib.Numerals.{add-one}
 use native.Mathlib.Omega.{arith}
-use borrow.Author.Tests.{eqb-true, ltb-true}
+use borrow.Author.Tests.{eqb-true, eq-eqb, ne-eqb, ltb-true}
 use lib.Dec.{eqb, ltb}
 use lib.ListN.{length, getD, drop, drop-of-length-le}
 use Rattle.model.specs.Lists.{allBelow}
 use Rattle.model.specs.Path.{State, start, root, slash, name, setStart, set, selectionStart, selection, closed, dead, step, mayEnd, inName, enters, isNameStart, isWordByte, isSelectionByte}
 use Rattle.model.specs.declared.PrimCount.the-variants.{Names, Malformed}
 use Rattle.laws.proofs.ListLaws.{all-below}
-use Rattle.path_scan.specs.Reading.{counted, reading}
+use Rattle.path_scan.specs.Reading.{reading}
 use Rattle.path_scan.proofs.ReadingLaws.{goes}
-use Rattle.path_tables.specs.Tables.{kindTable, pairTable, Tables, kindOf, rowOf, noByte, numberOf, Reached, ending}
+use Rattle.path_tables.specs.Tables.{kindList, kindTable, pairTable, Tables, kindOf, rowOf, noByte, numberOf, Reached, ending, endsAs, isNames}
 
 -- ---- States by their numbers
 
@@ -55,10 +55,21 @@ unfoldable kindRight : ℕ → Bool
 kindRight b = let k = kindOf b in ltb k 8 && allBelow (alike b k) 8
 
 kinds-right : allBelow kindRight 256 ≡ true
-unfolding kindRight alike kindOf kindTable isNameStart isWordByte isSelectionByte
+unfolding kindRight alike kindOf kindTable kindList isNameStart isWordByte isSelectionByte
 kinds-right = refl
 
+unfoldable eightRight : ℕ → Bool
+eightRight b = eqb (getD kindTable (256 + b) 0) (kindOf b * 8)
+
+eights-right : allBelow eightRight 256 ≡ true
+unfolding eightRight kindOf kindTable kindList
+eights-right = refl
+
 module _ (b : ℕ) (byte : b < 256) where
+  eight-right : getD kindTable (256 + b) 0 ≡ kindOf b * 8
+  unfolding eightRight
+  eight-right = eqb-true _ _ (all-below eightRight 256 .0 eights-right b byte)
+
   kind-right : (ltb (kindOf b) 8 ≡ true) × (allBelow (alike b (kindOf b)) 8 ≡ true)
   unfolding kindRight
   kind-right = and-eq-true-iff (ltb (kindOf b) 8) (allBelow (alike b (kindOf b)) 8) .0 (all-below kindRight 256 .0 kinds-right b byte)
@@ -116,8 +127,8 @@ row-leads q h k l a b = led q k l _ (subst (λ (r : State). leads r k l (rowOf k
 -- ---- Tables that are lent
 
 module _ (kinds pairs : List ℕ) (tables : Tables kinds pairs) where
-  pub kinds-long : length kinds ≡ 256
-  unfolding kindTable
+  pub kinds-long : length kinds ≡ 512
+  unfolding kindTable kindList
   kinds-long = ap length (tables .kinds-right)
 
   pub pairs-long : length pairs ≡ 64
@@ -127,6 +138,12 @@ module _ (kinds pairs : List ℕ) (tables : Tables kinds pairs) where
   pub kind-read : (b : ℕ) → getD kinds b 0 ≡ kindOf b
   unfolding kindOf
   kind-read b = ap (λ (t : List ℕ). getD t b 0) (tables .kinds-right)
+
+  pub eight-read : (b : ℕ) → b < 256 → getD kinds (256 + b) 0 ≡ kindOf b * 8
+  eight-read b h = ap (λ (t : List ℕ). getD t (256 + b) 0) (tables .kinds-right) ∙ eight-right b h
+
+  pub eight-fits : (b : ℕ) → b < 256 → getD kinds (256 + b) 0 < 57
+  eight-fits b h = omega (arith, eight-read b h, kind-small b h)
 
   pub kind-fits : (b : ℕ) → b < 256 → getD kinds b 0 < 8
   kind-fits b h = omega (arith, kind-read b, kind-small b h)
@@ -213,3 +230,38 @@ module _ (p : List ℕ) (at word met : ℕ) (r : Reached p at word met) where
   reached-end h =
       ap (λ (j : ℕ). cond (eqb j 14 || eqb j 49) (Names met) Malformed) (r .coded) ∙ ends (r .state) (r .low)
       ∙ sym (ap (reading (r .state) met) (drop-of-length-le p h)) ∙ r .same
+
+-- two pairs, one after the other
+module _ (p : List ℕ) (at word met : ℕ) (r : Reached p at word met) where
+  pub reached-four : at + 3 < length p → ((k : ℕ) → getD p k 0 < 256)
+      → let half = rowOf (kindOf (getD p at 0)) (kindOf (getD p (at + 1) 0)) / 2 ^ (word % 64) in
+      let next-word = rowOf (kindOf (getD p (at + 2) 0)) (kindOf (getD p (at + 3) 0)) / 2 ^ (half % 64) in
+      Reached p (at + 4) next-word (met + half / 64 % 2 + next-word / 64 % 2)
+  reached-four h byte =
+      let half = rowOf (kindOf (getD p at 0)) (kindOf (getD p (at + 1) 0)) / 2 ^ (word % 64) in
+      let third : at + 2 + 1 ≡ at + 3 = omega arith in
+      let fourth : at + 2 + 2 ≡ at + 4 = omega arith in
+      rw (third, fourth) at (reached-two p (at + 2) half (met + half / 64 % 2)
+      (reached-two p at word met r (omega arith) (byte at) (byte (at + 1))) (omega arith) (byte (at + 2)) (byte (at + 2 + 1)))
+
+-- ---- The end of a reading as one number
+
+pub joined-ends : (word met : ℕ) → endsAs (met * 64 + word % 64) ≡ ending word met
+joined-ends word met =
+    let low : (met * 64 + word % 64) % 64 ≡ word % 64 = omega arith in
+    let high : (met * 64 + word % 64) / 64 ≡ met = omega arith in
+    (λ i. cond (eqb (low i) 14 || eqb (low i) 49) (Names (high i)) Malformed)
+
+pub other-names : (n k : ℕ) → (n / 64 ≡ k → ⊥) → isNames k (endsAs n) ≡ false
+other-names n k h = go (eqb (n % 64) 14 || eqb (n % 64) 49)
+  where
+    go : (t : Bool) → isNames k (cond t (Names (n / 64)) Malformed) ≡ false
+    go true = ne-eqb k (n / 64) (λ e. h (sym e))
+    go false = refl
+
+pub names-end : (n k : ℕ) → n / 64 ≡ k → isNames k (endsAs n) ≡ (eqb (n % 64) 14 || eqb (n % 64) 49)
+names-end n k e = go (eqb (n % 64) 14 || eqb (n % 64) 49)
+  where
+    go : (t : Bool) → isNames k (cond t (Names (n / 64)) Malformed) ≡ t
+    go true = eq-eqb k (n / 64) (sym e)
+    go false = refl

@@ -1,9 +1,9 @@
 -- The tables by which many paths are read, and what the functions that read by them promise each other. Bytes of one kind are read alike. What a name, a set or a
 -- selection may hold is in the kinds' table alone.
 use mathlib.Core.Path.{_≡_}
-use mathlib.Core.Bool.{_||_, cond}
-use mathlib.Core.List.{List, [], _∷_}
-use Prim.Native.Nat.{ℕ, _+_, _*_, _%_, _≤_, _<_}
+use mathlib.Core.Bool.{Bool, false, _||_, cond}
+use mathlib.Core.List.{List, [], _∷_, _++_}
+use Prim.Native.Nat.{ℕ, _+_, _*_, _/_, _%_, _≤_, _<_}
 use lib.Dec.{eqb}
 use lib.ListN.{length, getD, drop}
 use Rattle.model.specs.Path.{State, start, root, slash, name, setStart, set, selectionStart, selection, closed, dead}
@@ -12,8 +12,8 @@ use Rattle.model.specs.declared.PrimCount.the-variants.{Names, Malformed}
 use Rattle.path_scan.specs.Reading.{reading}
 
 -- the kind of each byte: 0 a letter or `_`, 1 a digit, 2 `/`, 3 `{`, 4 `=`, 5 `}`, 7 any other
-unfoldable pub kindTable : List ℕ
-kindTable =
+unfoldable pub kindList : List ℕ
+kindList =
     7 ∷ 7 ∷ 7 ∷ 7 ∷ 7 ∷ 7 ∷ 7 ∷ 7 ∷ 7 ∷ 7 ∷ 7 ∷ 7 ∷ 7 ∷ 7 ∷ 7 ∷ 7 ∷ 7 ∷ 7 ∷ 7 ∷ 7 ∷ 7 ∷ 7 ∷ 7 ∷ 7 ∷ 7 ∷ 7 ∷ 7 ∷ 7 ∷ 7 ∷ 7 ∷ 7 ∷ 7 ∷ 7 ∷ 7 ∷
     7 ∷ 7 ∷ 7 ∷ 7 ∷ 7 ∷ 7 ∷ 7 ∷ 7 ∷ 7 ∷ 7 ∷ 7 ∷ 7 ∷ 7 ∷ 2 ∷ 1 ∷ 1 ∷ 1 ∷ 1 ∷ 1 ∷ 1 ∷ 1 ∷ 1 ∷ 1 ∷ 1 ∷ 7 ∷ 7 ∷ 7 ∷ 4 ∷ 7 ∷ 7 ∷ 7 ∷ 0 ∷ 0 ∷ 0 ∷
     0 ∷ 0 ∷ 0 ∷ 0 ∷ 0 ∷ 0 ∷ 0 ∷ 0 ∷ 0 ∷ 0 ∷ 0 ∷ 0 ∷ 0 ∷ 0 ∷ 0 ∷ 0 ∷ 0 ∷ 0 ∷ 0 ∷ 0 ∷ 0 ∷ 0 ∷ 0 ∷ 7 ∷ 7 ∷ 7 ∷ 7 ∷ 0 ∷ 7 ∷ 0 ∷ 0 ∷ 0 ∷ 0 ∷ 0 ∷
@@ -23,6 +23,14 @@ kindTable =
     7 ∷ 7 ∷ 7 ∷ 7 ∷ 7 ∷ 7 ∷ 7 ∷ 7 ∷ 7 ∷ 7 ∷ 7 ∷ 7 ∷ 7 ∷ 7 ∷ 7 ∷ 7 ∷ 7 ∷ 7 ∷ 7 ∷ 7 ∷ 7 ∷ 7 ∷ 7 ∷ 7 ∷ 7 ∷ 7 ∷ 7 ∷ 7 ∷ 7 ∷ 7 ∷ 7 ∷ 7 ∷ 7 ∷ 7 ∷
     7 ∷ 7 ∷ 7 ∷ 7 ∷ 7 ∷ 7 ∷ 7 ∷ 7 ∷ 7 ∷ 7 ∷ 7 ∷ 7 ∷ 7 ∷ 7 ∷ 7 ∷ 7 ∷ 7 ∷ 7
     ∷ []
+
+abbrev pub eightTimes : List ℕ → List ℕ
+eightTimes [] = []
+eightTimes (k ∷ ks) = k * 8 ∷ eightTimes ks
+
+-- the kinds, and behind them each 8 times
+unfoldable pub kindTable : List ℕ
+kindTable = kindList ++ eightTimes kindList
 
 -- the row of each pair of kinds, the first kind 8 times; kind 6 stands for no byte
 unfoldable pub pairTable : List ℕ
@@ -75,3 +83,17 @@ pub record Reached (p : List ℕ) (at word met : ℕ) : Type 0 where
 -- what the reading comes to where it ends with this word
 abbrev pub ending : ℕ → ℕ → PrimCount
 ending word met = cond (eqb (word % 64) 14 || eqb (word % 64) 49) (Names met) Malformed
+
+-- the same of a number that has the names met 64 times, and the word's last six bits
+abbrev pub endsAs : ℕ → PrimCount
+endsAs n = ending n (n / 64)
+
+-- the reading of what follows the first slash ends with this number
+pub record ReadTo (p : List ℕ) (r : ℕ) : Type 0 where
+  pub small : r < 16384
+  pub same : endsAs r ≡ reading slash 0 (drop 1 p)
+
+-- whether what a path was read as is so many names
+abbrev pub isNames : ℕ → PrimCount → Bool
+isNames n (Names m) = eqb n m
+isNames n Malformed = false

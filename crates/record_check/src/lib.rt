@@ -1,15 +1,15 @@
-// The check of one record: questions 4 to 7 of document 01, in that order. The check of an arena and the reader of snapshots share it. It reads the
-// record's numbers and its path, and of the graph before it only how many nodes and path bytes it has and whether it has a local root.
+// The check of one record: questions 4 to 7 of document 01, in that order. The reader of snapshots and adding ask it whole, the check of an arena in
+// parts. It reads the record's numbers and its path, and of the graph before it only how many nodes and path bytes it has and whether it has a local root.
 // specs/RecordCheck.antt has the questions; proofs/RecordCheckLaws.antt says that they are those of model/specs/Refusals.antt.
 use model::PrimCount;
 use model::Refusal;
 ghost use mathlib.Core.Path.{_≡_};
-ghost use mathlib.Core.Bool.{_&&_};
+ghost use mathlib.Core.Bool.{not, _||_, _&&_};
 ghost use Prim.Native.Nat.{_≤_};
 ghost use lib.Dec.{eqb};
 ghost use Rattle.model.specs.Path.{countPrims};
-ghost use Rattle.model.specs.Node.{rootArc, hasFlag, inertFlag, culledFlag};
-ghost use Rattle.record_check.specs.RecordCheck.{rootAt, linksAt, arcAt, kindAt, roomAt, questionsAt, RecordChecked};
+ghost use Rattle.model.specs.Node.{hasFlag, inertFlag, culledFlag};
+ghost use Rattle.record_check.specs.RecordCheck.{rootAt, linksAt, kindAt, roomAt, questionsAt, RecordChecked};
 
 // What the check of a record answers: the prim count of its path, or the refusal.
 pub enum Checked {
@@ -48,7 +48,7 @@ fn is_root(arc: u8, flags: u8, parent: u32, origin: u32) -> bool
 }
 
 // Question 4: node 0 is as it must be, and another node's parent and origin are lower.
-fn links_allowed(count: u32, arc: u8, flags: u8, parent: u32, origin: u32) -> bool
+pub fn links_allowed(count: u32, arc: u8, flags: u8, parent: u32, origin: u32) -> bool
     ensures { λ r. ⌜ r ≡ linksAt count arc flags parent origin ⌝ }
 {
     if count == 0 {
@@ -60,15 +60,12 @@ fn links_allowed(count: u32, arc: u8, flags: u8, parent: u32, origin: u32) -> bo
     origin < count
 }
 
-// Arc Root is for node 0 and for one child of it.
-fn arc_allowed(count: u32, has_root: bool, arc: u8, parent: u32) -> bool
-    ensures { λ r. ⌜ r ≡ arcAt count «has_root» arc parent ⌝ }
+// Arc Root is for node 0 and for one child of it, and neither is culled.
+fn root_allowed(count: u32, has_root: bool, flags: u8, parent: u32) -> bool
+    ensures { λ r. ⌜ r ≡ ((eqb count 0 || (eqb parent 0 && not «has_root»)) && not (hasFlag culledFlag flags)) ⌝ }
 {
-    if arc > 6 {
+    if is_culled(flags) {
         return false;
-    }
-    if arc != 0 {
-        return true;
     }
     if count == 0 {
         return true;
@@ -79,26 +76,27 @@ fn arc_allowed(count: u32, has_root: bool, arc: u8, parent: u32) -> bool
     !has_root
 }
 
-fn is_culled_root(arc: u8, flags: u8) -> bool
-    ensures { λ r. ⌜ r ≡ (eqb arc rootArc && hasFlag culledFlag flags) ⌝ }
-{
-    if arc != 0 {
-        return false;
-    }
-    is_culled(flags)
-}
-
-// Question 6.
-fn kind_allowed(count: u32, has_root: bool, arc: u8, flags: u8, parent: u32, has_specs: u8) -> bool
+// Question 6. Few nodes have arc Root, so what is asked of these alone comes last.
+pub fn kind_allowed(
+    count: u32,
+    has_root: bool,
+    arc: u8,
+    flags: u8,
+    parent: u32,
+    has_specs: u8,
+) -> bool
     ensures { λ r. ⌜ r ≡ kindAt count «has_root» arc flags parent «has_specs» ⌝ }
 {
-    if !arc_allowed(count, has_root, arc, parent) {
+    if arc > 6 {
         return false;
     }
-    if is_culled_root(arc, flags) {
+    if has_specs > 1 {
         return false;
     }
-    has_specs <= 1
+    if arc != 0 {
+        return true;
+    }
+    root_allowed(count, has_root, flags, parent)
 }
 
 // Question 7: another node and its path bytes still fit.

@@ -165,6 +165,9 @@ module _ (bs : List ℕ) (n pathBytes root : ℕ) (to : RecordsTo bs n pathBytes
   here : recordRightAfter bs n pathBytes root ≡ recordRight bs n
   here = λ i. recordRightAfter bs n (to .bytes i) (to .local-root i)
 
+  pub no-root : n ≡ 0 → root ≡ 0
+  no-root z = to .local-root ∙ ap (rootBelow bs) z
+
   pub record-fails : n < countIn bs → recordRightAfter bs n pathBytes root ≡ false → recordsRight bs ≡ false
   unfolding recordsRight
   record-fails l e = rw (all-below-fails (recordRight bs) (countIn bs) .1 (n, l, sym here ∙ e))

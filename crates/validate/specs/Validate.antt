@@ -11,7 +11,7 @@ use Rattle.model.specs.Node.{rootArc}
 use Rattle.model.specs.Refusals.{Question, refusal}
 use Rattle.model.specs.Arena.{countIn, orderedIn, shallowIn, localRootIn, orderEntryIn, primCountIn, recordLengthIn, nodeIn, tabulate, recordFits}
 use Rattle.arena.specs.Slot.{arcIn, flagsIn, parentIn, originIn, depthIn, hasSpecsIn}
-use Rattle.record_check.specs.RecordCheck.{questionsAt}
+use Rattle.record_check.specs.RecordCheck.{linksAt, kindAt, roomAt, questionsAt}
 
 -- ---- The marks, by their bytes
 
@@ -44,6 +44,12 @@ questionsIn bs n pathBytes root =
 -- "shallow set where a parent is": node n's depth is at most the prim count of its parent, unless the arena is marked
 abbrev pub depthRight : List ℕ → ℕ → Bool
 depthRight bs n = eqb n 0 || (leb (depthIn bs n) (primCountIn bs (parentIn bs n)) || eqb (shallowIn bs) 1)
+
+-- what the questions ask of node n's numbers: its links, its kind and the room
+unfoldable pub numbersRight : List ℕ → ℕ → ℕ → ℕ → Bool
+numbersRight bs n pathBytes root =
+    linksAt n (arcIn bs n) (flagsIn bs n) (parentIn bs n) (originIn bs n)
+    && (kindAt n (not (eqb root 0)) (arcIn bs n) (flagsIn bs n) (parentIn bs n) (hasSpecsIn bs n) && roomAt n pathBytes (recordLengthIn bs n - 27))
 
 -- the record of node n, after records with `pathBytes` bytes of paths and the local root `root`
 unfoldable pub recordRightAfter : List ℕ → ℕ → ℕ → ℕ → Bool

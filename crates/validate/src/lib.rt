@@ -1,7 +1,6 @@
 // Whether the bytes of an arena hold a graph: question 2 of document 01, exactly, on any bytes of an arena's length. Every public call asks this
 // first, so it is quick: each record and its path are read once, and nothing above the count. It writes nothing.
 // specs/Validate.antt has the tests, one for each pass; proofs/HoldsTests.antt shows that together they are model/specs/Arena.antt's `holdsGraph`.
-use record_check::Checked;
 ghost use mathlib.Core.Path.{_≡_};
 ghost use mathlib.Core.Bool.{_||_};
 ghost use Prim.Native.Nat.{_≤_, _<_};
@@ -10,7 +9,7 @@ ghost use lib.ListN.{length};
 ghost use Rattle.model.specs.Arena.{arenaBytes, countIn, recordLengthIn, localRootIn, marksRight, holdsGraph};
 ghost use Rattle.path_tables.specs.Tables.{Tables};
 ghost use Rattle.arena.specs.Slot.{HasSlot, arcIn, parentIn};
-ghost use Rattle.validate.specs.Validate.{marksAt, rootWith, depthRight, recordRightAfter, recordsRight, entriesRight, orderRight};
+ghost use Rattle.validate.specs.Validate.{marksAt, rootWith, depthRight, numbersRight, recordRightAfter, recordsRight, entriesRight, orderRight};
 
 // Whether these marks, a byte each, may stand together over `count` nodes.
 fn marks_allowed(count: u32, ordered: u8, finalized: u8, shallow: u8) -> bool
@@ -70,16 +69,42 @@ fn depth_right(arena: &[u8], n: u32, parent: u32) -> bool
     arena::shallow(arena) == 1
 }
 
-// Whether the record of node n is right, after records that have `path_bytes` bytes of paths and the local root `root`, 0 for none. Its path is read by the
-// tables lent.
+// Whether node n's numbers pass the questions on its links, its kind and the room left, after records that have `path_bytes` bytes of paths and the local root
+// `root`, 0 for none.
+fn numbers_right(
+    arena: &[u8],
+    n: u32,
+    length: usize,
+    arc: u8,
+    parent: u32,
+    path_bytes: usize,
+    root: u32,
+) -> bool
+    requires { ⌜ HasSlot (now arena) n × (length ≡ recordLengthIn (now arena) n) × (27 ≤ length) × (length ≤ 282) × (arc ≡ arcIn (now arena) n) ⌝ }
+    requires { ⌜ (parent ≡ parentIn (now arena) n) × («path_bytes» ≤ 32768) ⌝ }
+    ensures { λ r. ⌜ r ≡ numbersRight (now (arena .entry)) n «path_bytes» root ⌝ }
+{
+    let flags = arena::flags(arena, n);
+    if !record_check::links_allowed(n, arc, flags, parent, arena::origin(arena, n)) {
+        return false;
+    }
+    let has_specs = arena::has_specs(arena, n);
+    if !record_check::kind_allowed(n, root != 0, arc, flags, parent, has_specs) {
+        return false;
+    }
+    path_bytes + (length - 27) <= 32768
+}
+
+// Whether the record of node n is right, after records that have `path_bytes` bytes of paths and the local root `root`. Its path is read by the tables lent,
+// and last: the loop over its bytes is quickest where little else is kept for later.
 fn record_right(
     kinds: &[u8],
     pairs: &[u64],
     arena: &[u8],
     n: u32,
-    length: u16,
+    length: usize,
     arc: u8,
-    path_bytes: u32,
+    path_bytes: usize,
     root: u32,
 ) -> bool
     requires { ⌜ Tables (now kinds) (now pairs) ⌝ }
@@ -93,35 +118,21 @@ fn record_right(
         return false;
     }
     let parent = arena::parent(arena, n);
-    let path = arena::path(arena, n);
-    let checked = record_check::check_record(
-        n,
-        path_bytes,
-        root != 0,
-        arc,
-        arena::flags(arena, n),
-        parent,
-        arena::origin(arena, n),
-        arena::has_specs(arena, n),
-        path,
-        path::prim_count_by(kinds, pairs, path),
-    );
-    let Checked::Accepted(prims) = checked else {
-        return false;
-    };
-    if arena::prim_count(arena, n) != prims {
+    if !numbers_right(arena, n, length, arc, parent, path_bytes, root) {
         return false;
     }
-    depth_right(arena, n, parent)
+    if !depth_right(arena, n, parent) {
+        return false;
+    }
+    let prims = arena::prim_count(arena, n);
+    path_tables::has_names(kinds, pairs, arena::path(arena, n), prims)
 }
 
-// The local root where node n, with this arc, comes after those that have the local root `root`.
+// The local root where node n, with this arc, comes after those that have the local root `root`: where there are none, 0.
 fn root_with(n: u32, arc: u8, root: u32) -> u32
+    requires { ⌜ (n ≡ 0 → root ≡ 0) ⌝ }
     ensures { λ r. ⌜ r ≡ rootWith n arc root ⌝ }
 {
-    if n == 0 {
-        return root;
-    }
     if arc != 0 {
         return root;
     }
@@ -146,16 +157,16 @@ fn records_right(arena: &[u8], count: u32) -> bool
 {
     let kinds = path_tables::kinds();
     let pairs = path_tables::pairs();
-    let mut path_bytes: u32 = 0;
+    let mut path_bytes: usize = 0;
     let mut root: u32 = 0;
     let mut n: u32 = 0;
     while n < count {
-        let length = arena::record_length(arena, n);
+        let length = arena::record_length(arena, n) as usize;
         let arc = arena::arc(arena, n);
         if !record_right(&kinds, &pairs, arena, n, length, arc, path_bytes, root) {
             return false;
         }
-        path_bytes += (length - 27) as u32;
+        path_bytes += length - 27;
         root = root_with(n, arc, root);
         n += 1;
     }

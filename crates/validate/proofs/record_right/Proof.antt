@@ -1,38 +1,33 @@
--- `record_right` meets its contract: the record's length, then its questions, its prim count and its depth. Assumes nothing.
+-- `record_right` meets its contract: the record's length, then its numbers, its depth and its path. Assumes nothing.
 use borrow.Author.Needs.{needs}
-use mathlib.Core.Path.{_≡_, sym, _∙_}
-use Prim.Native.Nat.{_≤_}
+use mathlib.Core.Path.{_≡_, sym, ap, _∙_}
+use mathlib.Core.Bool.{true}
 use native.Mathlib.Omega.{arith}
-use Rattle.model.specs.Path.{primCount}
-use Rattle.model.specs.Refusals.{refusal}
-use Rattle.model.specs.Arena.{recordLengthIn, nodeIn}
-use Rattle.validate.specs.Validate.{questionsIn}
-use Rattle.validate.proofs.RecordLaws.{checked-refused, checked-accepted, parent-lower, too-short, too-long, refused, other-prims, depth-left}
+use lib.ListN.{length}
+use borrow.Author.Tests.{not-true, not-false}
+use Rattle.model.specs.Path.{countPrims}
+use Rattle.arena.specs.Slot.{HasPath}
+use Rattle.arena.proofs.SlotLaws.{path-length}
+use Rattle.path_tables.specs.Tables.{isNames}
+use Rattle.validate.specs.Validate.{numbersRight}
+use Rattle.validate.proofs.RecordLaws.{too-short, too-long, numbers-lower, numbers-wrong, depth-wrong, names-left}
 use Rattle.validate.proofs.record_right.Statement.{statement}
 use Rattle.validate.proofs.record_right.Tie as tie
 
 -- the record's length is right
-fits : (c : tie.Else2)
-    → (28 ≤ recordLengthIn (c .before .before .before .before .before .args .arena .now) (c .before .before .before .before .before .args .n))
-    × (recordLengthIn (c .before .before .before .before .before .args .arena .now) (c .before .before .before .before .before .args .n) ≤ 282)
+fits : (c : tie.Else2) → HasPath (c .before .before .before .before .before .args .arena .now) (c .before .before .before .before .before .args .n)
 fits c =
     let s = c .before .before .before .before .before in
-    (omega (arith, c .before .if1 .left, s .pre .1 .1), omega (arith, c .if2 .left, s .pre .1 .1))
+    record { slot = s .pre .1 .0; numbered = omega (arith, c .before .if1 .left, s .pre .1 .1); short = omega (arith, c .if2 .left, s .pre .1 .1) }
 
--- its questions pass, and its path has the prims counted
-accepted : (c : tie.After-known-told)
-    → let s = c .before .before .before .before .before .before .before .before .before .before .before .before .before .before .before in
-    (refusal (questionsIn (s .args .arena .now) (s .args .n) (s .args .path-bytes) (s .args .root)) ≡ 0)
-    × (c .before .checked .given .0 .0 ≡ primCount (nodeIn (s .args .arena .now) (s .args .n) .path))
-accepted c =
-    let p = c .before .before .before .before .before in
-    let s = p .before .before .before .before .before .before .before .before .before .before in
-    checked-accepted (s .args .arena .now) (s .args .n) (s .args .path-bytes) (s .args .root) _ _ _ _ _ _ (s .pre .1 .2)
-    (p .before .before .flags .ensures) (p .before .before .before .before .parent .ensures) (p .before .origin .ensures)
-    (p .has-specs .ensures) (p .before .before .before .path .ensures) _ (rw (c .before .checked .given .1) at (c .before .before .before .check-record .ensures))
+-- its numbers are right
+numbered : (c : tie.Else3)
+    → let a = c .before .before .before .before .before .before .before .before .args in
+    numbersRight (a .arena .now) (a .n) (a .path-bytes) (a .root) ≡ true
+numbered c = sym (c .before .numbers-right .ensures) ∙ not-false _ (c .if3 .left)
 
 returns : tie.Need-returns
-returns c = sym (too-short _ _ _ _ (omega (arith, c .if1 .taken, c .before .before .before .before .pre .1 .1)))
+returns c = let s = c .before .before .before .before in sym (too-short _ _ _ _ (omega (arith, c .if1 .taken, s .pre .1 .1)))
 
 returns-2 : tie.Need-returns-2
 returns-2 c =
@@ -42,64 +37,45 @@ returns-2 c =
 parent-requires : tie.Need-parent-requires
 parent-requires c κs = search needs
 
-path-requires : tie.Need-path-requires
-path-requires c κs =
-    let long = fits (c .before) in
-    record { slot = c .before .before .before .before .before .before .pre .1 .0; numbered = omega (arith, long .0); short = long .1 }
-
-flags-requires : tie.Need-flags-requires
-flags-requires c κs = search needs
-
-origin-requires : tie.Need-origin-requires
-origin-requires c κs = search needs
-
-has-specs-requires : tie.Need-has-specs-requires
-has-specs-requires c κs = search needs
-
-prim-count-by-requires : tie.Need-prim-count-by-requires
-prim-count-by-requires c κs = c .before .before .before .before .before .before .before .before .before .before .pre .0
-
-check-record-requires : tie.Need-check-record-requires
-check-record-requires c κs = (c .before .before .before .before .before .before .before .before .before .before .before .pre .1 .3, c .prim-count-by .ensures)
-
-enum-known-checked : tie.Need-enum-known-checked
-enum-known-checked c = search needs
-
-enum-told : tie.Need-enum-told
-enum-told c = search needs
+numbers-right-requires : tie.Need-numbers-right-requires
+numbers-right-requires c κs = search needs
 
 returns-3 : tie.Need-returns-3
 returns-3 c =
-    let p = c .before .before .before .before in
-    let s = p .before .before .before .before .before .before .before .before .before .before in
-    let long = fits (p .before .before .before .before .before) in
-    sym (refused _ _ _ _ (long .0) (long .1)
-    (checked-refused (s .args .arena .now) (s .args .n) (s .args .path-bytes) (s .args .root) _ _ _ _ _ _ (s .pre .1 .2)
-    (p .before .before .flags .ensures) (p .before .before .before .before .parent .ensures) (p .before .origin .ensures)
-    (p .has-specs .ensures) (p .before .before .before .path .ensures) _ (rw (c .enum-told .given .1) at (c .before .before .check-record .ensures))))
+    let s = c .before .before .before .before .before .before .before .before in
+    sym (numbers-wrong _ _ _ _ (fits (c .before .before .before)) (omega (arith, c .before .before .before .before .if1 .left, s .pre .1 .1)) (sym (c .before .numbers-right .ensures) ∙ not-true _ (c .if3 .taken)))
+
+depth-right-requires : tie.Need-depth-right-requires
+depth-right-requires c κs =
+    let s = c .before .before .before .before .before .before .before .before in
+    let same = c .before .before .parent .ensures in
+    (s .pre .1 .0, same, λ l. omega (arith, numbers-lower _ _ _ _ (numbered c) l, same))
+
+returns-4 : tie.Need-returns-4
+returns-4 c =
+    let s = c .before .before .before .before .before .before .before .before .before .before in
+    sym (depth-wrong _ _ _ _ (fits (c .before .before .before .before .before)) (omega (arith, c .before .before .before .before .before .before .if1 .left, s .pre .1 .1)) (numbered (c .before .before))
+    (sym (c .before .depth-right .ensures) ∙ not-true _ (c .if4 .taken)))
 
 prim-count-requires : tie.Need-prim-count-requires
 prim-count-requires c κs = search needs
 
-returns-4 : tie.Need-returns-4
-returns-4 c =
-    let long = fits (c .before .before .before .before .before .before .before .before .before .before .before .before) in
-    let checked = accepted (c .before .before) in
-    sym (other-prims _ _ _ _ (long .0) (long .1) (checked .0) (λ e. c .if3 .taken (c .before .prim-count .ensures ∙ e ∙ sym (checked .1))))
+path-requires : tie.Need-path-requires
+path-requires c κs = search needs
 
-depth-right-requires : tie.Need-depth-right-requires
-depth-right-requires c κs =
-    let s = c .before .before .before .before .before .before .before .before .before .before .before .before .before .before .before .before .before in
-    let same = c .before .before .before .before .before .before .before .before .before .before .before .parent .ensures in
-    let lower = parent-lower (s .args .arena .now) (s .args .n) (s .args .path-bytes) (s .args .root) (accepted (c .before .before) .0) in
-    (s .pre .1 .0, same, λ l. omega (arith, lower l, same))
+has-names-requires : tie.Need-has-names-requires
+has-names-requires c κs =
+    let s = c .before .before .before .before .before .before .before .before .before .before .before .before in
+    let long = path-length (s .args .arena .now) (s .args .n) (fits (c .before .before .before .before .before .before .before)) in
+    let same = ap length (c .path .ensures) in
+    (s .pre .0, (omega (arith, long, same, c .before .before .before .before .before .before .before .before .if1 .left, s .pre .1 .1), omega (arith, long, same, c .before .before .before .before .before .before .before .if2 .left, s .pre .1 .1)))
 
 returns-5 : tie.Need-returns-5
 returns-5 c =
-    let long = fits (c .before .before .before .before .before .before .before .before .before .before .before .before .before) in
-    let checked = accepted (c .before .before .before) in
-    let same = sym (c .before .before .prim-count .ensures) ∙ c .before .if3 .left ∙ checked .1 in
-    c .depth-right .ensures ∙ sym (depth-left _ _ _ _ (long .0) (long .1) (checked .0) same)
+    let s = c .before .before .before .before .before .before .before .before .before .before .before .before .before in
+    c .has-names .ensures ∙ (λ i. isNames (c .before .before .prim-count .ensures i) (countPrims (c .before .path .ensures i)))
+    ∙ sym (names-left _ _ _ _ (fits (c .before .before .before .before .before .before .before .before)) (omega (arith, c .before .before .before .before .before .before .before .before .before .if1 .left, s .pre .1 .1)) (numbered (c .before .before .before .before .before))
+    (sym (c .before .before .before .before .depth-right .ensures) ∙ not-false _ (c .before .before .before .if4 .left)))
 
 pub record-right-spec : {M : Type 1} → statement M
 record-right-spec =
@@ -108,16 +84,11 @@ record-right-spec =
     returns
     returns-2
     parent-requires
-    path-requires
-    flags-requires
-    origin-requires
-    has-specs-requires
-    prim-count-by-requires
-    check-record-requires
-    enum-known-checked
-    enum-told
+    numbers-right-requires
     returns-3
-    prim-count-requires
-    returns-4
     depth-right-requires
+    returns-4
+    prim-count-requires
+    path-requires
+    has-names-requires
     returns-5)

@@ -6,7 +6,7 @@ use Prim.Native.Nat.{_-_}
 use native.Mathlib.Omega.{arith}
 use borrow.Author.Tests.{not-true, not-false}
 use Rattle.validate.proofs.RecordLaws.{RightAfter, right-after}
-use Rattle.validate.proofs.RecordsLaws.{RecordsTo, records-none, record-fails, records-more, records-all}
+use Rattle.validate.proofs.RecordsLaws.{RecordsTo, records-none, no-root, record-fails, records-more, records-all}
 use Rattle.validate.proofs.records_right.Statement.{statement}
 use Rattle.validate.proofs.records_right.Tie as tie
 
@@ -33,6 +33,9 @@ loop-holds c = records-none _
 
 record-length-requires : tie.Need-record-length-requires Inv-loop μ-loop
 record-length-requires c κs = let s = c .before .before .before .before .before in record { whole = s .pre .0; within = omega (arith, c .loop-test, s .pre) }
+
+cast-length : tie.Need-cast-length Inv-loop μ-loop
+cast-length c = search needs
 
 arc-requires : tie.Need-arc-requires Inv-loop μ-loop
 arc-requires c κs =
@@ -66,15 +69,12 @@ returns c =
 sub-path-bytes : tie.Need-sub-path-bytes Inv-loop μ-loop
 sub-path-bytes c = omega (arith, right c .named, c .before .before .before .before .before .record-length .ensures)
 
-cast-path-bytes : tie.Need-cast-path-bytes Inv-loop μ-loop
-cast-path-bytes c = omega (arith, right c .short, c .before .before .before .before .before .record-length .ensures)
-
 add-path-bytes : tie.Need-add-path-bytes Inv-loop μ-loop
 add-path-bytes c =
     omega (arith, right c .short, c .before .before .before .before .before .record-length .ensures, c .before .before .before .before .before .before .before .loop .inv .few-bytes)
 
 root-with-requires : tie.Need-root-with-requires Inv-loop μ-loop
-root-with-requires c κs = search needs
+root-with-requires c κs = no-root _ _ _ _ (c .before .before .before .before .before .before .before .loop .inv)
 
 add-n : tie.Need-add-n Inv-loop μ-loop
 add-n c = omega (arith, c .before .before .before .before .before .before .before .loop-test, c .before .before .before .before .before .before .before .before .before .before .before .before .pre)
@@ -109,13 +109,13 @@ records-right-spec =
     pairs-requires
     loop-holds
     record-length-requires
+    cast-length
     arc-requires
     slice-aggregate-record-right
     slice-aggregate-record-right-2
     record-right-requires
     returns
     sub-path-bytes
-    cast-path-bytes
     add-path-bytes
     root-with-requires
     add-n
