@@ -13,6 +13,20 @@ pub(crate) fn cell(table: &[u16], n: u32, k: usize) -> u32
     table[n as usize * 16 + k] as u32
 }
 
+// The rank of node n.
+pub fn rank(table: &[u16], n: u32) -> u32
+    requires { ⌜ n * 16 + 3 < length (now table) ⌝ }
+{
+    cell(table, n, 3)
+}
+
+// Where the step outward from node n leads.
+pub fn outward(table: &[u16], n: u32) -> u32
+    requires { ⌜ n * 16 + 9 < length (now table) ⌝ }
+{
+    cell(table, n, 9)
+}
+
 // Stores column k of row n, the first that is not filled. The arena is there for the contract.
 pub(crate) fn put(arena: &[u8], table: &mut [u16], n: u32, k: usize, value: u32)
     requires { ⌜ Next (now arena) (now table) n k value ⌝ }

@@ -7,6 +7,8 @@ mod filling;
 mod lines;
 mod nesting;
 
+pub use cells::outward;
+pub use cells::rank;
 pub use filling::fill;
 pub use lines::weigh;
 pub use nesting::nest;

@@ -30,7 +30,7 @@ use Rattle.links.specs.Links.{Segments, Parted, listsStored}
 use Rattle.links.proofs.SegmentLaws.{tree-parted}
 use Rattle.links.proofs.LinkStores.{linksOf, links-length, Linkable}
 use Rattle.links.proofs.ListStores.{lists-right}
-use Rattle.sorting.specs.Standing.{Stands}
+use Rattle.authored.specs.Standing.{Stands}
 use Rattle.ordering.specs.Ordering.{wayIn, Walkable, walkStored, marksWritten}
 use Rattle.ordering.proofs.StepLaws.{walk-length, step-node, step-walk}
 use Rattle.ordering.proofs.WayLaws.{SameLinks, order-same-links}

@@ -11,7 +11,7 @@ ghost use Rattle.model.specs.Arena.{arenaBytes, countIn, decode, encode};
 ghost use Rattle.model.specs.ArenaCalls.{Opened};
 ghost use Rattle.model.specs.Order.{sortedChildren, hasOrder, ordering};
 ghost use Rattle.links.specs.Links.{Segments};
-ghost use Rattle.sorting.specs.Standing.{Stands};
+ghost use Rattle.authored.specs.Standing.{Stands};
 ghost use Rattle.ordering.specs.Ordering.{OrderedArena, marksWritten};
 
 // Stores the marks: ordered, and finalized unless shallow.
@@ -64,7 +64,7 @@ pub fn order_graph(arena: &mut [u8]) -> bool
     ensures { λ r. ⌜ OrderedArena (now (arena .entry)) r (now (arena .exit)) ⌝ }
 {
     let count = arena::count(arena);
-    if sorting::stands(arena, count) {
+    if authored::stands(arena, count) {
         write_standing(arena, count);
         return true;
     }

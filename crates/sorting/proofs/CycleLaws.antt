@@ -13,9 +13,9 @@ use Rattle.laws.proofs.Trees.{Child, TreeOf}
 use Rattle.laws.proofs.OrderRings.{ring-no-order}
 use Rattle.arena.proofs.ReadNodes.{sizes}
 use Rattle.verdicts.specs.Verdicts.{Pair}
-use Rattle.sorting.specs.Certificate.{ChildOf}
+use Rattle.certificate.specs.Certificate.{ChildOf}
 use Rattle.sorting.specs.Cycle.{Three}
-use Rattle.sorting.specs.Sorting.{Sorts}
+use Rattle.certificate.specs.Sorts.{Sorts}
 
 module _ (bs : List ℕ) (o : Opened bs) where
   child-of : (v c : ℕ) → ChildOf bs v c → Child (size (decode bs)) (view (decode bs .nodes) .parent) v c

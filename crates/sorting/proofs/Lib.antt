@@ -1,14 +1,6 @@
--- Sorting by insertion against the definitions; the loops over one part; one node's children; all child lists in one array; and orders that are guessed
--- and then checked, by places or by keys.
-pub mod SliceLaws
+-- Sorting by insertion against the definitions; the loops over one part; one node's children; all child lists in one array; and a cycle of three.
 mod InsertionLaws
-pub mod PartLaws
-mod ChildLaws
+mod PartLaws
+mod GatheringLaws
 mod SortingLaws
-mod StandingLaws
-mod SortsLaws
-mod AuthoredLaws
-mod CertificateParts
-mod CertificateLaws
 mod CycleLaws
-mod GuessLaws

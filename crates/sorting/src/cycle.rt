@@ -20,10 +20,10 @@ fn are_siblings(arena: &[u8], count: u32, a: u32, b: u32, c: u32) -> bool
         return false;
     }
     let parent = view::parent(arena, a);
-    if !crate::certificate::is_child(arena, count, parent, b) {
+    if !certificate::is_child(arena, count, parent, b) {
         return false;
     }
-    crate::certificate::is_child(arena, count, parent, c)
+    certificate::is_child(arena, count, parent, c)
 }
 
 // Whether three nodes are siblings in a cycle.

@@ -7,6 +7,7 @@ mod orderings;
 use model::Ordering;
 pub use orderings::by_having;
 pub use orderings::by_number;
+pub use orderings::is_less;
 pub use orderings::or_else;
 ghost use mathlib.Core.Path.{_≡_};
 ghost use Rattle.model.specs.ArenaCalls.{Readable};

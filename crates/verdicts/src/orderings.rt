@@ -1,6 +1,7 @@
 // Orderings: of two numbers, of two tests, and of one line after another.
 use model::Ordering;
 ghost use mathlib.Core.Path.{_≡_};
+ghost use Rattle.model.specs.Order.{isLess};
 ghost use Rattle.model.specs.Strength.{first, smaller, having};
 
 // The smaller is the stronger.
@@ -39,5 +40,16 @@ pub fn or_else(x: Ordering, y: Ordering) -> Ordering
         Ordering::Less => Ordering::Less,
         Ordering::Equal => y,
         Ordering::Greater => Ordering::Greater,
+    }
+}
+
+// Whether the first is the stronger.
+pub fn is_less(o: Ordering) -> bool
+    ensures { λ r. ⌜ r ≡ isLess o ⌝ }
+{
+    match o {
+        Ordering::Less => true,
+        Ordering::Equal => false,
+        Ordering::Greater => false,
     }
 }

@@ -5,7 +5,7 @@ use native.Mathlib.Omega.{arith}
 use borrow.Author.Needs.{needs}
 use Rattle.model.specs.Arena.{decode}
 use Rattle.laws.proofs.StoredLaws.{bytes-by-place}
-use Rattle.sorting.specs.Standing.{Stands}
+use Rattle.authored.specs.Standing.{Stands}
 use Rattle.ordering.proofs.OrderingLaws.{standing-has-order}
 use Rattle.ordering.proofs.order_graph.Statement.{statement}
 use Rattle.ordering.proofs.order_graph.Tie as tie

@@ -1,0 +1,3 @@
+-- The names that this crate's contracts cite.
+pub mod Authored
+pub mod Standing
