@@ -1,7 +1,7 @@
 //! Culling arenas and erasing from them: the proved calls against plain Rust, by the answers, by the set, and by every
 //! byte of the arena.
 use plain::culling::SET_BYTES;
-use plain::layout::ARENA_BYTES;
+use plain::layout::{ARENA_BYTES, COUNT, u32_at};
 use plain::order;
 use plain::random::Random;
 use plain::samples::arenas::Arena;
@@ -12,19 +12,29 @@ use plain::{culling, erasing};
 
 use crate::proved;
 
-/// Culls and erases in so many arenas: with small graphs, one larger one for each hundred, and some damaged.
+/// Of a thousand arenas at least so many are erased from, and refused for their set; and at least so many nodes go.
+const LEAST_ERASED: usize = 200;
+const LEAST_SETS: usize = 100;
+const LEAST_NODES: usize = 500;
+
+/// Culls and erases in so many arenas: with small graphs, one larger one for each hundred, and some damaged. Answers
+/// whether all agree and each case came up often enough.
 pub fn compare(seed: u64, count: usize) -> bool {
     let mut random = Random::new(seed);
     let mut any = Arena::any(&mut random);
-    let mut refused = [0; 12];
+    let (mut refused, mut gone) = ([0; 12], 0);
     for at in 0..count {
         let arena = match at % 100 {
             99 => of(&mut random, |random| full(random, 200, true)),
             at if at % 4 == 3 => filled(&mut random, &mut any),
             at => of(&mut random, |random| small(random, at % 2 == 0)),
         };
+        let nodes = u32_at(&arena, COUNT);
         match agreed(&mut random, arena) {
-            Ok(answer) => refused[answer.map_or_else(|number| number as usize, |_| 0)] += 1,
+            Ok(answer) => {
+                refused[answer.map_or_else(|number| number as usize, |_| 0)] += 1;
+                gone += answer.map_or(0, |kept| (nodes - kept) as usize);
+            }
             Err(call) => {
                 println!("arena {at} of seed {seed}: {call} differs");
                 return false;
@@ -33,10 +43,12 @@ pub fn compare(seed: u64, count: usize) -> bool {
     }
     let [erased, sizes, damaged, empty, .., sets] = refused;
     println!(
-        "{erased} arenas are culled and erased from as they should be; refused: {sizes} sets of another size, \
-        {damaged} arenas with no graph, {empty} empty, {sets} sets"
+        "{erased} arenas are culled and erased from as they should be, {gone} nodes go; refused: {sizes} sets of another \
+        size, {damaged} arenas with no graph, {empty} empty, {sets} sets"
     );
-    true
+    [(erased, LEAST_ERASED), (sets, LEAST_SETS), (gone, LEAST_NODES)]
+        .iter()
+        .all(|&(found, least)| found * 1_000 >= least * count)
 }
 
 /// An arena with a graph; every second one is ordered, if it has an order. Bytes that it does not use are of one value.

@@ -6,13 +6,18 @@ use plain::samples::graphs::{crowded, nodes, snapshot};
 
 use crate::proved;
 
+/// Of a thousand snapshots at least so many are accepted (0) or refused by each of these checks, and at least so many
+/// nodes are in those that are accepted.
+const LEAST: [(usize, usize); 6] = [(0, 100), (4, 30), (5, 30), (6, 30), (7, 1), (12, 100)];
+const LEAST_NODES: usize = 400;
+
 /// Compares the readers on `count` snapshots, prints how many were refused by which check, and answers whether the
-/// readers agree on all.
+/// readers agree on all and each answer came up often enough.
 pub fn compare(seed: u64, count: usize) -> bool {
     let mut random = Random::new(seed);
     let mut arena: Vec<u8> = (0..ARENA_BYTES).map(|_| random.byte()).collect();
     let mut ours = arena.clone();
-    let mut answers = [0; 13];
+    let (mut answers, mut read) = ([0; 13], 0);
     for at in 0..count {
         let bytes = sample(&mut random, at);
         let plain = plain::snapshot::read(&bytes, &mut arena);
@@ -25,11 +30,13 @@ pub fn compare(seed: u64, count: usize) -> bool {
             return false;
         }
         answers[plain.map_or_else(usize::from, |_| 0)] += 1;
+        read += plain.unwrap_or(0);
     }
     let refused: Vec<String> =
         (1..13).filter(|&at| answers[at] > 0).map(|at| format!("{at}: {}", answers[at])).collect();
-    println!("snapshots: {count} agree, {} accepted, refused {}", answers[0], refused.join(", "));
-    true
+    println!("snapshots: {count} agree, {} accepted with {read} nodes, refused {}", answers[0], refused.join(", "));
+    let often = |found: usize, least: usize| found * 1_000 >= least * count;
+    often(read, LEAST_NODES) && LEAST.iter().all(|&(answer, least)| often(answers[answer], least))
 }
 
 /// Mostly a damaged snapshot; a few are whole, and a few at a limit or just past it.
