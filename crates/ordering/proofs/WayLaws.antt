@@ -1,6 +1,6 @@
 -- Storing the walk while it is walked: an order entry is no link, so each step is the one that the arena had at first (`SameLinks`); and the state of
 -- `write_walk`'s loop (`Walking`), with its start, its step and its end. Assumes nothing.
-use mathlib.Core.Path.{_≡_, refl, ap, _∙_, fun-ext}
+use mathlib.Core.Path.{_≡_, refl, sym, ap, _∙_, fun-ext}
 use mathlib.Core.Logic.{inl, inr}
 use mathlib.Core.List.{List, [], _∷_}
 use Prim.Native.Nat.{ℕ, suc, _+_, _-_, _≤_, _<_}
@@ -11,7 +11,8 @@ use Rattle.model.specs.Snapshot.{bigEndian, value}
 use Rattle.laws.proofs.StoredLaws.{length-stored}
 use Rattle.arena.specs.Slot.{parentIn, orderEntryStored}
 use Rattle.arena.proofs.ArenaParts.{apart-kept, apart-slots}
-use Rattle.ordering.specs.Ordering.{stepOf, stepAt, stepIn, wayIn, Climbable, Walkable, walkStored}
+use Rattle.ordering.specs.declared.walking.Ahead.{Ahead}
+use Rattle.ordering.specs.Ordering.{onward, stepOf, stepAt, stepIn, wayIn, Knows, Climbable, Walkable, walkStored}
 
 pub record SameLinks (bs s : List ℕ) : Type 0 where
   pub first : (x : ℕ) → firstChildIn s x ≡ firstChildIn bs x
@@ -54,6 +55,9 @@ order-same-links (n ∷ ns) at s whole few =
 module _ (bs s : List ℕ) (same : SameLinks bs s) where
   step-same : (x : ℕ) → stepIn s x ≡ stepIn bs x
   step-same x = λ i. stepOf (fun-ext (same .first) i) (fun-ext (same .next) i) (fun-ext (same .parent) i) x
+
+  onward-same : (k x : ℕ) → onward (nextSiblingIn s) (parentIn s) k x ≡ onward (nextSiblingIn bs) (parentIn bs) k x
+  onward-same k x = λ i. onward (fun-ext (same .next) i) (fun-ext (same .parent) i) k x
 
   way-same : (k : ℕ) → wayIn s k ≡ wayIn bs k
   way-same k = λ i. stepAt (fun-ext (same .first) i) (fun-ext (same .next) i) (fun-ext (same .parent) i) k
@@ -107,6 +111,12 @@ module _ (before : List ℕ) (count : ℕ) (ready : Walkable before count) where
       within = omega (arith, walking-node, ready .few);
       lower = λ y some h. omega (arith, w .links .parent y, ready .lower y some (omega (arith, walking-node)));
     }
+
+    pub walking-knows : (known : Ahead) → Knows before known → Knows arena known
+    walking-knows known h = h ∙ sym (onward-same before arena (w .links) (known .node + 1) (known .node))
+
+    pub walking-learns : (known : Ahead) → Knows arena known → Knows before known
+    walking-learns known h = h ∙ onward-same before arena (w .links) (known .node + 1) (known .node)
 
     pub walking-step : (after : List ℕ) (y : ℕ) → suc at < count → y ≡ stepIn arena x → after ≡ orderEntryStored (at + 1) y arena
         → Walking before count after y (at + 1)

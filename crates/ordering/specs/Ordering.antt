@@ -10,6 +10,7 @@ use Rattle.model.specs.Node.{invalid}
 use Rattle.model.specs.Order.{hasOrder, ordering}
 use Rattle.arena.specs.Header.{marksStored}
 use Rattle.arena.specs.Slot.{parentIn}
+use Rattle.ordering.specs.declared.walking.Ahead.{Ahead}
 
 -- ordered where every child list has an order, else as it was
 pub record OrderedArena (before : List ℕ) (r : Bool) (after : List ℕ) : Type 0 where
@@ -41,6 +42,10 @@ stepIn bs x = stepOf (firstChildIn bs) (nextSiblingIn bs) (parentIn bs) x
 
 abbrev pub wayIn : List ℕ → ℕ → ℕ
 wayIn bs k = stepAt (firstChildIn bs) (nextSiblingIn bs) (parentIn bs) k
+
+-- where the walk goes on from a node is kept of it
+abbrev pub Knows : List ℕ → Ahead → Type 0
+Knows bs known = known .next ≡ onward (nextSiblingIn bs) (parentIn bs) (known .node + 1) (known .node)
 
 -- from x on up every parent is lower
 pub record Climbable (bs : List ℕ) (x : ℕ) : Type 0 where

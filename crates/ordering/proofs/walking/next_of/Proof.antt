@@ -5,7 +5,7 @@ use Rattle.ordering.proofs.walking.next_of.Statement.{statement}
 use Rattle.ordering.proofs.walking.next_of.Tie as tie
 
 first-child-requires : tie.Need-first-child-requires
-first-child-requires c κs = let s = c .before in record { whole = s .pre .whole; within = s .pre .within }
+first-child-requires c κs = let s = c .before in record { whole = s .pre .0 .whole; within = s .pre .0 .within }
 
 returns : tie.Need-returns
 returns c =
