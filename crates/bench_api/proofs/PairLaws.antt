@@ -16,10 +16,10 @@ use Rattle.model.specs.ArenaCalls.{isArena, Opened, valueUnless}
 use Rattle.model.specs.Refusals.{refusal}
 use Rattle.model.specs.Strength.{compareNodeStrength, compareSiblingNodeStrength}
 use Rattle.model.specs.declared.Ordering.{Ordering}
-use Rattle.carried.specs.Carried.{carried}
+use Rattle.c_api.specs.Carried.{carried}
 use Rattle.laws.proofs.AcceptedQuestions.{Accepted, none-refused-accepted}
 use Rattle.view.specs.View.{viewIn, Standing}
-use Rattle.verdicts.specs.Verdicts.{Pair}
+use Rattle.strength.specs.Verdicts.{Pair}
 use Rattle.bench_api.specs.Pairs.{firstOf, secondOf, areSiblings, pairQuestions, pairRefused, orElse, pairsRefused, mostPairBytes, callQuestions, callRefused, comparison, pairSum}
 
 -- ---- A refusal, or the next

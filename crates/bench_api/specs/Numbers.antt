@@ -1,4 +1,4 @@
--- What the programs in bench/ give and get, where crates/carried has no word for it: two numbers that carry no refusal, what two calls leave of a buffer, and
+-- What the programs in bench/ give and get, where crates/c_api has no word for it: two numbers that carry no refusal, what two calls leave of a buffer, and
 -- the node that is added.
 use mathlib.Core.Path.{_≡_}
 use mathlib.Core.Bool.{_&&_, cond}
@@ -18,8 +18,8 @@ use Rattle.model.specs.Calls as calls
 use Rattle.model.specs.Node.{invalid}
 use Rattle.model.specs.declared.PrimCount.{PrimCount}
 use Rattle.model.specs.declared.PrimCount.the-variants.{Names, Malformed}
-use Rattle.carried.specs.Carried.{carried, carriedAnswer}
-use Rattle.snapshots.specs.Snapshots.{writeQuestions}
+use Rattle.c_api.specs.Carried.{carried, carriedAnswer}
+use Rattle.snapshot.specs.Snapshots.{writeQuestions}
 use Rattle.erasing.specs.Erasures.{setQuestions}
 
 abbrev pub countNumber : PrimCount → ℕ

@@ -12,7 +12,7 @@ use Rattle.model.specs.Refusals.{Question, ask, refusal}
 use Rattle.model.specs.Snapshot.{field}
 use Rattle.model.specs.Strength.{compareNodeStrength, compareSiblingNodeStrength}
 use Rattle.model.specs.declared.Ordering.{Ordering}
-use Rattle.carried.specs.Carried.{carried}
+use Rattle.c_api.specs.Carried.{carried}
 use Rattle.view.specs.View.{viewIn}
 
 -- the two numbers of pair k

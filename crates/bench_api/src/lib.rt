@@ -1,5 +1,5 @@
 // C functions for the programs in bench/, and for nothing else: each is one call of the library below it, with its answer as a number, which carries refusal
-// and value where the call may be refused (crates/carried).
+// and value where the call may be refused (crates/c_api).
 mod sums;
 
 use model::NodeId;
@@ -15,7 +15,7 @@ ghost use Rattle.model.specs.Calls.{initRoot, addChild, readInto, comparesNodes
 ghost use Rattle.model.specs.Graph.{emptyGraph};
 ghost use Rattle.model.specs.Path.{countPrims};
 ghost use Rattle.model.specs.Strength.{view, compareNodeStrength};
-ghost use Rattle.carried.specs.Carried.{carriedAnswer, WroteCarried};
+ghost use Rattle.c_api.specs.Carried.{carriedAnswer, WroteCarried};
 ghost use Rattle.erasing.specs.Erasures.{eraseIn};
 ghost use Rattle.bench_api.specs.Numbers.{countNumber, graphNumber, referenceDesc, SnapshotCarried, ErasableCarried};
 ghost use Rattle.bench_api.specs.Pairs.{askedNumber, pairsNumber};
@@ -48,7 +48,7 @@ pub extern "C" fn bench_is_graph(arena: &[u8]) -> u32
 pub extern "C" fn bench_init_root(arena: &mut [u8], stack: u32, layer: u32, path: &[u8]) -> u64
     ensures { λ r. ⌜ WroteCarried (onArena (initRoot stack layer (now (path .entry))) (now (arena .entry))) (now (arena .entry)) r (now (arena .exit)) ⌝ }
 {
-    carried::carry_number(prim_graph::init_root(arena, stack, layer, path))
+    c_api::carry_number(prim_graph::init_root(arena, stack, layer, path))
 }
 
 // `add_child` of a Reference whose origin and depth are missing, other fields 0.
@@ -69,7 +69,7 @@ pub extern "C" fn bench_add_child(arena: &mut [u8], parent: u32, path: &[u8]) ->
         spec_from: 0,
         has_specs: 0,
     };
-    carried::carry_number(prim_graph::add_child(arena, desc, path))
+    c_api::carry_number(prim_graph::add_child(arena, desc, path))
 }
 
 // `read_snapshot`.
@@ -77,7 +77,7 @@ pub extern "C" fn bench_add_child(arena: &mut [u8], parent: u32, path: &[u8]) ->
 pub extern "C" fn bench_read_snapshot(arena: &mut [u8], bytes: &[u8]) -> u64
     ensures { λ r. ⌜ WroteCarried (intoArena (readInto (now (bytes .entry)) emptyGraph) (now (arena .entry))) (now (arena .entry)) r (now (arena .exit)) ⌝ }
 {
-    carried::carry_number(prim_graph::read_snapshot(arena, bytes))
+    c_api::carry_number(prim_graph::read_snapshot(arena, bytes))
 }
 
 // `write_snapshot`.
@@ -85,7 +85,7 @@ pub extern "C" fn bench_read_snapshot(arena: &mut [u8], bytes: &[u8]) -> u64
 pub extern "C" fn bench_write_snapshot(arena: &[u8], out: &mut [u8]) -> u64
     ensures { λ r. ⌜ SnapshotCarried (now (arena .entry)) (now (out .entry)) r (now (out .exit)) ⌝ }
 {
-    carried::carry_number(prim_graph::write_snapshot(arena, out))
+    c_api::carry_number(prim_graph::write_snapshot(arena, out))
 }
 
 // `compare_node_strength`.
@@ -93,7 +93,7 @@ pub extern "C" fn bench_write_snapshot(arena: &[u8], out: &mut [u8]) -> u64
 pub extern "C" fn bench_compare_node_strength(arena: &[u8], a: u32, b: u32) -> u64
     ensures { λ r. ⌜ r ≡ carriedAnswer (askArena (now (arena .entry)) (comparesNodes (decode (now (arena .entry))) a b)) (orderingNumber (compareNodeStrength (view (decode (now (arena .entry)) .nodes)) a b)) ⌝ }
 {
-    carried::carry_order(prim_graph::compare_node_strength(arena, a, b))
+    c_api::carry_order(prim_graph::compare_node_strength(arena, a, b))
 }
 
 // The sum of `compare_node_strength` over pairs of node numbers, eight bytes a pair: Less 0, Equal 1, Greater 2.
@@ -125,7 +125,7 @@ pub extern "C" fn bench_ask_pairs(arena: &[u8], pairs: &[u8], siblings: bool) ->
 pub extern "C" fn bench_finalize_strength_order(arena: &mut [u8]) -> u64
     ensures { λ r. ⌜ WroteCarried (onArena finalizeStrengthOrder (now (arena .entry))) (now (arena .entry)) r (now (arena .exit)) ⌝ }
 {
-    carried::carry_finish(prim_graph::finalize_strength_order(arena))
+    c_api::carry_finish(prim_graph::finalize_strength_order(arena))
 }
 
 // `cull_subtrees_without_opinions`.
@@ -133,7 +133,7 @@ pub extern "C" fn bench_finalize_strength_order(arena: &mut [u8]) -> u64
 pub extern "C" fn bench_cull(arena: &mut [u8]) -> u64
     ensures { λ r. ⌜ WroteCarried (onArena cull (now (arena .entry))) (now (arena .entry)) r (now (arena .exit)) ⌝ }
 {
-    carried::carry_finish(prim_graph::cull_subtrees_without_opinions(arena))
+    c_api::carry_finish(prim_graph::cull_subtrees_without_opinions(arena))
 }
 
 // `erasable`.
@@ -141,7 +141,7 @@ pub extern "C" fn bench_cull(arena: &mut [u8]) -> u64
 pub extern "C" fn bench_erasable(arena: &[u8], set: &mut [u8]) -> u64
     ensures { λ r. ⌜ ErasableCarried (now (arena .entry)) (now (set .entry)) r (now (set .exit)) ⌝ }
 {
-    carried::carry_finish(prim_graph::erasable(arena, set))
+    c_api::carry_finish(prim_graph::erasable(arena, set))
 }
 
 // `erase`.
@@ -149,5 +149,5 @@ pub extern "C" fn bench_erasable(arena: &[u8], set: &mut [u8]) -> u64
 pub extern "C" fn bench_erase(arena: &mut [u8], set: &[u8]) -> u64
     ensures { λ r. ⌜ WroteCarried (eraseIn (now (set .entry)) (now (arena .entry))) (now (arena .entry)) r (now (arena .exit)) ⌝ }
 {
-    carried::carry_number(prim_graph::erase(arena, set))
+    c_api::carry_number(prim_graph::erase(arena, set))
 }

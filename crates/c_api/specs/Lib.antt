@@ -1,2 +1,3 @@
 -- The names that this crate's contracts cite.
-pub mod Orders
+pub mod CarriedOrders
+pub mod Carried

@@ -1,6 +1,11 @@
 // The library for viewers in C and Rust: a few calls of crates/prim_graph as C functions on byte slices and node numbers. No function has a
 // `requires`: any slices may be lent, any numbers given. A slice is passed as a pointer and a length (viewer/include/cadgweri.h).
-// One number carries a call's refusal and its value (crates/carried).
+// One number carries a call's refusal and its value (carried.rt).
+mod carried;
+
+pub use carried::carry_finish;
+pub use carried::carry_number;
+pub use carried::carry_order;
 ghost use mathlib.Core.Path.{_≡_};
 ghost use mathlib.Core.List.{[]};
 ghost use lib.ListN.{getD};
@@ -10,15 +15,15 @@ ghost use Rattle.model.specs.ArenaCalls.{onArena, intoArena, askArena};
 ghost use Rattle.model.specs.Calls.{finalizeStrengthOrder, readInto, comparesNodes, comparesSiblings, readsEntry};
 ghost use Rattle.model.specs.Graph.{emptyGraph};
 ghost use Rattle.model.specs.Strength.{view, compareNodeStrength, compareSiblingNodeStrength};
-ghost use Rattle.carried.specs.Carried.{carriedAnswer, WroteCarried};
-ghost use Rattle.c_api.specs.Orders.{OrderCarried};
+ghost use Rattle.c_api.specs.Carried.{carriedAnswer, WroteCarried};
+ghost use Rattle.c_api.specs.CarriedOrders.{OrderCarried};
 
 // Reads a snapshot into the arena, whatever it held. The value is how many nodes it has. Refused 1, 12, then 4 to 7; the arena is then as it was.
 #[no_mangle]
 pub extern "C" fn cadgweri_read_snapshot(arena: &mut [u8], bytes: &[u8]) -> u64
     ensures { λ r. ⌜ WroteCarried (intoArena (readInto (now (bytes .entry)) emptyGraph) (now (arena .entry))) (now (arena .entry)) r (now (arena .exit)) ⌝ }
 {
-    carried::carry_number(prim_graph::read_snapshot(arena, bytes))
+    crate::carried::carry_number(prim_graph::read_snapshot(arena, bytes))
 }
 
 // The value is how many nodes the graph has. Refused 1 or 2.
@@ -26,7 +31,7 @@ pub extern "C" fn cadgweri_read_snapshot(arena: &mut [u8], bytes: &[u8]) -> u64
 pub extern "C" fn cadgweri_count(arena: &[u8]) -> u64
     ensures { λ r. ⌜ r ≡ carriedAnswer (askArena (now (arena .entry)) []) (countIn (now (arena .entry))) ⌝ }
 {
-    carried::carry_number(prim_graph::count(arena))
+    crate::carried::carry_number(prim_graph::count(arena))
 }
 
 // The value is 0 where node a is the stronger, 2 where b is, 1 where they are one node. Refused 1 to 4.
@@ -34,7 +39,7 @@ pub extern "C" fn cadgweri_count(arena: &[u8]) -> u64
 pub extern "C" fn cadgweri_compare_node_strength(arena: &[u8], a: u32, b: u32) -> u64
     ensures { λ r. ⌜ r ≡ carriedAnswer (askArena (now (arena .entry)) (comparesNodes (decode (now (arena .entry))) a b)) (orderingNumber (compareNodeStrength (view (decode (now (arena .entry)) .nodes)) a b)) ⌝ }
 {
-    carried::carry_order(prim_graph::compare_node_strength(arena, a, b))
+    crate::carried::carry_order(prim_graph::compare_node_strength(arena, a, b))
 }
 
 // The same of two siblings: refused 1 to 4, and 8 where they have not one parent.
@@ -42,7 +47,7 @@ pub extern "C" fn cadgweri_compare_node_strength(arena: &[u8], a: u32, b: u32) -
 pub extern "C" fn cadgweri_compare_sibling_node_strength(arena: &[u8], a: u32, b: u32) -> u64
     ensures { λ r. ⌜ r ≡ carriedAnswer (askArena (now (arena .entry)) (comparesSiblings (decode (now (arena .entry))) a b)) (orderingNumber (compareSiblingNodeStrength (view (decode (now (arena .entry)) .nodes)) a b)) ⌝ }
 {
-    carried::carry_order(prim_graph::compare_sibling_node_strength(arena, a, b))
+    crate::carried::carry_order(prim_graph::compare_sibling_node_strength(arena, a, b))
 }
 
 // Orders the graph: each child list is sorted, and the order is their walk; a finalized graph stays as it is. No value. Refused 1 to 3, and 9 where a
@@ -51,7 +56,7 @@ pub extern "C" fn cadgweri_compare_sibling_node_strength(arena: &[u8], a: u32, b
 pub extern "C" fn cadgweri_finalize_strength_order(arena: &mut [u8]) -> u64
     ensures { λ r. ⌜ WroteCarried (onArena finalizeStrengthOrder (now (arena .entry))) (now (arena .entry)) r (now (arena .exit)) ⌝ }
 {
-    carried::carry_finish(prim_graph::finalize_strength_order(arena))
+    crate::carried::carry_finish(prim_graph::finalize_strength_order(arena))
 }
 
 // Writes the order to the front of `out`, which has 4,096 bytes: a node's number in 4 bytes each, the strongest first. The value is how many nodes it has.
@@ -60,7 +65,7 @@ pub extern "C" fn cadgweri_finalize_strength_order(arena: &mut [u8]) -> u64
 pub extern "C" fn cadgweri_strength_order(arena: &[u8], out: &mut [u8]) -> u64
     ensures { λ r. ⌜ OrderCarried (now (arena .entry)) (now (out .entry)) r (now (out .exit)) ⌝ }
 {
-    carried::carry_number(prim_graph::strength_order(arena, out))
+    crate::carried::carry_number(prim_graph::strength_order(arena, out))
 }
 
 // The value is the node at a place of the order, from 0 on. Refused 1 to 3, 4 where the place is not below the count, and 10.
@@ -68,5 +73,5 @@ pub extern "C" fn cadgweri_strength_order(arena: &[u8], out: &mut [u8]) -> u64
 pub extern "C" fn cadgweri_order_entry(arena: &[u8], place: u32) -> u64
     ensures { λ r. ⌜ r ≡ carriedAnswer (askArena (now (arena .entry)) (readsEntry (decode (now (arena .entry))) place)) (getD (decode (now (arena .entry)) .order) place 0) ⌝ }
 {
-    carried::carry_number(prim_graph::order_entry(arena, place))
+    crate::carried::carry_number(prim_graph::order_entry(arena, place))
 }

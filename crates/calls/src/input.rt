@@ -61,7 +61,7 @@ fn answer_block(
     let mut at: usize = 0;
     while at < block.len() {
         let end = bytes::scan::find(block, at, block.len(), b'\n');
-        begun = buffers::append(line, begun, &block[at..end]);
+        begun = command_io::append(line, begun, &block[at..end]);
         at = end + 1;
         if end < block.len() {
             let answer = answer_line(line, begun, first, second, saved, swapped, out, used);
@@ -126,10 +126,10 @@ fn answer_rest(
 // Answers all of standard input. The buffer for a line is as long as an arena, since every further length of a large array is dear to check.
 pub(crate) fn answer_input() {
     let mut block = io::large_buffer();
-    let mut line = buffers::zeros();
-    let mut first = buffers::zeros();
-    let mut second = buffers::zeros();
-    let mut saved = buffers::zeros();
+    let mut line = command_io::zeros();
+    let mut first = command_io::zeros();
+    let mut second = command_io::zeros();
+    let mut saved = command_io::zeros();
     let mut out = io::large_buffer();
     let rest = answer_blocks(
         &mut block,

@@ -2,10 +2,10 @@
 // others are answered by the crates `calls_make`, `calls_change`, `calls_look`, `calls_compare` and `calls_paths`.
 use calls_text::Answered;
 use calls_text::bad_line;
+use calls_text::is_call;
 use calls_text::put;
 use calls_text::put_refusal;
-use calls_words::is_call;
-use calls_words::word;
+use calls_text::word;
 use model::Finished;
 
 // What goes on from line to line: how many bytes of the output are used, and whether the second arena is the current one.
@@ -122,11 +122,11 @@ fn answer_on(line: &[u8], arena: &mut [u8], out: &mut [u8], used: usize) -> usiz
     if line.len() == 0 {
         return used;
     }
-    let made = calls_make::answer(line, arena, out, used);
+    let made = calls_write::make::answer(line, arena, out, used);
     if let Answered::Used(end) = made {
         return end;
     }
-    let changed = calls_change::answer(line, arena, out, used);
+    let changed = calls_write::change::answer(line, arena, out, used);
     if let Answered::Used(end) = changed {
         return end;
     }
@@ -135,15 +135,15 @@ fn answer_on(line: &[u8], arena: &mut [u8], out: &mut [u8], used: usize) -> usiz
 
 // The answer to a line that leaves the arena as it is.
 fn answer_seen(line: &[u8], arena: &[u8], out: &mut [u8], used: usize) -> usize {
-    let seen = calls_look::answer(line, arena, out, used);
+    let seen = calls_read::look::answer(line, arena, out, used);
     if let Answered::Used(end) = seen {
         return end;
     }
-    let compared = calls_compare::answer(line, arena, out, used);
+    let compared = calls_read::compare::answer(line, arena, out, used);
     if let Answered::Used(end) = compared {
         return end;
     }
-    let path = calls_paths::answer(line, out, used);
+    let path = calls_read::paths::answer(line, out, used);
     if let Answered::Used(end) = path {
         return end;
     }

@@ -1,10 +1,11 @@
-// What the answers to the lines of the command `calls` are made of: numbers and bytes in hexadecimal, read and put out. Nothing
-// is proved of what they say, only that every function is safe and ends: no public function has a `requires`, and each does nothing with a
-// number that does not fit the buffer beside it.
+// The text of the command `calls`: the words of a line and the numbers among them (words.rt), bytes in hexadecimal (hex.rt), the answers that all lines share
+// (answers.rt), the output (output.rt) and the turns of its loop (input.rt). Nothing is proved of what they say, only that every function is safe and ends: no
+// public function has a `requires`, and each does nothing with a number that does not fit the buffer beside it.
 mod answers;
 mod hex;
 mod input;
 mod output;
+mod words;
 
 pub use answers::Answered;
 pub use answers::bad_line;
@@ -22,3 +23,9 @@ pub use output::front;
 pub use output::put;
 pub use output::put_between;
 pub use output::put_number;
+pub use words::Number;
+pub use words::ShortNumber;
+pub use words::is_call;
+pub use words::read_number;
+pub use words::read_short_number;
+pub use words::word;

@@ -20,8 +20,8 @@ use Rattle.laws.proofs.OrderPlaces.{certified-permute, certified-order}
 use Rattle.arena.proofs.ReadNodes.{sizes}
 use Rattle.view.specs.View.{viewIn}
 use Rattle.view.proofs.ViewLaws.{legal}
-use Rattle.links.specs.Links.{startOf, part}
-use Rattle.links.proofs.LinkLaws.{slice-done}
+use Rattle.child_lists.specs.Links.{startOf, part}
+use Rattle.child_lists.proofs.LinkLaws.{slice-done}
 use Rattle.certificate.specs.Sorts.{Sorts}
 use Rattle.certificate.specs.Certificate.{placeIn, ChildOf, Part, ByLines, FitsIn}
 use Rattle.certificate.proofs.SliceLaws.{Each, each-none, each-more, each-all}

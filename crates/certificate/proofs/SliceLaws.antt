@@ -11,7 +11,7 @@ use lib.ListN.{length, getD}
 use lib.Seq.{slice, slice-cons}
 use Rattle.model.specs.Lists.{All, Pairs}
 use Rattle.laws.proofs.OrderKeys.{First, Neighbours}
-use Rattle.links.proofs.LinkLaws.{slice-done}
+use Rattle.child_lists.proofs.LinkLaws.{slice-done}
 
 -- P holds of the entries from `start` to `end`
 abbrev pub Each : (ℕ → Type 0) → List ℕ → ℕ → ℕ → Type 0

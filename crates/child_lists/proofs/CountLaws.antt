@@ -17,9 +17,9 @@ use Rattle.model.specs.Arena.{countIn, nextSiblingIn, nodeIn, childrenIn, chain
 use Rattle.laws.proofs.LengthLaws.{length-once, once-of-length}
 use Rattle.laws.proofs.ListLaws.{bit-ne, count-append, count-none, all-imp, all-append, all-below, all-below-fails}
 use Rattle.laws.proofs.SnapshotLaws.{and-first, and-second}
-use Rattle.child_lists.specs.declared.Walked.the-variants.{Left, Wrong}
+use Rattle.child_lists.specs.declared.check.Walked.the-variants.{Left, Wrong}
 use Rattle.child_lists.specs.ChildLists.{Parented, listedRight, childListsRight, leftAfter}
-use Rattle.child_lists.proofs.WalkLaws.{same-parent}
+use Rattle.child_lists.proofs.ChildListWalk.{same-parent}
 use Rattle.child_lists.proofs.OnceLaws.{linked-once}
 use Rattle.child_lists.proofs.OneListLaws.{ListRead, walk-reads, right-chain, right-links, walk-suffices}
 

@@ -14,7 +14,7 @@ use Rattle.model.specs.Arena.{countIn, firstChildIn, lastChildIn, nodeIn, chain
 use Rattle.laws.proofs.ListLaws.{all-imp}
 use Rattle.laws.proofs.SnapshotLaws.{and-first, and-second}
 use Rattle.arena.proofs.ChainLaws.{Chain, chain-length, chain-held, chain-linked, chain-ends-linked}
-use Rattle.child_lists.specs.declared.Walked.the-variants.{Left, Wrong}
+use Rattle.child_lists.specs.declared.check.Walked.the-variants.{Left, Wrong}
 use Rattle.child_lists.specs.ChildLists.{Parented, endsRight, walked, leftAfter}
 use Rattle.child_lists.proofs.OnceLaws.{Links}
 

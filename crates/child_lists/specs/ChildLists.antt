@@ -10,8 +10,8 @@ use Rattle.model.specs.Lists.{allBelow}
 use Rattle.model.specs.Node.{invalid}
 use Rattle.model.specs.Arena.{arenaBytes, countIn, firstChildIn, lastChildIn, recordLengthIn, chainIn, lastOf, chainEnds, chainRight, inChainOnce}
 use Rattle.arena.specs.Slot.{parentIn}
-use Rattle.child_lists.specs.declared.Walked.{Walked}
-use Rattle.child_lists.specs.declared.Walked.the-variants.{Left, Wrong}
+use Rattle.child_lists.specs.declared.check.Walked.{Walked}
+use Rattle.child_lists.specs.declared.check.Walked.the-variants.{Left, Wrong}
 
 -- what the check of the records has shown before: each node's record is long enough for its numbers, node 0 has no parent, the others a lower one
 pub record Parented (bs : List ℕ) : Type 0 where

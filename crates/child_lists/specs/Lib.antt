@@ -1,2 +1,4 @@
--- What is right of child lists, and what the walk of one answers.
+-- The names that this crate's contracts cite.
+pub mod Append
 pub mod ChildLists
+pub mod Links

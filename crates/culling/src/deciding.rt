@@ -15,7 +15,7 @@ fn introducer(arena: &[u8], n: u32) -> u32
     if view::is_authored(arena, n) {
         return n;
     }
-    let found = walks::origin_root_node(arena, n);
+    let found = view::origin_root_node(arena, n);
     found.node
 }
 
@@ -53,7 +53,7 @@ fn is_kept(arena: &[u8], root: u32, n: u32) -> bool
     if arena::has_specs(arena, n) != 1 {
         return false;
     }
-    !record_check::is_inert(arena::flags(arena, n))
+    !validate::is_inert(arena::flags(arena, n))
 }
 
 // Whether node n is culled, where `busy` says whether a child of it is not.
@@ -61,7 +61,7 @@ pub(crate) fn can_cull(arena: &[u8], root: u32, n: u32, busy: bool) -> bool
     requires { ⌜ Standing (now arena) root n ⌝ }
     ensures { λ r. ⌜ r ≡ canCullUnder busy (decode (now (arena .entry)) .nodes) n ⌝ }
 {
-    if record_check::is_culled(arena::flags(arena, n)) {
+    if validate::is_culled(arena::flags(arena, n)) {
         return true;
     }
     if is_kept(arena, root, n) {
@@ -74,7 +74,7 @@ pub(crate) fn can_cull(arena: &[u8], root: u32, n: u32, busy: bool) -> bool
 pub(crate) fn with_culled(flags: u8) -> u8
     ensures { λ r. ⌜ r ≡ withCulled flags ⌝ }
 {
-    if record_check::is_culled(flags) {
+    if validate::is_culled(flags) {
         return flags;
     }
     flags + 2

@@ -33,7 +33,7 @@ use Rattle.arena.proofs.HeldArenas.{held}
 use Rattle.arena.proofs.HeldEncodable.{held-encodable}
 use Rattle.arena.proofs.ReadNodes.{sizes, has-path, node-read}
 use Rattle.deepening.specs.Deepened.{CanDeepen, CanJoin, AllJoin, orderKept, sitesDeepened}
-use Rattle.deepening.proofs.SiteLaws.{SameFrom, same-node, same-join, sites-kept}
+use Rattle.deepening.proofs.DeepenedSites.{SameFrom, same-node, same-join, sites-kept}
 
 module _ (bs name : List ℕ) (bytes : Bytes bs) (can : CanDeepen bs name) where
   abbrev g : Graph

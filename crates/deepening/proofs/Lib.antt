@@ -1,5 +1,7 @@
--- The laws that the functions' proofs cite: of one site, of question 7, and of what is stored.
-mod SiteLaws
-mod FitLaws
+-- One site, question 7, and what is stored.
+mod DeepenedSites
+mod DeepenedFits
 mod EncodeDeepened
 mod EncodeSeeded
+-- The calls.
+pub mod ChildNameLaws

@@ -11,7 +11,7 @@ pub(crate) fn seed_header(from: &[u8], into: &mut [u8], count: u32)
     requires { ⌜ (length (now from) ≡ arenaBytes) × (length (now into) ≡ arenaBytes) ⌝ }
     ensures { λ _. ⌜ now (into .exit) ≡ headerSeeded (now (from .entry)) count (now (into .entry)) ⌝ }
 {
-    let ordered = crate::keeps_order(from);
+    let ordered = crate::appending::keeps_order(from);
     let finalized = arena::finalized(from) == 1;
     let shallow = arena::shallow(from) == 1;
     let root = arena::local_root(from);

@@ -12,8 +12,8 @@ pub(crate) fn deepen_record(arena: &[u8], n: u32, name: &[u8], path: &mut [u8]) 
     ensures { λ r. ⌜ Joined (now (arena .entry)) (now (name .entry)) n r (now (path .exit)) ⌝ }
 {
     let old = arena::path(arena, n);
-    let at = path_join::joint(old);
-    path_join::put_joined(old, name, at, path);
+    let at = path::join::joint(old);
+    path::join::put_joined(old, name, at, path);
     let mut node = arena::load_node(arena, n);
     node.prim_count += 1;
     node.record_length = 27 + ((at + name.len()) as u16);

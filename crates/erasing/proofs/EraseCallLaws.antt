@@ -20,7 +20,7 @@ use Rattle.model.specs.declared.Finished.the-variants.{Done, Refused as FinishR
 use Rattle.model.specs.declared.Numbered.the-variants.{Number, Refused as NumberRefused}
 use Rattle.laws.proofs.ArenaCallLaws.{refusal-some, asked-on, wrote-decided-refused, wrote-decided}
 use Rattle.arena.proofs.ReadNodes.{sizes, node-zero, no-node}
-use Rattle.erase_nodes.specs.EraseNodes.{ErasedArena}
+use Rattle.erasing.specs.EraseNodes.{ErasedArena}
 use Rattle.erasing.specs.Erasures.{Culled, isSet, ErasableWritten, eraseIn, Erased}
 
 -- ---- The questions

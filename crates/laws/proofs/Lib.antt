@@ -39,7 +39,7 @@ pub mod BigEndianLaws
 pub mod StoredLaws
 pub mod SnapshotLaws
 pub mod SnapshotReadLaws
-pub mod SnapshotExamples
+pub mod SnapshotLawExamples
 pub mod LegalGraphs
 pub mod AcceptedQuestions
 pub mod ArenaCallLaws
@@ -49,6 +49,6 @@ pub mod LegalErased
 pub mod CallsKeepLegal
 pub mod PlacesExamples
 pub mod LegalGrows
-pub mod Demand3
-pub mod Demand3Proof
-pub mod Demand3Examples
+pub mod GraphDemand3
+pub mod GraphDemand3Proof
+pub mod GraphDemand3Examples

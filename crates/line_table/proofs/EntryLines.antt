@@ -11,13 +11,13 @@ use Rattle.model.specs.declared.Ordering.the-variants.{Equal}
 use Rattle.model.specs.Strength.{View, first, smaller, sameOriginLines, localLine, sameRootLines, originLines, depthLine, specializesLines, plainLines, siblingLines}
 use Rattle.laws.proofs.Views.{LegalView}
 use Rattle.laws.proofs.StrengthWalks.{origin-below, origin-root-below}
-use Rattle.walks.specs.declared.OriginRoot.{OriginRoot}
-use Rattle.walks.specs.Walks.{RootOf}
-use Rattle.verdicts.specs.declared.Verdict.{Verdict}
-use Rattle.verdicts.specs.declared.Verdict.the-variants.{Settled, Ask}
-use Rattle.verdicts.proofs.NumberLaws.{bySibling, passed, settles, read-same, read-other, read-smaller}
-use Rattle.same_root.proofs.SameRootLaws.{RootsAlike, classes-differ, hops-differ, alike-passed}
-use Rattle.specializes.proofs.SpecializesLaws.{one-depth, roots-nested, not-nested, one-origin}
+use Rattle.view.specs.declared.origins.OriginRoot.{OriginRoot}
+use Rattle.view.specs.Walks.{RootOf}
+use Rattle.strength.specs.declared.verdicts.Verdict.{Verdict}
+use Rattle.strength.specs.declared.verdicts.Verdict.the-variants.{Settled, Ask}
+use Rattle.strength.proofs.VerdictNumbers.{bySibling, passed, settles, read-same, read-other, read-smaller}
+use Rattle.strength.proofs.SameRootLaws.{RootsAlike, classes-differ, hops-differ, alike-passed}
+use Rattle.strength.proofs.SpecializesLaws.{one-depth, roots-nested, not-nested, one-origin}
 use Rattle.line_table.specs.declared.Entry.{Entry}
 use Rattle.line_table.specs.LineTable.{EntryOf, WeighsBy, Always, NestedAtDepths, Orders, Weighs}
 

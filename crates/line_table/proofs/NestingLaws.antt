@@ -17,7 +17,7 @@ use Rattle.laws.proofs.StrengthFlips.{eqb-sym}
 use Rattle.laws.proofs.StrengthWalks.{nested-self, nested-zero, nested-step, outward-lower}
 use Rattle.view.specs.View.{viewIn}
 use Rattle.line_table.specs.LineTable.{nodeRow, Tabled, Inward, NestedRow}
-use Rattle.line_table.proofs.TableLaws.{cell}
+use Rattle.line_table.proofs.TableCells.{cell}
 
 pub outward-cell : {bs t : List ℕ} {m : ℕ} → Tabled bs t → 0 < m → m < countIn bs → getD t (m * 16 + 9) 0 ≡ outward (viewIn bs) m
 unfolding nodeRow

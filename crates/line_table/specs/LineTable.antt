@@ -12,9 +12,9 @@ use Rattle.model.specs.Graph.{depthBelowIntroduction}
 use Rattle.model.specs.Arena.{countIn, decode}
 use Rattle.model.specs.Strength.{View, isAuthored, isImplied, originRootNode, originHops, outward, isNestedUnder, originsAreNested, replaced, classHierarchyFrom, skipRelocates, classDepth, siblingLines}
 use Rattle.view.specs.View.{viewIn, Standing}
-use Rattle.verdicts.specs.declared.Verdict.{Verdict}
-use Rattle.verdicts.specs.declared.Verdict.the-variants.{Settled, Ask}
-use Rattle.verdicts.specs.Verdicts.{resolve}
+use Rattle.strength.specs.declared.verdicts.Verdict.{Verdict}
+use Rattle.strength.specs.declared.verdicts.Verdict.the-variants.{Settled, Ask}
+use Rattle.strength.specs.Verdicts.{resolve}
 use Rattle.line_table.specs.declared.Entry.{Entry}
 
 -- ---- Entries

@@ -1,9 +1,9 @@
 // Document 01's lines on two siblings, by their entries alone.
 use crate::Entry;
 use model::Ordering;
-use verdicts::Verdict;
+use strength::Verdict;
 ghost use Rattle.model.specs.Strength.{sameOriginLines, localLine, sameRootLines, originLines, specializesLines, plainLines};
-ghost use Rattle.verdicts.proofs.NumberLaws.{bySibling};
+ghost use Rattle.strength.proofs.VerdictNumbers.{bySibling};
 ghost use Rattle.line_table.specs.LineTable.{Always, NestedAtDepths, Orders, Weighs, WeighsBy};
 
 // "Smaller sibling number, then smaller node number."
@@ -11,9 +11,9 @@ fn by_sibling(a: Entry, b: Entry) -> Ordering
     ensures { λ r. ⌜ Orders bySibling a b r ⌝ }
 {
     if a.sibling != b.sibling {
-        return verdicts::by_number(a.sibling, b.sibling);
+        return strength::by_number(a.sibling, b.sibling);
     }
-    verdicts::by_number(a.node, b.node)
+    strength::by_number(a.node, b.node)
 }
 
 // "2. Same origin: authored, sibling number, then node number; else implied over not implied, then node number."
@@ -26,9 +26,9 @@ fn same_origin(a: Entry, b: Entry) -> Ordering
     if b.authored {
         return by_sibling(a, b);
     }
-    verdicts::or_else(
-        verdicts::by_having(a.implied, b.implied),
-        verdicts::by_number(a.node, b.node),
+    strength::or_else(
+        strength::by_having(a.implied, b.implied),
+        strength::by_number(a.node, b.node),
     )
 }
 
@@ -48,7 +48,7 @@ fn local_line(a: Entry, b: Entry) -> Ordering
     if !b.local {
         return Ordering::Equal;
     }
-    verdicts::by_having(a.implied, b.implied)
+    strength::by_having(a.implied, b.implied)
 }
 
 // "4. Smaller class depth; more hops; if neither is authored and both have the local root's stack, implied over not; node strength of the origins."
@@ -56,14 +56,14 @@ fn weigh_same_root(a: Entry, b: Entry) -> Verdict
     ensures { λ r. ⌜ WeighsBy sameRootLines Always a b r ⌝ }
 {
     if a.class_depth != b.class_depth {
-        return Verdict::Settled(verdicts::by_number(a.class_depth, b.class_depth));
+        return Verdict::Settled(strength::by_number(a.class_depth, b.class_depth));
     }
     if a.hops != b.hops {
-        return Verdict::Settled(verdicts::by_number(b.hops, a.hops));
+        return Verdict::Settled(strength::by_number(b.hops, a.hops));
     }
     match local_line(a, b) {
         Ordering::Less => Verdict::Settled(Ordering::Less),
-        Ordering::Equal => Verdict::Ask(a.origin, b.origin, verdicts::by_number(a.node, b.node)),
+        Ordering::Equal => Verdict::Ask(a.origin, b.origin, strength::by_number(a.node, b.node)),
         Ordering::Greater => Verdict::Settled(Ordering::Greater),
     }
 }
@@ -78,7 +78,7 @@ fn weigh_origins(a: Entry, b: Entry) -> Verdict
     if a.root == b.root {
         return weigh_same_root(a, b);
     }
-    Verdict::Ask(a.root, b.root, verdicts::by_number(a.node, b.node))
+    Verdict::Ask(a.root, b.root, strength::by_number(a.node, b.node))
 }
 
 // The list for two that are HAS_SPECIALIZES. "1. Unless R(a), R(b) are nested: larger depth."
@@ -91,7 +91,7 @@ fn weigh_specializes(a: Entry, b: Entry, nested: bool) -> Verdict
     if nested {
         return weigh_origins(a, b);
     }
-    Verdict::Settled(verdicts::by_number(b.depth, a.depth))
+    Verdict::Settled(strength::by_number(b.depth, a.depth))
 }
 
 // "3. Larger depth. 4. Node strength of the origins. 5. Smaller sibling number, then smaller node number."
@@ -99,7 +99,7 @@ fn weigh_plain(a: Entry, b: Entry) -> Verdict
     ensures { λ r. ⌜ WeighsBy plainLines Always a b r ⌝ }
 {
     if a.depth != b.depth {
-        return Verdict::Settled(verdicts::by_number(b.depth, a.depth));
+        return Verdict::Settled(strength::by_number(b.depth, a.depth));
     }
     Verdict::Ask(a.origin, b.origin, by_sibling(a, b))
 }
@@ -109,7 +109,7 @@ pub fn weigh(a: Entry, b: Entry, nested: bool) -> Verdict
     ensures { λ r. ⌜ Weighs a b nested r ⌝ }
 {
     if a.rank != b.rank {
-        return Verdict::Settled(verdicts::by_number(a.rank, b.rank));
+        return Verdict::Settled(strength::by_number(a.rank, b.rank));
     }
     if !a.special {
         return weigh_plain(a, b);

@@ -1,5 +1,5 @@
 -- What callers may cite, and what the functions' proofs do.
 pub mod CallLaws
 mod PutLaws
-mod NumberLaws
-mod LineLaws
+mod DecimalLaws
+mod ListingLines

@@ -75,7 +75,7 @@ fn print_refusal(refusal: Refusal) {
 
 // Prints the listing of an ordered graph.
 fn print_listing(arena: &[u8]) {
-    let mut text = buffers::zeros();
+    let mut text = command_io::zeros();
     let listed = listing::write_listing(arena, &mut text);
     match listed {
         Numbered::Number(length) => print(&text[..length as usize]),
@@ -85,7 +85,7 @@ fn print_listing(arena: &[u8]) {
 
 // Orders the graph of a snapshot and prints it.
 fn order(snapshot: &[u8]) {
-    let mut arena = buffers::zeros();
+    let mut arena = command_io::zeros();
     let read = prim_graph::read_snapshot(&mut arena, snapshot);
     if let Numbered::Refused(refusal) = read {
         print_refusal(refusal);

@@ -26,7 +26,7 @@ use Rattle.arena.proofs.ArenaParts.{site-short, root-part, link-part, site-part
 use Rattle.arena.proofs.ArenaBack.{encode-decode}
 use Rattle.arena.proofs.HeldEncodable.{held-encodable}
 use Rattle.arena.proofs.ReadNodes.{sizes}
-use Rattle.links.proofs.LinkStores.{linksOf, links-keep-site}
+use Rattle.child_lists.proofs.LinkStores.{linksOf, links-keep-site}
 
 module _ (bs : List ℕ) (bytes : Bytes bs) (o : Opened bs) (h : Graph) (same : h .nodes ≡ decode bs .nodes) (some-node : 0 < size (decode bs)) where
   abbrev g : Graph

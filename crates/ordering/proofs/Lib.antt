@@ -4,3 +4,7 @@ mod StepLaws
 mod WayLaws
 mod EncodeOrdered
 mod OrderingLaws
+-- The calls.
+mod FinalizeLaws
+mod OrderEntries
+mod OrderCallLaws

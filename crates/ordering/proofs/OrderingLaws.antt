@@ -26,11 +26,11 @@ use Rattle.arena.proofs.HeldArenas.{held}
 use Rattle.arena.proofs.HeldEncodable.{held-encodable}
 use Rattle.arena.proofs.ReadNodes.{sizes, fields-read}
 use Rattle.arena.proofs.TabulateLaws.{tabulate-same}
-use Rattle.links.specs.Links.{Segments, Parted, listsStored}
-use Rattle.links.proofs.SegmentLaws.{tree-parted}
-use Rattle.links.proofs.LinkStores.{linksOf, links-length, Linkable}
-use Rattle.links.proofs.ListStores.{lists-right}
-use Rattle.authored.specs.Standing.{Stands}
+use Rattle.child_lists.specs.Links.{Segments, Parted, listsStored}
+use Rattle.child_lists.proofs.SegmentLaws.{tree-parted}
+use Rattle.child_lists.proofs.LinkStores.{linksOf, links-length, Linkable}
+use Rattle.child_lists.proofs.ListStores.{lists-right}
+use Rattle.sorting.specs.Standing.{Stands}
 use Rattle.ordering.specs.Ordering.{wayIn, Walkable, walkStored, marksWritten}
 use Rattle.ordering.proofs.StepLaws.{walk-length, step-node, step-walk}
 use Rattle.ordering.proofs.WayLaws.{SameLinks, order-same-links}

@@ -1,2 +1,4 @@
 -- The names that this crate's contracts cite.
+pub mod Finalizing
+pub mod OrderReading
 pub mod Ordering

@@ -10,7 +10,7 @@ use Rattle.model.specs.declared.Refusal.the-variants.{Size, Path, Capacity}
 use Rattle.model.specs.declared.Appended.the-variants.{Length, Refused}
 use Rattle.model.specs.Path.{wellFormed, nameStart, lastName, endsInName, separator, appendName, appendChildName}
 use Rattle.laws.proofs.PathGrammar.{well-formed-length}
-use Rattle.path_join.proofs.JoinLaws.{separator-short}
+use Rattle.path.proofs.JoinLaws.{separator-short}
 
 abbrev pub joinable : List ℕ → List ℕ → Bool
 joinable p child = wellFormed p && (wellFormed child && endsInName child)

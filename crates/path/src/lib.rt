@@ -1,14 +1,20 @@
 // Paths on lent bytes: whether they are well formed, their prim count, parent, last name and introduction path, equality, and appending a
 // child's name. No public function has a `requires` on a path: on bytes that are none each answers what its definition gives for them. Only
 // `append_child_name` copies; every other path handed back is a part of the caller's. The definitions are in model/specs/Path.antt.
+// scan.rt reads one path from its front, tables.rt many by tables (rows.rt), back.rt from its end; join.rt writes one with a name appended.
+pub mod back;
+pub mod join;
 mod joining;
+pub mod rows;
+pub mod scan;
+pub mod tables;
 
 use model::Appended;
 use model::PrimCount;
 use model::Refusal;
 ghost use mathlib.Core.Path.{_≡_};
 ghost use Prim.Native.Nat.{_<_};
-ghost use Rattle.path_tables.specs.Tables.{Tables};
+ghost use Rattle.path.specs.Tables.{Tables};
 ghost use Rattle.model.specs.Path.{wellFormed, countPrims, parent, lastName, appendChildName, written, pathAtIntroDepth, samePath};
 
 // How many names the path has, or that the bytes are no path.
@@ -18,10 +24,10 @@ pub fn prim_count(path: &[u8]) -> PrimCount
     if 255 < path.len() {
         return PrimCount::Malformed;
     }
-    path_scan::read_path(path)
+    crate::scan::read_path(path)
 }
 
-// The same, by the tables of crates/path_tables, which the caller makes once for many paths.
+// The same, by the tables of tables.rt, which the caller makes once for many paths.
 pub fn prim_count_by(kinds: &[u8], pairs: &[u64], path: &[u8]) -> PrimCount
     requires { ⌜ Tables (now kinds) (now pairs) ⌝ }
     ensures { λ r. ⌜ r ≡ countPrims (now (path .entry)) ⌝ }
@@ -30,7 +36,7 @@ pub fn prim_count_by(kinds: &[u8], pairs: &[u64], path: &[u8]) -> PrimCount
     if 255 < length {
         return PrimCount::Malformed;
     }
-    path_tables::read_path(kinds, pairs, path)
+    crate::tables::read_path(kinds, pairs, path)
 }
 
 // Whether the bytes are a path (question 5).
@@ -48,7 +54,7 @@ pub fn is_well_formed(path: &[u8]) -> bool
 pub fn parent(path: &[u8]) -> &[u8]
     ensures { λ r. ⌜ now r ≡ parent (now (path .entry)) ⌝ }
 {
-    let end = path_back::parent_length(path);
+    let end = crate::back::parent_length(path);
     &path[..end]
 }
 
@@ -56,7 +62,7 @@ pub fn parent(path: &[u8]) -> &[u8]
 pub fn last_name(path: &[u8]) -> &[u8]
     ensures { λ r. ⌜ now r ≡ lastName (now (path .entry)) ⌝ }
 {
-    let start = path_back::name_start(path, path.len());
+    let start = crate::back::name_start(path, path.len());
     &path[start..]
 }
 
@@ -64,7 +70,7 @@ pub fn last_name(path: &[u8]) -> &[u8]
 pub fn path_at_intro_depth(path: &[u8], depth: u16) -> &[u8]
     ensures { λ r. ⌜ now r ≡ pathAtIntroDepth depth (now (path .entry)) ⌝ }
 {
-    let end = path_back::intro_length(path, depth);
+    let end = crate::back::intro_length(path, depth);
     &path[..end]
 }
 
@@ -98,11 +104,11 @@ pub fn append_child_name(path: &[u8], child: &[u8], out: &mut [u8]) -> Appended
         return Appended::Refused(Refusal::Path);
     }
     let name = last_name(child);
-    let at = path_join::joint(path);
+    let at = crate::join::joint(path);
     let end = at + name.len();
     if 255 < end {
         return Appended::Refused(Refusal::Capacity);
     }
-    path_join::put_joined(path, name, at, out);
+    crate::join::put_joined(path, name, at, out);
     Appended::Length(end)
 }

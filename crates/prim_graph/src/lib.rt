@@ -2,39 +2,39 @@
 // may be lent, any numbers and paths given. Each puts its questions in document 01's order; the first whose answer is no is the refusal, and then
 // every lent byte is as it was. What a call answers and leaves is its one function of model/specs/Calls.antt, made a call on bytes by
 // model/specs/ArenaCalls.antt.
-// Starting and adding are in crates/adding, the count in crates/asking, what is read of the header or one node in crates/queries, the node that uses a
-// site in crates/site_queries, the comparisons in crates/comparing, class hierarchies in crates/hierarchies, ordering in crates/finalizing, reading the
-// order in crates/order_reading, culling and erasing in crates/erasing, appending a child's name in crates/child_names, reading and writing a snapshot in
-// crates/snapshots. Nothing is defined here.
-pub use adding::Depth;
-pub use adding::NodeDesc;
-pub use adding::add_child;
-pub use adding::init_root;
-pub use asking::count;
-pub use child_names::append_child_name_to_all_sites;
-pub use child_names::seed_child;
-pub use comparing::compare_node_strength;
-pub use comparing::compare_sibling_node_strength;
-pub use comparing::is_ancestor_of;
-pub use comparing::same_site;
-pub use erasing::cull_subtrees_without_opinions;
-pub use erasing::erasable;
-pub use erasing::erase;
-pub use finalizing::finalize_strength_order;
-pub use hierarchies::HierarchyRead;
-pub use hierarchies::get_propagated_specializes_node;
-pub use hierarchies::is_propagated_specializes;
-pub use hierarchies::starting_node_of_class_hierarchy;
-pub use order_reading::order_entry;
-pub use order_reading::strength_order;
-pub use queries::GraphInfo;
-pub use queries::GraphRead;
-pub use queries::NodeRead;
-pub use queries::depth_below_introduction;
-pub use queries::graph_info;
-pub use queries::node;
-pub use queries::path;
-pub use queries::path_at_introduction;
-pub use site_queries::node_using_site;
-pub use snapshots::read_snapshot;
-pub use snapshots::write_snapshot;
+// Starting and adding are in crates/nodes, the count in crates/validate, what is read of the header or one node in crates/nodes, the node that uses a
+// site in crates/nodes, the comparisons in crates/strength, class hierarchies in crates/strength, ordering in crates/ordering, reading the
+// order in crates/ordering, culling and erasing in crates/erasing, appending a child's name in crates/deepening, reading and writing a snapshot in
+// crates/snapshot. Nothing is defined here.
+pub use deepening::calls::append_child_name_to_all_sites;
+pub use deepening::calls::seed_child;
+pub use erasing::calls::cull_subtrees_without_opinions;
+pub use erasing::calls::erasable;
+pub use erasing::calls::erase;
+pub use nodes::Depth;
+pub use nodes::NodeDesc;
+pub use nodes::calls::GraphInfo;
+pub use nodes::calls::GraphRead;
+pub use nodes::calls::NodeRead;
+pub use nodes::calls::add_child;
+pub use nodes::calls::depth_below_introduction;
+pub use nodes::calls::graph_info;
+pub use nodes::calls::init_root;
+pub use nodes::calls::node;
+pub use nodes::calls::node_using_site;
+pub use nodes::calls::path;
+pub use nodes::calls::path_at_introduction;
+pub use ordering::calls::finalize_strength_order;
+pub use ordering::calls::order_entry;
+pub use ordering::calls::strength_order;
+pub use snapshot::calls::read_snapshot;
+pub use snapshot::calls::write_snapshot;
+pub use strength::calls::HierarchyRead;
+pub use strength::calls::compare_node_strength;
+pub use strength::calls::compare_sibling_node_strength;
+pub use strength::calls::get_propagated_specializes_node;
+pub use strength::calls::is_ancestor_of;
+pub use strength::calls::is_propagated_specializes;
+pub use strength::calls::same_site;
+pub use strength::calls::starting_node_of_class_hierarchy;
+pub use validate::count;

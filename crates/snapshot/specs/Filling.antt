@@ -11,7 +11,7 @@ use Rattle.model.specs.Calls.{readInto}
 use Rattle.model.specs.ArenaCalls.{Opened}
 use Rattle.model.specs.Arena.{arenaBytes, countIn, decode}
 use Rattle.arena.specs.declared.Node.{Node}
-use Rattle.snapshot_check.specs.Reading.{nodesRead, Exact, Named}
+use Rattle.snapshot.specs.SnapshotReading.{nodesRead, Exact, Named}
 use Rattle.snapshot.specs.declared.fill.Ids.{Ids}
 use Rattle.snapshot.specs.declared.fill.Ids.the-variants as Ids
 use Rattle.snapshot.specs.declared.fill.Tail.{Tail}

@@ -1,9 +1,9 @@
 // The reader's last pass: an arena is filled with the nodes of a snapshot that passed every question. It decides nothing.
+use crate::fields::Byte;
+use crate::fields::Field;
+use crate::fields::Short;
 use arena::Node;
 use model::NodeId;
-use snapshot_check::Byte;
-use snapshot_check::Field;
-use snapshot_check::Short;
 ghost use mathlib.Core.Path.{_≡_};
 ghost use Prim.Native.Nat.{_≤_};
 ghost use lib.ListN.{length};
@@ -36,16 +36,16 @@ fn take_ids(body: &[u8]) -> Ids
     requires { ⌜ 27 ≤ length (now body) ⌝ }
     ensures { λ r. ⌜ r ≡ idsOf (now (body .entry)) ⌝ }
 {
-    let Field::Value(stack) = snapshot_check::take_u32(body, 2) else {
+    let Field::Value(stack) = crate::fields::take_u32(body, 2) else {
         return Ids::Missing;
     };
-    let Field::Value(layer) = snapshot_check::take_u32(body, 6) else {
+    let Field::Value(layer) = crate::fields::take_u32(body, 6) else {
         return Ids::Missing;
     };
-    let Field::Value(parent) = snapshot_check::take_u32(body, 10) else {
+    let Field::Value(parent) = crate::fields::take_u32(body, 10) else {
         return Ids::Missing;
     };
-    let Field::Value(origin) = snapshot_check::take_u32(body, 14) else {
+    let Field::Value(origin) = crate::fields::take_u32(body, 14) else {
         return Ids::Missing;
     };
     Ids::Values(stack, layer, parent, origin)
@@ -56,19 +56,19 @@ fn take_tail(body: &[u8]) -> Tail
     requires { ⌜ 27 ≤ length (now body) ⌝ }
     ensures { λ r. ⌜ r ≡ tailOf (now (body .entry)) ⌝ }
 {
-    let Short::Value(depth) = snapshot_check::take_u16(body, 18) else {
+    let Short::Value(depth) = crate::fields::take_u16(body, 18) else {
         return Tail::Missing;
     };
-    let Short::Value(sibling) = snapshot_check::take_u16(body, 20) else {
+    let Short::Value(sibling) = crate::fields::take_u16(body, 20) else {
         return Tail::Missing;
     };
-    let Short::Value(restriction) = snapshot_check::take_u16(body, 22) else {
+    let Short::Value(restriction) = crate::fields::take_u16(body, 22) else {
         return Tail::Missing;
     };
-    let Short::Value(spec_from) = snapshot_check::take_u16(body, 24) else {
+    let Short::Value(spec_from) = crate::fields::take_u16(body, 24) else {
         return Tail::Missing;
     };
-    let Byte::Value(has_specs) = snapshot_check::take_u8(body, 26) else {
+    let Byte::Value(has_specs) = crate::fields::take_u8(body, 26) else {
         return Tail::Missing;
     };
     Tail::Values(depth, sibling, restriction, spec_from, has_specs)
@@ -79,10 +79,10 @@ fn read_node(body: &[u8], prim_count: u8) -> Taken
     requires { ⌜ (27 ≤ length (now body)) × (length (now body) ≤ 282) ⌝ }
     ensures { λ r. ⌜ NodeTaken (now (body .entry)) «prim_count» r ⌝ }
 {
-    let Byte::Value(arc) = snapshot_check::take_u8(body, 0) else {
+    let Byte::Value(arc) = crate::fields::take_u8(body, 0) else {
         return Taken::Missing;
     };
-    let Byte::Value(flags) = snapshot_check::take_u8(body, 1) else {
+    let Byte::Value(flags) = crate::fields::take_u8(body, 1) else {
         return Taken::Missing;
     };
     let Ids::Values(stack, layer, parent, origin) = take_ids(body) else {
@@ -119,7 +119,7 @@ fn append_record(arena: &mut [u8], n: u32, body: &[u8], prim_count: u8)
     let Taken::Node(node) = read_node(body, prim_count) else {
         return;
     };
-    append::append_node(arena, n, node, &body[27..]);
+    child_lists::append_node(arena, n, node, &body[27..]);
 }
 
 // Makes the arena hold the empty graph, whatever it held.
@@ -140,7 +140,7 @@ pub(crate) fn fill(arena: &mut [u8], bytes: &[u8], count: u32, prims: &[u8])
     let mut at: usize = 7;
     let mut n: u32 = 0;
     while n < count {
-        let record = snapshot_check::record_at(bytes, at);
+        let record = crate::checks::record_at(bytes, at);
         append_record(arena, n, record, prims[n as usize]);
         at += 2 + record.len();
         n += 1;

@@ -1,8 +1,9 @@
-// The reader of snapshots (document 01) takes bytes into an arena. It asks everything first, by crates/snapshot_check, and writes nothing before all of it
-// passed. The writer is in crates/snapshot_writer.
-// What a snapshot is stands in model/specs/Snapshot.antt, what reading one comes to in its Calls.antt (`readInto`). specs/ has what the functions
-// here promise each other, and proofs/ReadBack.antt says that what is written reads back.
+// Snapshots: reading one into an arena and writing the graph of an arena as one. reader.rt asks everything (checks.rt, field by field by fields.rt) before anything is
+// written, then fills the arena (fill.rt); writer.rt writes; calls.rt has the calls. What a snapshot is stands in model/specs/Snapshot.antt; proofs/ReadBack.antt says
+// that what is written reads back.
+pub mod calls;
+mod checks;
+mod fields;
 mod fill;
 mod reader;
-
-pub use reader::read_snapshot;
+mod writer;

@@ -15,11 +15,11 @@ pub fn read_snapshot(arena: &mut [u8], bytes: &[u8]) -> Numbered
     requires { ⌜ length (now arena) ≡ arenaBytes ⌝ }
     ensures { λ r. ⌜ Wrote (readInto (now (bytes .entry)) emptyGraph) (now (arena .entry)) r (now (arena .exit)) ⌝ }
 {
-    let Numbered::Number(count) = snapshot_check::check_lengths(bytes) else {
+    let Numbered::Number(count) = crate::checks::check_lengths(bytes) else {
         return Numbered::Refused(Refusal::Snapshot);
     };
     let mut prims = [0u8; 1024];
-    let checked = snapshot_check::check_records(bytes, count, &mut prims);
+    let checked = crate::checks::check_records(bytes, count, &mut prims);
     if let Finished::Refused(refusal) = checked {
         return Numbered::Refused(refusal);
     }

@@ -1,70 +1,20 @@
-// The strength of two nodes, `compare_node_strength`, and of two siblings, `compare_sibling_node_strength`: a cycle of functions that ask each other about lower
-// nodes. Siblings join it where their own records do not settle them (`compare_siblings`).
-// Document 01's lists of lines stand outside the cycle, in lines.rt and crates/specializes: they settle two siblings, or say which two nodes to ask. It
-// never refuses and never writes: the nodes are of the graph that the arena holds, which callers prove; crates/comparing has the calls that put the
-// questions. `root` is the local root's number, 0 for none.
-// The definitions are in model/specs/Strength.antt; verdicts/specs/Verdicts.antt says what an unsettled answer means.
+// Which of two nodes is the stronger. comparison.rt has the two comparisons, a cycle of functions; lines.rt, specializes.rt and same_root.rt are document 01's lists
+// of lines on two siblings, made of what verdicts.rt and orderings.rt have; propagated.rt finds the copy of a node under the local root. calls.rt has the calls,
+// which put their questions first; what is beside it requires nodes of the graph that the arena holds. Nothing is written. `root` is the local root's number, 0
+// for none. The definitions are in model/specs/Strength.antt and Hierarchy.antt; specs/Verdicts.antt says what an unsettled answer means.
+pub mod calls;
+mod comparison;
 mod lines;
+mod orderings;
+mod propagated;
+mod same_root;
+mod specializes;
+mod verdicts;
 
-use lines::Known;
-use model::Ordering;
-use verdicts::Verdict;
-use walks::Parting;
-ghost use mathlib.Core.Path.{_≡_};
-ghost use Rattle.model.specs.Strength.{compareSiblingNodeStrength, compareNodeStrength};
-ghost use Rattle.view.specs.View.{viewIn, Standing};
-ghost use Rattle.verdicts.specs.Verdicts.{Pair};
-
-// Which of two siblings is the stronger. Two arcs settle it here: a caller's loop has no call for them.
-pub fn compare_sibling_node_strength(arena: &[u8], root: u32, a: u32, b: u32) -> Ordering
-    requires { ⌜ Pair (now arena) root a b ⌝ }
-    ensures { λ r. ⌜ r ≡ compareSiblingNodeStrength (viewIn (now (arena .entry))) a b ⌝ }
-{
-    match lines::by_rank(arena, root, a, b) {
-        Known::As(o) => o,
-        Known::Open => settle_siblings(arena, root, a, b),
-    }
-}
-
-// The same. What their own records settle is settled outside the cycle.
-fn settle_siblings(arena: &[u8], root: u32, a: u32, b: u32) -> Ordering
-    requires { ⌜ Pair (now arena) root a b ⌝ }
-    ensures { λ r. ⌜ r ≡ compareSiblingNodeStrength (viewIn (now (arena .entry))) a b ⌝ }
-{
-    match lines::settle(arena, root, a, b) {
-        Known::As(o) => o,
-        Known::Open => compare_siblings(arena, root, a, b),
-    }
-}
-
-// The same of two whose arcs have one rank. A node asked with itself is Equal, and need not be walked.
-fn compare_siblings(arena: &[u8], root: u32, a: u32, b: u32) -> Ordering
-    requires { ⌜ Pair (now arena) root a b × (viewIn (now arena) .rank a ≡ viewIn (now arena) .rank b) ⌝ }
-    ensures { λ r. ⌜ r ≡ compareSiblingNodeStrength (viewIn (now (arena .entry))) a b ⌝ }
-{
-    match lines::weigh(arena, root, a, b) {
-        Verdict::Settled(o) => o,
-        Verdict::Ask(x, y, o) => {
-            if x == y {
-                return o;
-            }
-            verdicts::or_else(compare_node_strength(arena, root, x, y), o)
-        }
-    }
-}
-
-// Which of two nodes is the stronger.
-pub fn compare_node_strength(arena: &[u8], root: u32, a: u32, b: u32) -> Ordering
-    requires { ⌜ Standing (now arena) root a × Standing (now arena) root b ⌝ }
-    ensures { λ r. ⌜ r ≡ compareNodeStrength (viewIn (now (arena .entry))) a b ⌝ }
-{
-    match walks::part_chains(arena, a, b) {
-        Parting::Same => Ordering::Equal,
-        Parting::Above => Ordering::Less,
-        Parting::Below => Ordering::Greater,
-        Parting::Apart(x, y) => match lines::by_rank(arena, root, x, y) {
-            Known::As(o) => o,
-            Known::Open => compare_siblings(arena, root, x, y),
-        },
-    }
-}
+pub use comparison::compare_node_strength;
+pub use comparison::compare_sibling_node_strength;
+pub use orderings::by_having;
+pub use orderings::by_number;
+pub use orderings::is_less;
+pub use orderings::or_else;
+pub use verdicts::Verdict;

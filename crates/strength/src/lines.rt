@@ -1,12 +1,12 @@
 // Document 01's lines on two siblings, but for those on two that are HAS_SPECIALIZES.
+use crate::verdicts::Verdict;
 use model::Ordering;
-use verdicts::Verdict;
 ghost use mathlib.Core.Path.{_≡_};
 ghost use mathlib.Core.Bool.{false, _&&_};
 ghost use Rattle.model.specs.ArenaCalls.{Readable};
 ghost use Rattle.model.specs.Strength.{plainLines, siblingLines};
 ghost use Rattle.view.specs.View.{viewIn};
-ghost use Rattle.verdicts.specs.Verdicts.{Pair, Weighed};
+ghost use Rattle.strength.specs.Verdicts.{Pair, Weighed};
 ghost use Rattle.strength.specs.Settled.{AtOnce};
 
 // Two siblings settled at once, by their own records, or not.
@@ -20,14 +20,14 @@ fn weigh_plain(arena: &[u8], root: u32, a: u32, b: u32) -> Verdict
     requires { ⌜ Pair (now arena) root a b ⌝ }
     ensures { λ r. ⌜ Weighed (plainLines (viewIn (now (arena .entry)))) (now (arena .entry)) a b r ⌝ }
 {
-    let x = verdicts::depth(arena, a);
-    let y = verdicts::depth(arena, b);
+    let x = crate::verdicts::depth(arena, a);
+    let y = crate::verdicts::depth(arena, b);
     if x != y {
-        return Verdict::Settled(verdicts::by_number(y, x));
+        return Verdict::Settled(crate::orderings::by_number(y, x));
     }
     let from = view::origin(arena, a);
     let to = view::origin(arena, b);
-    Verdict::Ask(from, to, verdicts::by_sibling(arena, a, b))
+    Verdict::Ask(from, to, crate::verdicts::by_sibling(arena, a, b))
 }
 
 // Whether both are HAS_SPECIALIZES.
@@ -47,7 +47,7 @@ pub(crate) fn weigh(arena: &[u8], root: u32, a: u32, b: u32) -> Verdict
     ensures { λ r. ⌜ Weighed (siblingLines (viewIn (now (arena .entry)))) (now (arena .entry)) a b r ⌝ }
 {
     if both_specialize(arena, a, b) {
-        return specializes::weigh_specializes(arena, root, a, b);
+        return crate::specializes::weigh_specializes(arena, root, a, b);
     }
     weigh_plain(arena, root, a, b)
 }
@@ -77,7 +77,7 @@ pub(crate) fn by_rank(arena: &[u8], root: u32, a: u32, b: u32) -> Known
     let x = view::rank(arena, a) as u32;
     let y = view::rank(arena, b) as u32;
     if x != y {
-        return Known::As(verdicts::by_number(x, y));
+        return Known::As(crate::orderings::by_number(x, y));
     }
     Known::Open
 }

@@ -20,8 +20,8 @@ use Rattle.arena.specs.Slot.{HasPath, arcIn}
 use Rattle.arena.proofs.TabulateLaws.{tabulate-length, tabulate-at}
 use Rattle.arena.proofs.ReadNodes.{root-found}
 use Rattle.arena.proofs.SlotLaws.{same-fields, path-length}
-use Rattle.record_check.specs.RecordCheck.{questionsAt}
-use Rattle.record_check.proofs.RecordCheckLaws.{questions-at}
+use Rattle.validate.specs.RecordCheck.{questionsAt}
+use Rattle.validate.proofs.RecordCheckLaws.{questions-at}
 use Rattle.validate.specs.Validate.{pathBytesBelow, rootWith, rootBelow, questionsIn}
 
 -- ---- A list tabulated one longer

@@ -24,7 +24,7 @@ use Rattle.arena.proofs.SlotLaws.{same-fields, path-length}
 use Rattle.child_lists.specs.ChildLists.{Parented}
 use Rattle.validate.specs.Validate.{pathBytesBelow, rootWith, rootBelow, questionsIn, depthRight, recordRightAfter, recordRight, recordsRight}
 use Rattle.validate.proofs.GrownLaws.{accepted-each, Fit, root-tabulated, has-path, questions-grown}
-use Rattle.validate.proofs.RecordLaws.{RightAfter, parent-lower, no-parent, path-fits, right-after, depth-left}
+use Rattle.validate.proofs.ArenaRecords.{RightAfter, parent-lower, no-parent, path-fits, right-after, depth-left}
 
 -- what `holdsGraph` asks of the records
 pub record RecordsHeld (bs : List ℕ) : Type 0 where

@@ -1,2 +1,2 @@
--- What the tests of an arena say, one for each pass.
+pub mod RecordCheck
 pub mod Validate

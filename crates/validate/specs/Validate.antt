@@ -11,7 +11,7 @@ use Rattle.model.specs.Node.{rootArc}
 use Rattle.model.specs.Refusals.{Question, refusal}
 use Rattle.model.specs.Arena.{countIn, orderedIn, shallowIn, localRootIn, orderEntryIn, primCountIn, recordLengthIn, nodeIn, tabulate, recordFits}
 use Rattle.arena.specs.Slot.{arcIn, flagsIn, parentIn, originIn, depthIn, hasSpecsIn}
-use Rattle.record_check.specs.RecordCheck.{linksAt, kindAt, roomAt, questionsAt}
+use Rattle.validate.specs.RecordCheck.{linksAt, kindAt, roomAt, questionsAt}
 
 -- ---- The marks, by their bytes
 

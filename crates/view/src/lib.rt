@@ -1,75 +1,34 @@
-// What the comparison reads of an arena: the functions of model/specs/Strength.antt's `View`, one for each of its fields, and the tests on one or two
-// nodes that its lines name. It never refuses and never writes: each function requires a node of the graph that the arena holds, which its callers
-// prove. `root` is the local root's number, 0 for none, that a caller reads once.
-// specs/View.antt has the view of an arena and what "a node of it" means.
+// What is read of the graph that an arena holds: the functions of model/specs/Strength.antt's `View`, the tests on nodes that the comparison's lines name, and the
+// walks up parents and origins. It never refuses and never writes: each function requires a node of that graph, which its callers prove. `root` is the local
+// root's number, 0 for none, that a caller reads once.
+// fields.rt has a node's own fields; relations.rt whether it is authored, implied or propagated; sites.rt its site and its parent's; origins.rt chains of origins;
+// classes.rt class hierarchies; parting.rt chains of parents. specs/View.antt has the view of an arena and what "a node of it" means.
+mod classes;
+mod fields;
+mod origins;
+mod parting;
 mod relations;
 mod sites;
 
+pub use classes::class_depth;
+pub use classes::starting_node_of_class_hierarchy;
+pub use fields::arc;
+pub use fields::depth;
+pub use fields::has_specializes;
+pub use fields::origin;
+pub use fields::parent;
+pub use fields::rank;
+pub use fields::sibling;
+pub use origins::OriginRoot;
+pub use origins::origin_root_node;
+pub use origins::origins_are_nested;
+pub use parting::Parting;
+pub use parting::is_ancestor_of;
+pub use parting::part_chains;
 pub use relations::is_authored;
 pub use relations::is_class_based;
 pub use relations::is_implied;
 pub use relations::is_propagated_specializes;
-pub use relations::outward;
-pub use relations::replaced;
 pub use sites::depth_below;
 pub use sites::in_local_stack;
 pub use sites::same_site;
-ghost use mathlib.Core.Path.{_≡_};
-ghost use Rattle.model.specs.ArenaCalls.{Readable};
-ghost use Rattle.view.specs.View.{viewIn};
-
-// The parent of node n.
-pub fn parent(arena: &[u8], n: u32) -> u32
-    requires { ⌜ Readable (now arena) n ⌝ }
-    ensures { λ r. ⌜ r ≡ viewIn (now (arena .entry)) .parent n ⌝ }
-{
-    arena::parent(arena, n)
-}
-
-// The origin of node n.
-pub fn origin(arena: &[u8], n: u32) -> u32
-    requires { ⌜ Readable (now arena) n ⌝ }
-    ensures { λ r. ⌜ r ≡ viewIn (now (arena .entry)) .origin n ⌝ }
-{
-    arena::origin(arena, n)
-}
-
-// The arc of node n.
-pub fn arc(arena: &[u8], n: u32) -> u8
-    requires { ⌜ Readable (now arena) n ⌝ }
-    ensures { λ r. ⌜ r ≡ viewIn (now (arena .entry)) .arc n ⌝ }
-{
-    arena::arc(arena, n)
-}
-
-// The rank of node n's arc, the smaller the stronger.
-pub fn rank(arena: &[u8], n: u32) -> u8
-    requires { ⌜ Readable (now arena) n ⌝ }
-    ensures { λ r. ⌜ r ≡ viewIn (now (arena .entry)) .rank n ⌝ }
-{
-    arena::arc(arena, n)
-}
-
-// Whether node n is HAS_SPECIALIZES.
-pub fn has_specializes(arena: &[u8], n: u32) -> bool
-    requires { ⌜ Readable (now arena) n ⌝ }
-    ensures { λ r. ⌜ r ≡ viewIn (now (arena .entry)) .special n ⌝ }
-{
-    arena::flags(arena, n) / 8 % 2 == 1
-}
-
-// The namespace depth of node n.
-pub fn depth(arena: &[u8], n: u32) -> u16
-    requires { ⌜ Readable (now arena) n ⌝ }
-    ensures { λ r. ⌜ r ≡ viewIn (now (arena .entry)) .depth n ⌝ }
-{
-    arena::depth(arena, n)
-}
-
-// The sibling number of node n.
-pub fn sibling(arena: &[u8], n: u32) -> u16
-    requires { ⌜ Readable (now arena) n ⌝ }
-    ensures { λ r. ⌜ r ≡ viewIn (now (arena .entry)) .sibling n ⌝ }
-{
-    arena::sibling(arena, n)
-}

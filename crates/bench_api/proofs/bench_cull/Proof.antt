@@ -1,6 +1,6 @@
 -- `bench_cull` meets its contract. Assumes nothing.
 use borrow.Author.Needs.{needs}
-use Rattle.carried.proofs.FinishLaws.{cull-value, finishes-carried}
+use Rattle.c_api.proofs.FinishLaws.{cull-value, finishes-carried}
 use Rattle.bench_api.proofs.bench_cull.Statement.{statement}
 use Rattle.bench_api.proofs.bench_cull.Tie as tie
 

@@ -1,6 +1,6 @@
 -- `bench_finalize_strength_order` meets its contract. Assumes nothing.
 use borrow.Author.Needs.{needs}
-use Rattle.carried.proofs.FinishLaws.{finalize-value, finishes-carried}
+use Rattle.c_api.proofs.FinishLaws.{finalize-value, finishes-carried}
 use Rattle.bench_api.proofs.bench_finalize_strength_order.Statement.{statement}
 use Rattle.bench_api.proofs.bench_finalize_strength_order.Tie as tie
 

@@ -1,6 +1,6 @@
 -- `cadgweri_finalize_strength_order` meets its contract. Assumes nothing.
 use borrow.Author.Needs.{needs}
-use Rattle.carried.proofs.FinishLaws.{finalize-value, finishes-carried}
+use Rattle.c_api.proofs.FinishLaws.{finalize-value, finishes-carried}
 use Rattle.c_api.proofs.cadgweri_finalize_strength_order.Statement.{statement}
 use Rattle.c_api.proofs.cadgweri_finalize_strength_order.Tie as tie
 

@@ -10,7 +10,7 @@ use borrow.Author.Tests.{not-false, eqb-true}
 use Rattle.model.specs.Arena.{countIn}
 use Rattle.laws.proofs.StoredLaws.{bytes-by-place}
 use Rattle.certificate.specs.Certificate.{FitsIn}
-use Rattle.certificate.proofs.ChildLaws.{tree-read}
+use Rattle.certificate.proofs.CertificateChildren.{tree-read}
 use Rattle.certificate.proofs.CertificateLaws.{Certifying, certifying-start, certifying-step, certifying-ends}
 use Rattle.certificate.proofs.certify.Statement.{statement}
 use Rattle.certificate.proofs.certify.Tie as tie

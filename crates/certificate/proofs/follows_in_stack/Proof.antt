@@ -3,7 +3,7 @@
 use mathlib.Core.Path.{sym, _∙_}
 use borrow.Author.Needs.{needs}
 use Rattle.laws.proofs.WalkLaws.{is-less}
-use Rattle.verdicts.proofs.NumberLaws.{read-smaller}
+use Rattle.strength.proofs.VerdictNumbers.{read-smaller}
 use Rattle.certificate.proofs.CopyParts.{stack-follows, origin-follows, said-less}
 use Rattle.certificate.proofs.follows_in_stack.Statement.{statement}
 use Rattle.certificate.proofs.follows_in_stack.Tie as tie

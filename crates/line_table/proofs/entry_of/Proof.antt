@@ -6,8 +6,8 @@ use Prim.Native.Nat.{ℕ, _+_, _*_, _<_}
 use native.Mathlib.Omega.{arith}
 use lib.ListN.{getD}
 use Rattle.line_table.specs.LineTable.{nodeRow}
-use Rattle.line_table.proofs.TableLaws.{cell, told}
-use Rattle.line_table.proofs.TableLaws.{ownRow, cell, told}
+use Rattle.line_table.proofs.TableCells.{cell, told}
+use Rattle.line_table.proofs.TableCells.{ownRow, cell, told}
 use Rattle.line_table.proofs.entry_of.Statement.{statement}
 use Rattle.line_table.proofs.entry_of.Tie as tie
 

@@ -5,7 +5,7 @@ use mathlib.Core.List.{_∷_, _++_}
 use Prim.Native.Nat.{ℕ}
 use native.Mathlib.Omega.{arith}
 use Rattle.listing.specs.Texts.{number, lineFront}
-use Rattle.listing.proofs.NumberLaws.{number-short}
+use Rattle.listing.proofs.DecimalLaws.{number-short}
 use Rattle.listing.proofs.PutLaws.{put-thrice, put-as}
 use Rattle.listing.proofs.put_front.Statement.{statement}
 use Rattle.listing.proofs.put_front.Tie as tie

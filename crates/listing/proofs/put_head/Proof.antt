@@ -2,7 +2,7 @@
 use borrow.Author.Needs.{needs}
 use native.Mathlib.Omega.{arith}
 use Rattle.listing.specs.Texts.{headLine}
-use Rattle.listing.proofs.NumberLaws.{number-short}
+use Rattle.listing.proofs.DecimalLaws.{number-short}
 use Rattle.listing.proofs.PutLaws.{put-thrice}
 use Rattle.listing.proofs.put_head.Statement.{statement}
 use Rattle.listing.proofs.put_head.Tie as tie

@@ -5,7 +5,7 @@ use native.Mathlib.Omega.{arith}
 use lib.ListN.{length-append}
 use Rattle.arena.proofs.ReadNodes.{has-path}
 use Rattle.listing.proofs.PutLaws.{put-then, put-as}
-use Rattle.listing.proofs.LineLaws.{front-short, arc-few, path-short, line-read}
+use Rattle.listing.proofs.ListingLines.{front-short, arc-few, path-short, line-read}
 use Rattle.listing.proofs.put_line.Statement.{statement}
 use Rattle.listing.proofs.put_line.Tie as tie
 

@@ -4,7 +4,7 @@ use Prim.Native.Nat.{_-_, _<_}
 use borrow.Author.Needs.{needs}
 use native.Mathlib.Omega.{arith}
 use Rattle.model.specs.Arena.{countIn}
-use Rattle.listing.proofs.LineLaws.{entry-slot, entry-readable, Listed, listed-none, listed-more, listed-all, listed-short, listed-length, line-fits}
+use Rattle.listing.proofs.ListingLines.{entry-slot, entry-readable, Listed, listed-none, listed-more, listed-all, listed-short, listed-length, line-fits}
 use Rattle.listing.proofs.put_lines.Statement.{statement}
 use Rattle.listing.proofs.put_lines.Tie as tie
 

@@ -2,7 +2,7 @@
 use borrow.Author.Needs.{needs}
 use native.Mathlib.Omega.{arith}
 use Rattle.path.proofs.JoiningLaws.{joinable-short, refused-size, refused-path, refused-capacity, joinable, joinable-named, accepted}
-use Rattle.path_join.proofs.JoinLaws.{length-append-name}
+use Rattle.path.proofs.JoinLaws.{length-append-name}
 use mathlib.Core.Path.{refl, _∙_, sym, _≡_, ap}
 use borrow.Author.Tests.{not-true, not-false}
 use Prim.Native.Nat.{_-_, ℕ, _+_}

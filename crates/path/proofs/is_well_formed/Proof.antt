@@ -1,6 +1,6 @@
 -- `is_well_formed` meets its contract, by what the count tells. Assumes nothing.
 use borrow.Author.Needs.{needs}
-use Rattle.path_scan.proofs.ReadingLaws.{counted-well-formed, uncounted-malformed}
+use Rattle.path.proofs.ReadingLaws.{counted-well-formed, uncounted-malformed}
 use mathlib.Core.Path.{_∙_, sym}
 use Rattle.path.proofs.is_well_formed.Statement.{statement}
 use Rattle.path.proofs.is_well_formed.Tie as tie

@@ -1,6 +1,6 @@
 -- `prim_count` meets its contract: what is longer than 255 bytes is no path, and the rest is read. Assumes nothing.
 use borrow.Author.Needs.{needs}
-use Rattle.path_scan.proofs.ReadingLaws.{count-prims-long, count-prims-reads}
+use Rattle.path.proofs.ReadingLaws.{count-prims-long, count-prims-reads}
 use mathlib.Core.Path.{_∙_}
 use Rattle.path.proofs.prim_count.Statement.{statement}
 use Rattle.path.proofs.prim_count.Tie as tie

@@ -4,7 +4,7 @@ use borrow.Author.Needs.{needs}
 use Rattle.model.specs.Arena.{nodeIn}
 use Rattle.model.specs.Deepening.{deepened}
 use Rattle.deepening.specs.Deepened.{siteStored}
-use Rattle.deepening.proofs.SiteLaws.{front-length, front-counted, record-joined, links-joined}
+use Rattle.deepening.proofs.DeepenedSites.{front-length, front-counted, record-joined, links-joined}
 use Rattle.deepening.proofs.seeding.seed_slot.Statement.{statement}
 use Rattle.deepening.proofs.seeding.seed_slot.Tie as tie
 

@@ -8,8 +8,8 @@ use lib.ListN.{length, take, drop}
 use lib.Seq.{take-at}
 use Rattle.model.specs.Arena.{nodeIn}
 use Rattle.model.specs.Path.{separator, appendName}
-use Rattle.path_join.proofs.JoinLaws.{length-append-name}
-use Rattle.deepening.proofs.SiteLaws.{name-some, prims-raised, few-prims, node-joined}
+use Rattle.path.proofs.JoinLaws.{length-append-name}
+use Rattle.deepening.proofs.DeepenedSites.{name-some, prims-raised, few-prims, node-joined}
 use Rattle.deepening.proofs.sites.deepen_record.Statement.{statement}
 use Rattle.deepening.proofs.sites.deepen_record.Tie as tie
 

@@ -1,7 +1,7 @@
 -- `sites::deepen_site` meets its contract: the record that is stored is the deepened node's. Assumes nothing.
 use mathlib.Core.Path.{_∙_}
 use borrow.Author.Needs.{needs}
-use Rattle.deepening.proofs.SiteLaws.{front-length, front-counted, record-joined}
+use Rattle.deepening.proofs.DeepenedSites.{front-length, front-counted, record-joined}
 use Rattle.deepening.proofs.sites.deepen_site.Statement.{statement}
 use Rattle.deepening.proofs.sites.deepen_site.Tie as tie
 

@@ -7,7 +7,7 @@ use lib.ListN.{length}
 use Rattle.model.specs.Arena.{nodeIn}
 use Rattle.model.specs.Deepening.{deepened}
 use Rattle.deepening.specs.Deepened.{CanJoin, siteStored, sitesDeepened}
-use Rattle.deepening.proofs.SiteLaws.{join-next, sites-next}
+use Rattle.deepening.proofs.DeepenedSites.{join-next, sites-next}
 use Rattle.deepening.proofs.sites.deepen_sites.Statement.{statement}
 use Rattle.deepening.proofs.sites.deepen_sites.Tie as tie
 

@@ -1,7 +1,7 @@
 -- `put` meets its contract. Assumes nothing.
 use borrow.Author.Needs.{needs}
 use mathlib.Core.Path.{refl}
-use Rattle.line_table.proofs.TableLaws.{store}
+use Rattle.line_table.proofs.TableCells.{store}
 use Rattle.line_table.proofs.cells.put.Statement.{statement}
 use Rattle.line_table.proofs.cells.put.Tie as tie
 

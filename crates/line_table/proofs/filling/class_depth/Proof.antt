@@ -1,8 +1,8 @@
 -- `class_depth` meets its contract: 0, or from the row that replaces the origin. Assumes nothing.
 use borrow.Author.Needs.{needs}
 use native.Mathlib.Omega.{arith}
-use Rattle.line_table.proofs.TableLaws.{cell-within}
-use Rattle.line_table.proofs.FillLaws.{bit-set, bit-clear, origin-lower, origin-read, authored-read, authored-class, replaced-falls, class-from-origin}
+use Rattle.line_table.proofs.TableCells.{cell-within}
+use Rattle.line_table.proofs.TableRows.{bit-set, bit-clear, origin-lower, origin-read, authored-read, authored-class, replaced-falls, class-from-origin}
 use Rattle.line_table.proofs.filling.class_depth.Statement.{statement}
 use Rattle.line_table.proofs.filling.class_depth.Tie as tie
 

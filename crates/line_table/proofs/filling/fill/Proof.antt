@@ -2,8 +2,8 @@
 use mathlib.Core.Path.{sym, _∙_}
 use Prim.Native.Nat.{_-_}
 use native.Mathlib.Omega.{arith}
-use Rattle.walks.proofs.WalkLaws.{positive}
-use Rattle.line_table.proofs.FillLaws.{none-filled, Tabling, tabling-start, tabling-row, tabling-step, tabling-end}
+use Rattle.view.proofs.WalkLoops.{positive}
+use Rattle.line_table.proofs.TableRows.{none-filled, Tabling, tabling-start, tabling-row, tabling-step, tabling-end}
 use Rattle.line_table.proofs.filling.fill.Statement.{statement}
 use Rattle.line_table.proofs.filling.fill.Tie as tie
 

@@ -2,7 +2,7 @@
 use borrow.Author.Needs.{needs}
 use native.Mathlib.Omega.{arith}
 use Rattle.line_table.specs.LineTable.{nodeRow}
-use Rattle.line_table.proofs.TableLaws.{next}
+use Rattle.line_table.proofs.TableCells.{next}
 use Rattle.line_table.proofs.filling.fill_classes.Statement.{statement}
 use Rattle.line_table.proofs.filling.fill_classes.Tie as tie
 

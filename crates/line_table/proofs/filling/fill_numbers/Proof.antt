@@ -3,7 +3,7 @@ use borrow.Author.Needs.{needs}
 use native.Mathlib.Omega.{arith}
 use Rattle.view.proofs.ViewLaws.{legal}
 use Rattle.line_table.specs.LineTable.{nodeRow}
-use Rattle.line_table.proofs.TableLaws.{small, next}
+use Rattle.line_table.proofs.TableCells.{small, next}
 use Rattle.line_table.proofs.filling.fill_numbers.Statement.{statement}
 use Rattle.line_table.proofs.filling.fill_numbers.Tie as tie
 

@@ -2,8 +2,8 @@
 use borrow.Author.Needs.{needs}
 use native.Mathlib.Omega.{arith}
 use Rattle.line_table.specs.LineTable.{nodeRow}
-use Rattle.line_table.proofs.TableLaws.{next, cell-within}
-use Rattle.line_table.proofs.FillLaws.{bit-set, bit-clear, origin-lower, origin-read, authored-read, authored-root, authored-hops, root-from-origin, hops-from-origin}
+use Rattle.line_table.proofs.TableCells.{next, cell-within}
+use Rattle.line_table.proofs.TableRows.{bit-set, bit-clear, origin-lower, origin-read, authored-read, authored-root, authored-hops, root-from-origin, hops-from-origin}
 use Rattle.line_table.proofs.filling.fill_origins.Statement.{statement}
 use Rattle.line_table.proofs.filling.fill_origins.Tie as tie
 

@@ -4,7 +4,7 @@ use mathlib.Core.Path.{refl}
 use native.Mathlib.Omega.{arith}
 use lib.ListN.{length-set}
 use Rattle.line_table.specs.LineTable.{rootRow}
-use Rattle.line_table.proofs.TableLaws.{unfilled, store}
+use Rattle.line_table.proofs.TableCells.{unfilled, store}
 use Rattle.line_table.proofs.filling.fill_root.Statement.{statement}
 use Rattle.line_table.proofs.filling.fill_root.Tie as tie
 

@@ -4,8 +4,8 @@ use mathlib.Core.Path.{sym, ap, _∙_}
 use native.Mathlib.Omega.{arith}
 use Rattle.model.specs.Lists.{bit}
 use Rattle.line_table.specs.LineTable.{nodeRow}
-use Rattle.line_table.proofs.TableLaws.{small, next}
-use Rattle.line_table.proofs.FillLaws.{parent-lower, origin-read, propagated-site, propagated-replaced, propagated-outward, other-replaced, other-outward}
+use Rattle.line_table.proofs.TableCells.{small, next}
+use Rattle.line_table.proofs.TableRows.{parent-lower, origin-read, propagated-site, propagated-replaced, propagated-outward, other-replaced, other-outward}
 use Rattle.line_table.proofs.filling.fill_sites.Statement.{statement}
 use Rattle.line_table.proofs.filling.fill_sites.Tie as tie
 

@@ -4,7 +4,7 @@ use mathlib.Core.Path.{ap, _∙_}
 use native.Mathlib.Omega.{arith}
 use Rattle.model.specs.Lists.{bit}
 use Rattle.line_table.specs.LineTable.{nodeRow}
-use Rattle.line_table.proofs.TableLaws.{next}
+use Rattle.line_table.proofs.TableCells.{next}
 use Rattle.line_table.proofs.filling.fill_tests.Statement.{statement}
 use Rattle.line_table.proofs.filling.fill_tests.Tie as tie
 

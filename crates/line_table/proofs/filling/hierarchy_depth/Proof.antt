@@ -4,8 +4,8 @@ use mathlib.Core.Path.{sym, ap, _∙_}
 use native.Mathlib.Omega.{arith}
 use borrow.Author.Tests.{not-true, not-false}
 use Rattle.model.specs.Strength.{isClassBasedArc}
-use Rattle.line_table.proofs.TableLaws.{cell-within}
-use Rattle.line_table.proofs.FillLaws.{parent-falls, up-falls, hierarchy-above, hierarchy-starts, hierarchy-none}
+use Rattle.line_table.proofs.TableCells.{cell-within}
+use Rattle.line_table.proofs.TableRows.{parent-falls, up-falls, hierarchy-above, hierarchy-starts, hierarchy-none}
 use Rattle.line_table.proofs.filling.hierarchy_depth.Statement.{statement}
 use Rattle.line_table.proofs.filling.hierarchy_depth.Tie as tie
 

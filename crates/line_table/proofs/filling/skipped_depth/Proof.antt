@@ -2,8 +2,8 @@
 use borrow.Author.Needs.{needs}
 use mathlib.Core.Path.{sym, _∙_}
 use native.Mathlib.Omega.{arith}
-use Rattle.line_table.proofs.TableLaws.{cell-within}
-use Rattle.line_table.proofs.FillLaws.{depth-read, skipped-here, parent-falls, skipped-above}
+use Rattle.line_table.proofs.TableCells.{cell-within}
+use Rattle.line_table.proofs.TableRows.{depth-read, skipped-here, parent-falls, skipped-above}
 use Rattle.line_table.proofs.filling.skipped_depth.Statement.{statement}
 use Rattle.line_table.proofs.filling.skipped_depth.Tie as tie
 

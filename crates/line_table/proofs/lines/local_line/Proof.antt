@@ -2,7 +2,7 @@
 use borrow.Author.Needs.{needs}
 use mathlib.Core.Path.{sym, _∙_}
 use borrow.Author.Tests.{not-true, not-false}
-use Rattle.same_root.proofs.SameRootLaws.{local-authored-left, local-authored-right, not-local-left, not-local-right, both-local}
+use Rattle.strength.proofs.SameRootLaws.{local-authored-left, local-authored-right, not-local-left, not-local-right, both-local}
 use Rattle.line_table.proofs.lines.local_line.Statement.{statement}
 use Rattle.line_table.proofs.lines.local_line.Tie as tie
 

@@ -1,7 +1,7 @@
 -- `same_origin` meets its contract: one is authored, or neither is. Assumes nothing.
 use borrow.Author.Needs.{needs}
 use mathlib.Core.Path.{sym, _∙_}
-use Rattle.same_root.proofs.SameRootLaws.{authored-left, authored-right, neither-authored}
+use Rattle.strength.proofs.SameRootLaws.{authored-left, authored-right, neither-authored}
 use Rattle.line_table.proofs.lines.same_origin.Statement.{statement}
 use Rattle.line_table.proofs.lines.same_origin.Tie as tie
 

@@ -8,7 +8,7 @@ use Rattle.laws.proofs.StrengthWalks.{outward-lower}
 use Rattle.laws.proofs.Views.{LegalView}
 use Rattle.view.specs.View.{viewIn}
 use Rattle.view.proofs.ViewLaws.{legal}
-use Rattle.walks.proofs.WalkLaws.{positive}
+use Rattle.view.proofs.WalkLoops.{positive}
 use Rattle.line_table.proofs.NestingLaws.{outward-cell, Outgoing, outgoing-start, outgoing-step, outgoing-end}
 use Rattle.line_table.proofs.nesting.mark_outward.Statement.{statement}
 use Rattle.line_table.proofs.nesting.mark_outward.Tie as tie

@@ -5,7 +5,7 @@ use Prim.Native.Nat.{ℕ, _<_}
 use native.Mathlib.Omega.{arith}
 use borrow.Fn.Kinds.{In}
 use borrow.Fn.PlainCycle.{Measures, is, falls, and}
-use Rattle.listing.proofs.NumberLaws.{number-digit, number-more, tenth-short}
+use Rattle.listing.proofs.DecimalLaws.{number-digit, number-more, tenth-short}
 use Rattle.listing.proofs.PutLaws.{put-then, put-as}
 use Rattle.listing.proofs.text.put_number.Reads as number
 use Rattle.listing.proofs.text.put_number.Kinds as number-kinds

@@ -5,7 +5,7 @@ use Rattle.model.specs.Node.{Node}
 use Rattle.model.specs.Graph.{withNode}
 use Rattle.model.specs.Arena.{decode, encode}
 use Rattle.snapshot.specs.Filling.{NodeRead, NodeTaken}
-use Rattle.snapshot.proofs.FillLaws.{can-append, node-of-record}
+use Rattle.snapshot.proofs.SnapshotFill.{can-append, node-of-record}
 use Rattle.snapshot.proofs.fill.append_record.Statement.{statement}
 use Rattle.snapshot.proofs.fill.append_record.Tie as tie
 

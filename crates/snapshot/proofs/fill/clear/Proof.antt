@@ -3,7 +3,7 @@ use mathlib.Core.Path.{sym, ap, _∙_}
 use mathlib.Core.Bool.{false}
 use borrow.Author.Needs.{needs}
 use Rattle.arena.specs.Header.{marksStored}
-use Rattle.append.proofs.EmptyArena.{empty-encode}
+use Rattle.child_lists.proofs.EmptyArena.{empty-encode}
 use Rattle.snapshot.proofs.fill.clear.Statement.{statement}
 use Rattle.snapshot.proofs.fill.clear.Tie as tie
 

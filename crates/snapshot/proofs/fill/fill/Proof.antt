@@ -7,9 +7,9 @@ use native.Mathlib.Omega.{arith}
 use lib.ListN.{length}
 use Rattle.laws.proofs.StoredLaws.{bytes-by-place}
 use Rattle.laws.proofs.SnapshotReadLaws.{Grows, grows-size}
-use Rattle.snapshot_check.specs.Reading.{nodesRead}
-use Rattle.snapshot_check.proofs.RecordLaws.{record-here, reached-more}
-use Rattle.snapshot.proofs.FillLaws.{grow, Filled, filled-none, filled-all, filled-length, can-append-record, filled-more, nodes-fit}
+use Rattle.snapshot.specs.SnapshotReading.{nodesRead}
+use Rattle.snapshot.proofs.SnapshotRecords.{record-here, reached-more}
+use Rattle.snapshot.proofs.SnapshotFill.{grow, Filled, filled-none, filled-all, filled-length, can-append-record, filled-more, nodes-fit}
 use Rattle.snapshot.proofs.fill.fill.Statement.{statement}
 use Rattle.snapshot.proofs.fill.fill.Tie as tie
 

@@ -2,9 +2,9 @@
 use mathlib.Core.Path.{refl, sym, ap, _∙_}
 use borrow.Author.Needs.{needs}
 use native.Mathlib.Omega.{arith}
-use Rattle.snapshot_check.specs.Reading.{byteValue}
-use Rattle.snapshot_check.proofs.FieldLaws.{taken, never-missing}
-use Rattle.snapshot.proofs.FillLaws.{ids-there, tail-there, numbers-read}
+use Rattle.snapshot.specs.SnapshotReading.{byteValue}
+use Rattle.snapshot.proofs.FieldLaws.{taken, never-missing}
+use Rattle.snapshot.proofs.SnapshotFill.{ids-there, tail-there, numbers-read}
 use Rattle.snapshot.proofs.fill.read_node.Statement.{statement}
 use Rattle.snapshot.proofs.fill.read_node.Tie as tie
 

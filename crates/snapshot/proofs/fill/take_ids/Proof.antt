@@ -2,8 +2,8 @@
 use mathlib.Core.Path.{sym, ap, _∙_}
 use borrow.Author.Needs.{needs}
 use native.Mathlib.Omega.{arith}
-use Rattle.snapshot_check.specs.Reading.{fieldValue}
-use Rattle.snapshot_check.proofs.FieldLaws.{taken, never-missing}
+use Rattle.snapshot.specs.SnapshotReading.{fieldValue}
+use Rattle.snapshot.proofs.FieldLaws.{taken, never-missing}
 use Rattle.snapshot.specs.declared.fill.Ids.the-variants.{Values}
 use Rattle.snapshot.proofs.fill.take_ids.Statement.{statement}
 use Rattle.snapshot.proofs.fill.take_ids.Tie as tie

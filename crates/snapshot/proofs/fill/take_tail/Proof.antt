@@ -2,8 +2,8 @@
 use mathlib.Core.Path.{sym, ap, _∙_}
 use borrow.Author.Needs.{needs}
 use native.Mathlib.Omega.{arith}
-use Rattle.snapshot_check.specs.Reading.{byteValue, shortValue}
-use Rattle.snapshot_check.proofs.FieldLaws.{taken, never-missing}
+use Rattle.snapshot.specs.SnapshotReading.{byteValue, shortValue}
+use Rattle.snapshot.proofs.FieldLaws.{taken, never-missing}
 use Rattle.snapshot.specs.declared.fill.Tail.the-variants.{Values}
 use Rattle.snapshot.proofs.fill.take_tail.Statement.{statement}
 use Rattle.snapshot.proofs.fill.take_tail.Tie as tie

@@ -4,7 +4,7 @@ use borrow.Author.Needs.{needs}
 use Rattle.model.specs.Graph.{emptyGraph}
 use Rattle.model.specs.Answers.{finishedRefusal}
 use Rattle.model.specs.Calls.{readInto}
-use Rattle.snapshot_check.specs.Reading.{Exact}
+use Rattle.snapshot.specs.SnapshotReading.{Exact}
 use Rattle.snapshot.proofs.ReaderLaws.{exact-read, not-exact, refused-read, filled-read}
 use Rattle.snapshot.proofs.reader.read_snapshot.Statement.{statement}
 use Rattle.snapshot.proofs.reader.read_snapshot.Tie as tie

@@ -1,7 +1,7 @@
 -- `by_rank` meets its contract: ranks that differ settle it. Assumes nothing.
 use borrow.Author.Needs.{needs}
-use Rattle.verdicts.proofs.NumberLaws.{read-same, read-other, read-smaller}
-use Rattle.strength.proofs.CycleLaws.{ranks-settle}
+use Rattle.strength.proofs.VerdictNumbers.{read-same, read-other, read-smaller}
+use Rattle.strength.proofs.ComparisonCycle.{ranks-settle}
 use Rattle.strength.proofs.lines.by_rank.Statement.{statement}
 use Rattle.strength.proofs.lines.by_rank.Tie as tie
 

@@ -1,7 +1,7 @@
 -- `settle` meets its contract: the ranks settle it, or the plain lines may. Assumes nothing.
 use mathlib.Core.Path.{sym, _∙_}
 use borrow.Author.Needs.{needs}
-use Rattle.strength.proofs.CycleLaws.{at-once, left-open}
+use Rattle.strength.proofs.ComparisonCycle.{at-once, left-open}
 use Rattle.strength.proofs.lines.settle.Statement.{statement}
 use Rattle.strength.proofs.lines.settle.Tie as tie
 

@@ -1,7 +1,7 @@
 -- `settle_plain` meets its contract: the plain lines settle it, or ask of one node twice. Assumes nothing.
 use borrow.Author.Needs.{needs}
-use Rattle.strength.proofs.LineLaws.{not-both-special}
-use Rattle.strength.proofs.CycleLaws.{siblings-resolved, asked-itself}
+use Rattle.strength.proofs.SiblingLines.{not-both-special}
+use Rattle.strength.proofs.ComparisonCycle.{siblings-resolved, asked-itself}
 use Rattle.strength.proofs.lines.settle_plain.Statement.{statement}
 use Rattle.strength.proofs.lines.settle_plain.Tie as tie
 

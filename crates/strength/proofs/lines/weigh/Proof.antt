@@ -1,7 +1,7 @@
 -- `weigh` meets its contract: one of the two lists goes on. Assumes nothing.
 use borrow.Author.Needs.{needs}
 use mathlib.Core.Path.{sym, _∙_}
-use Rattle.strength.proofs.LineLaws.{both-special, not-both-special}
+use Rattle.strength.proofs.SiblingLines.{both-special, not-both-special}
 use Rattle.strength.proofs.lines.weigh.Statement.{statement}
 use Rattle.strength.proofs.lines.weigh.Tie as tie
 

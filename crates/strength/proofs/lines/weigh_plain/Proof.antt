@@ -1,7 +1,7 @@
 -- `weigh_plain` meets its contract: the depths differ, or the origins are asked. Assumes nothing.
 use borrow.Author.Needs.{needs}
-use Rattle.verdicts.proofs.NumberLaws.{read-same, read-other, read-smaller}
-use Rattle.strength.proofs.LineLaws.{depths-differ, origins-then-siblings}
+use Rattle.strength.proofs.VerdictNumbers.{read-same, read-other, read-smaller}
+use Rattle.strength.proofs.SiblingLines.{depths-differ, origins-then-siblings}
 use Rattle.strength.proofs.lines.weigh_plain.Statement.{statement}
 use Rattle.strength.proofs.lines.weigh_plain.Tie as tie
 

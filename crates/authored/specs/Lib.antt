@@ -1,3 +1,0 @@
--- The names that this crate's contracts cite.
-pub mod Authored
-pub mod Standing

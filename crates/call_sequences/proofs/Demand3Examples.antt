@@ -1,0 +1,165 @@
+-- Ten calls, two of them refused, run by computation at the graph; and of every arena without a node, that it holds this graph after them
+-- (`ten-arena`). It is ordered, finalized and has a node to erase, so every clause of demand 3 says something of it. An arena that its snapshot is read
+-- into and one that is seeded from it are starts (`ten-read`, `ten-seeded`). Assumes nothing.
+use mathlib.Core.Path.{_≡_, refl, sym, ap, subst, _∙_}
+use mathlib.Core.Bool.{true, false}
+use mathlib.Core.List.{List, [], _∷_, map}
+use Prim.Native.Nat.{ℕ, _<_}
+use native.Mathlib.Omega.{arith}
+use lib.Dec.{ltb}
+use lib.ListN.{replicate}
+use borrow.Author.Tests.{ltb-true}
+use Rattle.model.specs.Lists.{every, filter}
+use Rattle.model.specs.Path.{isNameStart, isWordByte, wellFormed, primCount, beforeName, nameStart, lastName, endsInName, separator, appendName, pathAtIntroDepth}
+use Rattle.model.specs.Node.{invalid}
+use Rattle.model.specs.Graph.{Graph, emptyGraph, size, withNode, depthBelowIntroduction, pathAtIntroduction, isLocalRoot, inLocalStack}
+use Rattle.model.specs.Strength.{smaller, plainLines, siblingLines, nodesBy, compareSiblingNodeStrength}
+use Rattle.model.specs.Order.{isStronger, hasOrder}
+use Rattle.model.specs.Order as order
+use Rattle.model.specs.Culling.{keepsInherit, canCull, cullSubtreesWithoutOpinions, isMarked, isErasable}
+use Rattle.model.specs.Erasing.{stays, canErase, erasable, newNumber}
+use Rattle.model.specs.Deepening.{deepen}
+use Rattle.model.specs.Snapshot.{writeSnapshot, readSnapshot}
+use Rattle.model.specs.Calls.{Outcome, initRoot, addChild, finalizeStrengthOrder, cull, eraseSet, appendChildName, seedChild, readInto}
+use Rattle.model.specs.Arena.{countIn, decode, holdsGraph}
+use Rattle.model.specs.ArenaCalls.{left}
+use Rattle.model.proofs.Text.{bytes}
+use Rattle.laws.proofs.SnapshotLaws.{written-bytes}
+use Rattle.laws.proofs.ListLaws.{all-imp, every-all}
+use Rattle.nodes.specs.declared.description.Depth.{Depth}
+use Rattle.nodes.specs.declared.description.Depth.the-variants.{Given, Missing}
+use Rattle.snapshot.proofs.ReadBack.{written-reads-back}
+use Rattle.call_sequences.proofs.KeepEncodable.{Arena, arena-encodable, ArenaOf}
+use Rattle.call_sequences.specs.Demand3.{Slice, DepthFits, Write, starting, adding, ordering, culling, erasing, deepening, reading, step, steps, Lent, seeding, Start, empty, read, seeded, rest, Deepened, Demand3}
+use Rattle.call_sequences.proofs.StepGraphs.{graphSteps, into-whole, steps-arena}
+use Rattle.call_sequences.proofs.ReachedArenas.{no-node, seed-whole}
+use Rattle.call_sequences.proofs.Demand3Proof.{demand3}
+
+-- ---- The calls
+
+abbrev slice : (bs : List ℕ) → every (λ b. ltb b 256) bs ≡ true → Slice
+slice bs e = record {
+  bytes = bs;
+  each = all-imp (λ b. ltb b 256 ≡ true) (λ b. b < 256) bs (λ b. ltb-true b 256) (every-all (λ b. ltb b 256) bs .0 e);
+}
+
+-- a node of stack 0 without flags, with its parent for origin
+abbrev add : (parent arc hasSpecs : ℕ) (depth : Depth) → (parent < 4294967296) × (arc < 256) × (hasSpecs < 256) × DepthFits depth → Slice → Write
+add parent arc hasSpecs depth fits path = adding (record {
+  arc = arc;
+  flags = 0;
+  stack = 0;
+  layer = 0;
+  parent = record { 0 = parent };
+  origin = record { 0 = invalid };
+  depth = depth;
+  sibling = 0;
+  restriction = 0;
+  «spec_from» = 0;
+  «has_specs» = hasSpecs;
+}) (record {
+  arc = fits .1;
+  flags = omega arith;
+  stack = omega arith;
+  layer = omega arith;
+  parent = fits .0;
+  origin = omega arith;
+  depth = fits .3;
+  sibling = omega arith;
+  restriction = omega arith;
+  spec-from = omega arith;
+  has-specs = fits .2;
+}) path
+
+-- Nodes 0 and 1 `/M/a`; under 1 the References 2 and 3, of which 2 has no specs, and the Inherit 4. Culling marks 2. An erase set with node 1, the parent
+-- of the others, is refused 11, and bytes that are no snapshot 12.
+unfoldable ten : List Write
+ten =
+    starting (record { number = 0; small = omega arith }) (record { number = 0; small = omega arith }) (slice (bytes "/M/a") refl)
+    ∷ add invalid 0 1 Missing (omega arith, omega arith, omega arith, tt) (slice (bytes "/M/a") refl)
+    ∷ add 1 4 0 (Given 1) (omega arith, omega arith, omega arith, omega arith) (slice (bytes "/R/a") refl)
+    ∷ add 1 4 1 (Given 1) (omega arith, omega arith, omega arith, omega arith) (slice (bytes "/Q/a") refl)
+    ∷ add 1 1 1 (Given 1) (omega arith, omega arith, omega arith, omega arith) (slice (bytes "/C/a") refl)
+    ∷ ordering
+    ∷ culling
+    ∷ erasing (slice (0 ∷ 1 ∷ replicate 1022 0) refl)
+    ∷ deepening (slice (bytes "/b") refl)
+    ∷ reading (slice (bytes "no snapshot") refl)
+    ∷ []
+
+-- ---- The graph, by computation
+
+record TenCalls (g : Graph) : Type 0 where
+  pub some-node : 0 < size g
+  pub ordered : g .ordered ≡ true
+  pub finalized : g .finalized ≡ true
+  pub order : g .order ≡ 0 ∷ 1 ∷ 4 ∷ 2 ∷ 3 ∷ []
+  pub one-goes : (stays (erasable g) 1 ≡ true) × (stays (erasable g) 2 ≡ false) × (stays (erasable g) 3 ≡ true) × (stays (erasable g) 4 ≡ true)
+  pub order-left : map (newNumber (stays (erasable g))) (filter (stays (erasable g)) (g .order)) ≡ 0 ∷ 1 ∷ 3 ∷ 2 ∷ []
+
+ten-graph : TenCalls (graphSteps ten emptyGraph)
+unfolding ten initRoot addChild finalizeStrengthOrder cull eraseSet canErase appendChildName readInto readSnapshot withNode wellFormed primCount isNameStart isWordByte
+    beforeName nameStart lastName endsInName separator appendName pathAtIntroDepth depthBelowIntroduction pathAtIntroduction isLocalRoot
+    inLocalStack smaller plainLines siblingLines nodesBy compareSiblingNodeStrength hasOrder order.ordering isStronger keepsInherit canCull
+    cullSubtreesWithoutOpinions isMarked isErasable erasable deepen
+ten-graph = record {
+  some-node = omega arith;
+  ordered = refl;
+  finalized = refl;
+  order = refl;
+  one-goes = (refl, refl, refl, refl);
+  order-left = refl;
+}
+
+seed-accepted : seedChild (bytes "/c") (graphSteps ten emptyGraph) emptyGraph .refused ≡ 0
+unfolding ten initRoot addChild finalizeStrengthOrder cull eraseSet canErase appendChildName seedChild readInto readSnapshot withNode wellFormed primCount isNameStart
+    isWordByte beforeName nameStart lastName endsInName separator appendName pathAtIntroDepth depthBelowIntroduction pathAtIntroduction
+    isLocalRoot inLocalStack smaller plainLines siblingLines nodesBy compareSiblingNodeStrength hasOrder order.ordering isStronger keepsInherit
+    canCull cullSubtreesWithoutOpinions deepen
+seed-accepted = refl
+
+-- ---- The arena after them, and demand 3 of it
+
+module _ (bs : List ℕ) (lent : Lent bs) (holds : holdsGraph bs ≡ true) (none : countIn bs ≡ 0) where
+  after : ArenaOf (graphSteps ten emptyGraph) (steps ten bs)
+  after =
+      let arena : Arena bs = record { bytes = lent .bytes; opened = record { whole = lent .whole; holds = holds } } in
+      subst (λ (g : Graph). ArenaOf (graphSteps ten g) (steps ten bs)) (no-node bs arena none) (steps-arena ten bs arena)
+
+  ten-arena : TenCalls (decode (steps ten bs))
+  ten-arena = subst TenCalls (sym (after .graph)) ten-graph
+
+  ten-demand : Demand3 (steps ten bs)
+  ten-demand = demand3 bs (empty lent holds none) ten
+
+  -- the list without node 2, the rest renumbered
+  ten-erased : decode (rest (steps ten bs)) .order ≡ 0 ∷ 1 ∷ 3 ∷ 2 ∷ []
+  ten-erased = ten-demand .erased (ten-arena .some-node) .list-stands (ten-arena .ordered) .1 ∙ ten-arena .order-left
+
+  ten-deepened : (child : Slice) → Deepened (steps ten bs) child
+  ten-deepened = ten-demand .deepened (ten-arena .finalized)
+
+  -- ---- The other starts, in an arena of any content
+
+  module _ (into : List ℕ) (room : Lent into) where
+    abbrev snapshot : Slice
+    snapshot = record {
+      bytes = writeSnapshot (decode (steps ten bs));
+      each = written-bytes (decode (steps ten bs)) (arena-encodable (steps ten bs) (after .arena) .fit);
+    }
+
+    ten-read : Start (step (reading snapshot) into)
+    ten-read =
+        let opened = after .arena .opened in
+        read snapshot into room
+        (ap (λ (o : Outcome). o .refused) (into-whole (readInto (snapshot .bytes) emptyGraph) into (room .whole))
+        ∙ written-reads-back (steps ten bs) (after .arena .bytes) (opened .whole) (opened .holds) .accepted) refl
+
+    abbrev child : Slice
+    child = slice (bytes "/c") refl
+
+    ten-seeded : Start (left (seeding child (steps ten bs) into) into)
+    ten-seeded =
+        seeded bs ten child into (empty lent holds none) room
+        (ap (λ (o : Outcome). o .refused) (seed-whole child (steps ten bs) into (after .arena .opened) (room .whole))
+        ∙ ap (λ (g : Graph). seedChild (bytes "/c") g emptyGraph .refused) (after .graph) ∙ seed-accepted) refl

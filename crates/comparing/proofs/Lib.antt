@@ -1,3 +1,0 @@
--- Two siblings, and the laws of the answers.
-pub mod SiblingLaws
-pub mod ComparedLaws

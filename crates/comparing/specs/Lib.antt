@@ -1,2 +1,0 @@
--- The names that this crate's contracts cite.
-pub mod Comparisons

@@ -1,0 +1,148 @@
+-- The questions of the calls that append a child's name: which is the first to refuse (`refused-no-node` to `refused-no-room`, or `refused-none`),
+-- what is known where none does (`can-deepen`), and the ways that the calls end (`deepen-refused`, `deepen-done`; `seed-refused`, `seed-done`). Assumes
+-- nothing.
+use mathlib.Core.Path.{_≡_, refl, sym, _∙_}
+use mathlib.Core.Bool.{Bool, true, false, cond, and-eq-true-iff}
+use mathlib.Core.List.{List, _∷_}
+use Prim.Native.Nat.{ℕ, _<_}
+use native.Mathlib.Omega.{arith}
+use lib.ListN.{length}
+use borrow.Author.Tests.{eq-eqb, ne-eqb, eqb-true, lt-ltb, le-ltb, ltb-true}
+use Rattle.model.specs.Graph.{Graph, emptyGraph, size}
+use Rattle.model.specs.Path.{wellFormed, lastName, endsInName}
+use Rattle.model.specs.Deepening.{deepen}
+use Rattle.model.specs.Refusals.{refusalNumber, Question, ask, refusal}
+use Rattle.model.specs.Calls.{unchanged, decided, pathsFit, deepenQuestions, appendChildName, seedChild}
+use Rattle.model.specs.Arena.{arenaBytes, countIn, decode, encode, holdsGraph}
+use Rattle.model.specs.ArenaCalls.{isArena, Opened, onArena, intoArena, askArena, Finishes}
+use Rattle.model.specs.declared.Refusal.{Refusal}
+use Rattle.model.specs.declared.Refusal.the-variants.{Size}
+use Rattle.model.specs.declared.Finished.the-variants.{Done, Refused}
+use Rattle.laws.proofs.AcceptedQuestions.{Accepted, none-refused-accepted}
+use Rattle.laws.proofs.ArenaCallLaws.{wrote-decided-refused, wrote-decided}
+use Rattle.arena.proofs.ReadNodes.{sizes, node-zero, no-node}
+use Rattle.deepening.specs.Deepened.{CanDeepen}
+use Rattle.deepening.specs.ChildNames.{Deepened, seedFrom, Seeded}
+
+-- ---- The questions of an arena that holds a graph
+
+module _ (child bs : List ℕ) (o : Opened bs) where
+  abbrev ownRefusal : ℕ
+  ownRefusal = refusal (deepenQuestions child (decode bs))
+
+  pub refused-no-node : countIn bs ≡ 0 → 3 ≡ ownRefusal
+  refused-no-node none = rw (no-node bs o none)
+
+  module _ (some : 0 < countIn bs) where
+    pub refused-no-path : wellFormed child ≡ false → 5 ≡ ownRefusal
+    refused-no-path e = rw (node-zero bs o some, e)
+
+    module _ (right : wellFormed child ≡ true) (name : List ℕ) (last : name ≡ lastName child) where
+      pub refused-no-name : length name ≡ 0 → 5 ≡ ownRefusal
+      unfolding endsInName
+      refused-no-name e = rw (node-zero bs o some, right, ← last, le-ltb 0 (length name) (omega arith))
+
+      module _ (long : length name ≡ 0 → ⊥) where
+        ends : endsInName child ≡ true
+        unfolding endsInName
+        ends = rw (← last) (lt-ltb 0 (length name) (omega (arith, long)))
+
+        pub refused-no-room : pathsFit (deepen name (decode bs)) ≡ false → 7 ≡ ownRefusal
+        refused-no-room e = rw (node-zero bs o some, right, ends, ← last, e)
+
+        pub refused-none : pathsFit (deepen name (decode bs)) ≡ true → 0 ≡ ownRefusal
+        refused-none e = rw (node-zero bs o some, right, ends, ← last, e)
+
+-- ---- Where every question passes
+
+module _ (child bs : List ℕ) where
+  -- questions 1 and 2 and the call's own, in one list
+  abbrev pub asked : List Question
+  asked = askArena bs (deepenQuestions child (decode bs))
+
+  abbrev deepened : Graph
+  deepened = deepen (lastName child) (decode bs)
+
+  pub can-deepen : 0 ≡ refusal asked → (name : List ℕ) → name ≡ lastName child → CanDeepen bs name
+  can-deepen e name last = rw last (given (none-refused-accepted asked refl (sym e)))
+    where
+      given : Accepted asked → CanDeepen bs (lastName child)
+      given a =
+          let o : Opened bs = record { whole = eqb-true (length bs) arenaBytes (a 1); holds = a 2 } in
+          let path = and-eq-true-iff (wellFormed child) (endsInName child) .0 (a 5) in
+          record {
+            opened = o;
+            some-node = omega (arith, sizes bs o, ltb-true 0 (size (decode bs)) (a 3));
+            named = record { child = child; right = path .0; ends = path .1; last = refl };
+            fits = a 7;
+          }
+
+-- ---- How a call ends that gives nothing but its refusal
+
+module _ (questions : List Question) (g result : Graph) (bs : List ℕ) where
+  ends-refused : (r : Refusal) → refusalNumber r ≡ refusal questions → Finishes (decided questions g 0 result) bs (Refused r) bs
+  ends-refused r e = let wrote = wrote-decided-refused questions g 0 result bs r e in record { refused = wrote .refused; arena = wrote .arena }
+
+  ends-done : (after : List ℕ) → 0 ≡ refusal questions → after ≡ encode result bs → Finishes (decided questions g 0 result) bs Done after
+  ends-done after e a = let wrote = wrote-decided questions g 0 result bs after 0 (sym e) refl a in record { refused = wrote .refused; arena = wrote .arena }
+
+-- ---- In place
+
+module _ (child bs : List ℕ) where
+  deepen-asks : onArena (appendChildName child) bs ≡ decided (asked child bs) (decode bs) 0 (deepened child bs)
+  unfolding onArena appendChildName
+  deepen-asks = go (isArena bs) (holdsGraph bs)
+    where
+      questions : List Question
+      questions = deepenQuestions child (decode bs)
+
+      go : (s h : Bool)
+          → cond s (cond h (decided questions (decode bs) 0 (deepened child bs)) (unchanged 2 (decode bs))) (unchanged 1 (decode bs))
+          ≡ decided (ask 1 s ∷ ask 2 h ∷ questions) (decode bs) 0 (deepened child bs)
+      go true true = refl
+      go true false = refl
+      go false h = refl
+
+  pub deepen-refused : (r : Refusal) → refusalNumber r ≡ refusal (asked child bs) → Deepened child bs (Refused r) bs
+  deepen-refused r e = rw deepen-asks (ends-refused (asked child bs) (decode bs) (deepened child bs) bs r e)
+
+  pub deepen-done : 0 ≡ refusal (asked child bs) → (name : List ℕ) → name ≡ lastName child → (after : List ℕ)
+      → after ≡ encode (deepen name (decode bs)) bs → Deepened child bs Done after
+  deepen-done e name last after a = rw deepen-asks (ends-done (asked child bs) (decode bs) (deepened child bs) bs after e (rw last at a))
+
+-- ---- Into a second arena
+
+module _ (child bs into : List ℕ) where
+  -- question 1 of the arena that is filled, and then those of the one that is read
+  abbrev both : List Question
+  both = ask 1 (isArena into) ∷ asked child bs
+
+  seed-asks : intoArena (seedFrom child bs) into ≡ decided both emptyGraph 0 (deepened child bs)
+  unfolding intoArena seedFrom seedChild
+  seed-asks = go (isArena into) (isArena bs) (holdsGraph bs)
+    where
+      questions : List Question
+      questions = deepenQuestions child (decode bs)
+
+      go : (t s h : Bool)
+          → cond t (cond s (cond h (decided questions emptyGraph 0 (deepened child bs)) (unchanged 2 emptyGraph)) (unchanged 1 emptyGraph)) (unchanged 1 emptyGraph)
+          ≡ decided (ask 1 t ∷ ask 1 s ∷ ask 2 h ∷ questions) emptyGraph 0 (deepened child bs)
+      go true true true = refl
+      go true true false = refl
+      go true false h = refl
+      go false s h = refl
+
+  pub seed-not-arena : (length into ≡ arenaBytes → ⊥) → Seeded child bs into (Refused Size) into
+  seed-not-arena h = rw seed-asks (ends-refused both emptyGraph (deepened child bs) into Size (rw (ne-eqb (length into) arenaBytes h)))
+
+  module _ (large : length into ≡ arenaBytes) where
+    left-to-ask : refusal (asked child bs) ≡ refusal both
+    left-to-ask = rw (eq-eqb (length into) arenaBytes large)
+
+    pub seed-refused : (r : Refusal) → refusalNumber r ≡ refusal (asked child bs) → Seeded child bs into (Refused r) into
+    seed-refused r e = rw seed-asks (ends-refused both emptyGraph (deepened child bs) into r (e ∙ left-to-ask))
+
+    pub seed-done : 0 ≡ refusal (asked child bs) → (name : List ℕ) → name ≡ lastName child → (after : List ℕ)
+        → after ≡ encode (deepen name (decode bs)) into → Seeded child bs into Done after
+    seed-done e name last after a =
+        rw seed-asks (ends-done both emptyGraph (deepened child bs) into after (e ∙ left-to-ask) (rw last at a))

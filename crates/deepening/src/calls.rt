@@ -1,0 +1,78 @@
+// The calls that append a child's name to every site: in place, and into a second arena. None has a `requires`: each puts its questions, the
+// size of each buffer and whether the arena that is read holds a graph first, and is refused by the first whose answer is no; then every lent byte is as it
+// was. specs/ChildNames.antt says what each answers and leaves.
+use model::Finished;
+use model::Numbered;
+use model::Refusal;
+ghost use mathlib.Core.Path.{_≡_};
+ghost use Rattle.model.specs.Answers.{finishedRefusal};
+ghost use Rattle.model.specs.Arena.{countIn, decode};
+ghost use Rattle.model.specs.ArenaCalls.{Opened, askArena};
+ghost use Rattle.model.specs.Calls.{deepenQuestions};
+ghost use Rattle.model.specs.Refusals.{refusal};
+ghost use Rattle.deepening.specs.ChildNames.{Deepened, Seeded};
+
+// Questions 1, 2, 3, 5 and 7 of the arena that is read.
+fn ask(arena: &[u8], child: &[u8]) -> Finished
+    ensures { λ r. ⌜ finishedRefusal r ≡ refusal (askArena (now (arena .entry)) (deepenQuestions (now (child .entry)) (decode (now (arena .entry))))) ⌝ }
+{
+    let counted = validate::count(arena);
+    match counted {
+        Numbered::Number(nodes) => ask_opened(arena, nodes, child),
+        Numbered::Refused(refusal) => Finished::Refused(refusal),
+    }
+}
+
+// Questions 3, 5 and 7 of an arena that holds a graph.
+fn ask_opened(arena: &[u8], count: u32, child: &[u8]) -> Finished
+    requires { ⌜ Opened (now arena) × (count ≡ countIn (now arena)) ⌝ }
+    ensures { λ r. ⌜ finishedRefusal r ≡ refusal (deepenQuestions (now (child .entry)) (decode (now (arena .entry)))) ⌝ }
+{
+    if count == 0 {
+        return Finished::Refused(Refusal::NodeZero);
+    }
+    if !path::is_well_formed(child) {
+        return Finished::Refused(Refusal::Path);
+    }
+    let name = path::last_name(child);
+    if name.len() == 0 {
+        return Finished::Refused(Refusal::Path);
+    }
+    if !crate::appending::paths_fit(arena, name) {
+        return Finished::Refused(Refusal::Capacity);
+    }
+    Finished::Done
+}
+
+// Appends the last name of the child's path to the path of every node. Refused 1, 2, 3, 5 where the child's path is none or ends in no name, and 7 where a
+// path would pass 255 bytes or all of them 32,768.
+pub fn append_child_name_to_all_sites(arena: &mut [u8], child: &[u8]) -> Finished
+    ensures { λ r. ⌜ Deepened (now (child .entry)) (now (arena .entry)) r (now (arena .exit)) ⌝ }
+{
+    let asked = ask(arena, child);
+    match asked {
+        Finished::Done => {
+            crate::appending::append_name_to_all_sites(arena, path::last_name(child));
+            Finished::Done
+        }
+        Finished::Refused(refusal) => Finished::Refused(refusal),
+    }
+}
+
+// Fills the arena `into`, whatever it held, with the graph of `from`, the last name of the child's path appended to the path of every node. Refused as
+// `append_child_name_to_all_sites` is, the size being asked of both.
+pub fn seed_child(from: &[u8], into: &mut [u8], child: &[u8]) -> Finished
+    ensures { λ r. ⌜ Seeded (now (child .entry)) (now (from .entry)) (now (into .entry)) r (now (into .exit)) ⌝ }
+{
+    if into.len() != 327744 {
+        return Finished::Refused(Refusal::Size);
+    }
+    let asked = ask(from, child);
+    match asked {
+        Finished::Done => {
+            crate::appending::seed(from, into, path::last_name(child));
+            Finished::Done
+        }
+        Finished::Refused(refusal) => Finished::Refused(refusal),
+    }
+}

@@ -1,2 +1,0 @@
--- What ties crates/demand3 to the code.
-pub mod Steps

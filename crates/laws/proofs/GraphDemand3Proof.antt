@@ -1,0 +1,111 @@
+-- Demand 3 (GraphDemand3.antt): every list of calls leaves a legal graph (CallsKeepLegal.antt), and each clause holds of every legal graph.
+-- Assumes nothing.
+use mathlib.Core.Path.{_≡_, refl, sym, ap, _∙_}
+use mathlib.Core.Bool.{Bool, true, false, not}
+use mathlib.Core.List.{List}
+use Prim.Native.Nat.{ℕ, _<_}
+use lib.ListN.{length}
+use borrow.Author.Tests.{lt-ltb, not-false}
+use Rattle.model.specs.Path.{lastName}
+use Rattle.model.specs.Graph.{Graph, size}
+use Rattle.model.specs.Strength.{view, compareNodeStrength}
+use Rattle.model.specs.Order.{ordering}
+use Rattle.model.specs.Culling.{isErasable}
+use Rattle.model.specs.Erasing.{newNumber, eraseBy}
+use Rattle.model.specs.Deepening.{appendChildNameToAllSites}
+use Rattle.model.specs.Calls.{Outcome, calls, deepenQuestions, appendChildName, eraseSet}
+use Rattle.laws.proofs.GraphDemand3.{Listed, kept, erasingAll, rest, Free, Erased, Deepened, Demand3, Demand3AfterEveryList}
+use Rattle.laws.proofs.StrengthCongruence.{nodes-alike}
+use Rattle.laws.proofs.OrderLaws.{InOrder, in-order-ordered, in-order-has-order, in-order-afresh, stronger-antisymmetric}
+use Rattle.laws.proofs.ErasableLaws.{Spared, erasable-spared, erasable-largest}
+use Rattle.laws.proofs.Spares.{Spares}
+use Rattle.laws.proofs.EraseSets.{erasable-stays, erasable-spares, erasable-accepted}
+use Rattle.laws.proofs.EraseLaws.{size-erased, node-erased, children-erased, children-length-erased, order-erased, marks-erased, erase-looks-like}
+use Rattle.laws.proofs.DeepenLaws.{deepen-looks-like}
+use Rattle.laws.proofs.LegalGraphs.{Legal, legal-reached, roots-unculled}
+use Rattle.laws.proofs.LegalAlike.{deepens-by-name}
+use Rattle.laws.proofs.LegalErased.{erased-in-order}
+use Rattle.laws.proofs.AcceptedQuestions.{Accepted, decided-keeps}
+use Rattle.laws.proofs.CallsKeepLegal.{every-list-legal}
+
+module _ (g : Graph) (legal : Legal g) where
+  -- ---- "If the graph is ordered"
+
+  legal-listed : g .ordered ≡ true → Listed g
+  legal-listed e =
+      let order = in-order-ordered g (legal .tree) (legal .in-order e) in
+      record { each-once = order .once; nothing-else = order .nothing-else; earlier-stronger = order .stronger }
+
+  -- ---- "If its erasable nodes are erased"
+
+  module _ (some-node : 0 < size g) where
+    spares : Spares g (kept g)
+    spares = erasable-spares g (legal .few-nodes) (legal .links) some-node (roots-unculled g legal)
+
+    -- the call is accepted
+    erasing-all : erasingAll g ≡ record { refused = 0; value = newNumber (kept g) (size g); graph = eraseBy (kept g) g }
+    unfolding eraseSet
+    erasing-all =
+        rw (lt-ltb 0 (size g) some-node, erasable-accepted g (legal .few-nodes) (legal .links) some-node (roots-unculled g legal))
+
+    rest-erased : rest g ≡ eraseBy (kept g) g
+    rest-erased = ap (λ (o : Outcome). o .graph) erasing-all
+
+    -- what goes is erasable
+    gone-erasable : (n : ℕ) → n < size g → kept g n ≡ false → isErasable (g .nodes) n ≡ true
+    gone-erasable n h k = not-false (isErasable (g .nodes) n) (sym (erasable-stays g (legal .few-nodes) n h) ∙ k)
+
+    legal-erased : Erased g
+    legal-erased = record {
+      accepted = ap (λ (o : Outcome). o .refused) erasing-all;
+      answered = ap (λ (o : Outcome). o .value) erasing-all ∙ sym (ap size rest-erased ∙ size-erased (kept g) g);
+      went-marked = λ n h k. erasable-spared (g .nodes) (legal .links) some-node .all-marked n h (gone-erasable n h k);
+      parents-kept = spares .parent;
+      origins-kept = spares .origin;
+      largest = λ goes free n h e.
+          erasable-stays g (legal .few-nodes) n h ∙ ap not (erasable-largest (g .nodes) (legal .links) some-node goes (spared goes free) n h e);
+      fields-stand = λ n h k. rw rest-erased (node-erased (kept g) g n h k);
+      chains-stand = λ n h k. rw rest-erased (children-erased (kept g) g (legal .lengths) n h k);
+      compare-as-before = λ a b h l k j.
+          rw rest-erased (nodes-alike (legal .links) (erase-looks-like (kept g) g spares (legal .links)) a b h l k j);
+      list-stands = λ e. rw rest-erased (marks-erased (kept g) g .0 ∙ e, order-erased (kept g) g);
+      afresh = λ e. rw rest-erased (in-order-has-order after (stronger-antisymmetric after) lengths (again e), changes e .0, changes e .1);
+    }
+      where
+        spared : (goes : ℕ → Bool) → Free g goes → Spared (g .nodes) goes
+        spared goes free = record { all-marked = free .marked; no-parent = free .no-parent; no-origin = free .no-origin }
+
+        after : Graph
+        after = eraseBy (kept g) g
+
+        lengths : length (after .children) ≡ size after
+        lengths = children-length-erased (kept g) g (legal .lengths)
+
+        again : g .ordered ≡ true → InOrder after
+        again e = erased-in-order (kept g) g legal spares (legal .in-order e)
+
+        changes : g .ordered ≡ true → (ordering after .children ≡ after .children) × (ordering after .order ≡ after .order)
+        changes e = in-order-afresh after (stronger-antisymmetric after) lengths (again e)
+
+  -- ---- "If instead the graph is finalized and is deepened by a child name"
+
+  legal-deepened : g .finalized ≡ true → (child : List ℕ) → Deepened g child
+  unfolding appendChildName
+  legal-deepened e child = record {
+    pairs-as-before = λ a b h l.
+        decided-keeps (deepenQuestions child g) g 0 (appendChildNameToAllSites child g)
+        (λ after. compareNodeStrength (view (after .nodes)) a b ≡ compareNodeStrength (view (g .nodes)) a b) refl (λ q. alike q a b h l) refl;
+  }
+    where
+      alike : Accepted (deepenQuestions child g) → (a b : ℕ) → a < size g → b < size g
+          → compareNodeStrength (view (appendChildNameToAllSites child g .nodes)) a b ≡ compareNodeStrength (view (g .nodes)) a b
+      alike q a b h l =
+          nodes-alike (legal .links) (deepen-looks-like (lastName child) (deepens-by-name child g q) g (legal .links)
+          (legal-reached g legal (legal .final e .1))) a b h l refl refl
+
+  legal-meets-demand : Demand3 g
+  legal-meets-demand = record { listed = legal-listed; erased = legal-erased; deepened = legal-deepened }
+
+-- "For every list of the calls that write a graph ..., refused ones included, ... this holds after it."
+pub demand3 : Demand3AfterEveryList
+demand3 g start cs = legal-meets-demand (calls cs g) (every-list-legal g start cs)

@@ -1,0 +1,208 @@
+-- The questions that the two calls put are document 01's: `start-accepted`, `add-accepted`; the records that they append are the definitions' nodes:
+-- `start-node`, `added-node`. Assumes nothing.
+use mathlib.Core.Path.{_≡_, refl, sym, ap, _∙_}
+use mathlib.Core.Bool.{Bool, true, false, not, _&&_, cond, and-eq-true-iff}
+use mathlib.Core.List.{List, [], _∷_}
+use Prim.Native.Nat.{ℕ, _+_, _≤_, _<_}
+use native.Mathlib.Omega.{arith}
+use lib.Dec.{eqb, ltb, leb}
+use lib.ListN.{length}
+use borrow.Author.Tests.{eq-eqb, ne-eqb, eqb-false, lt-ltb, ltb-true, le-leb}
+use Rattle.model.specs.Path.{wellFormed, primCount}
+use Rattle.model.specs.Node as model
+use Rattle.model.specs.Node.{invalid, rootArc, isCulled}
+use Rattle.model.specs.Graph.{Graph, size, nodeAt, withNode}
+use Rattle.model.specs.Refusals.{refusalNumber, Question, ask, refusal, pathBytes, arcAllowed, linksAllowed, recordQuestions}
+use Rattle.model.specs.Calls as calls
+use Rattle.model.specs.Calls.{hasNodeZero, initRoot, given, givenBelow, depthOr, defaultDepth, addedNode, rootNode, addChild}
+use Rattle.model.specs.Arena.{countIn, primCountIn, decode, encode}
+use Rattle.model.specs.ArenaCalls.{Opened, Readable, onArena, Wrote}
+use Rattle.model.specs.declared.Refusal.{Refusal}
+use Rattle.model.specs.declared.Refusal.the-variants.{NodeZero, Path}
+use Rattle.model.specs.declared.Numbered.the-variants.{Number, Refused as NumberRefused}
+use Rattle.laws.proofs.ArenaCallLaws.{on-opened, wrote-decided-refused, wrote-decided}
+use Rattle.laws.proofs.AcceptedQuestions.{none-refused-accepted}
+use Rattle.laws.proofs.PathGrammar.{well-formed-length}
+use Rattle.arena.specs.Slot.{nodeOf}
+use Rattle.arena.proofs.HeldArenas.{held}
+use Rattle.arena.proofs.ReadNodes.{sizes, node-zero, no-node, node-read}
+use Rattle.child_lists.specs.Append.{CanAppend}
+use Rattle.nodes.specs.declared.description.NodeDesc.{NodeDesc}
+use Rattle.nodes.specs.declared.description.Depth.{Depth}
+use Rattle.nodes.specs.declared.description.Depth.the-variants.{Given, Missing}
+use Rattle.nodes.specs.Describing.{depthOption, descOf, addQuestions, numberOr, depthGiven, addedRecord}
+use Rattle.nodes.proofs.DescribingLaws.{links-asked, turned}
+use Rattle.nodes.specs.Adding.{startRecord}
+
+-- ---- Starting
+
+pub start-accepted : (g : Graph) (stack layer : ℕ) (path : List ℕ) → size g ≡ 0 → pathBytes (g .nodes) ≡ 0 → wellFormed path ≡ true
+    → refusal (recordQuestions g (rootNode stack layer path)) ≡ 0
+start-accepted g stack layer path none empty formed =
+    rw (
+      eq-eqb (size g) 0 none,
+      formed,
+      lt-ltb (size g) 1024 (omega arith),
+      le-leb (pathBytes (g .nodes) + length path) 32768 (omega (arith, well-formed-length path formed)),
+    )
+
+pub start-node : (stack layer prims : ℕ) (path : List ℕ) → prims ≡ primCount path → nodeOf (startRecord stack layer prims (length path)) path ≡ rootNode stack layer path
+start-node stack layer prims path e = ap (λ (n : ℕ). nodeOf (startRecord stack layer n (length path)) path) e
+
+-- ---- Adding
+
+module _ (g : Graph) (d : calls.NodeDesc) (some : 0 < size g) where
+  abbrev x : model.Node
+  x = addedNode g d
+
+  -- what may be added may be read
+  pub add-accepted : refusal (addQuestions g d) ≡ 0 → refusal (recordQuestions g x) ≡ 0
+  add-accepted e =
+      let passes = none-refused-accepted (addQuestions g d) refl e in
+      let links : linksAllowed g x ≡ true = rw (ne-eqb (size g) 0 (λ z. omega arith)) (links-asked g d some ∙ passes 4) in
+      rw (links, passes 5, added-read (arcAllowed g x) (isCulled x) (leb (x .hasSpecs) 1) (passes 6), passes 7)
+    where
+      added-read : (arcs culled specs : Bool) → (arcs && (not culled && specs)) ≡ true → (arcs && (not (eqb (x .arc) rootArc && culled) && specs)) ≡ true
+      added-read true true specs k = absurd (let z : _≡_ {A = ℕ} 0 1 = cc in omega arith)
+      added-read true false specs k = go (eqb (x .arc) rootArc)
+        where
+          go : (a : Bool) → (not (a && false) && specs) ≡ true
+          go true = k
+          go false = k
+      added-read false culled specs k = k
+
+-- ---- The record of a node that is added
+
+depth-same : (depth : Depth) (default read : ℕ) → read ≡ default → depthGiven depth read ≡ depthOr (depthOption depth) default
+depth-same (Given k) default read e = refl
+depth-same Missing default read e = e
+
+module _ (bs : List ℕ) (o : Opened bs) (desc : NodeDesc) (path : List ℕ) (some : 0 < countIn bs) where
+  abbrev d : calls.NodeDesc
+  d = descOf desc path
+
+  abbrev g : Graph
+  g = decode bs
+
+  -- a parent that is given is a node
+  pub parent-below : refusal (addQuestions g d) ≡ 0 → (desc .parent .0 ≡ invalid → ⊥) → Readable bs (desc .parent .0)
+  parent-below e h =
+      let passes = none-refused-accepted (addQuestions g d) refl e in
+      let both = and-eq-true-iff (givenBelow (size g) (desc .parent .0)) (givenBelow (size g) (desc .origin .0)) .0 (passes 4) in
+      let below : ltb (desc .parent .0) (size g) ≡ true = rw (ne-eqb (desc .parent .0) invalid h) at (both .0) in
+      record { opened = o; below = omega (arith, ltb-true (desc .parent .0) (size g) below, sizes bs o) }
+
+  -- the depth that a missing one becomes
+  default-read : (prims : ℕ) → refusal (addQuestions g d) ≡ 0 → prims ≡ primCount path
+      → cond (eqb (desc .parent .0) invalid) prims (primCountIn bs (desc .parent .0)) ≡ defaultDepth g d
+  default-read prims e p = go (eqb (desc .parent .0) invalid) refl
+    where
+      go : (t : Bool) → eqb (desc .parent .0) invalid ≡ t
+          → cond t prims (primCountIn bs (desc .parent .0)) ≡ cond (not t) (primCount (nodeAt (g .nodes) (desc .parent .0) .path)) (primCount path)
+      go true t = p
+      go false t =
+          let parent = parent-below e (eqb-false (desc .parent .0) invalid t) in
+          held bs (o .holds) .node (desc .parent .0) (parent .below) .prim-count
+          ∙ ap (λ (y : model.Node). primCount (y .path)) (sym (node-read bs (desc .parent .0) parent))
+
+  pub added-node : (prims : ℕ) → refusal (addQuestions g d) ≡ 0 → prims ≡ primCount path
+      → nodeOf (addedRecord bs desc prims (length path)) path ≡ addedNode g d
+  added-node prims e p =
+      let parent = turned (eqb (desc .parent .0) invalid) 0 (desc .parent .0) in
+      let origin = turned (eqb (desc .origin .0) invalid) (numberOr (desc .parent .0) 0) (desc .origin .0)
+      ∙ ap (λ (q : ℕ). cond (given (desc .origin .0)) (desc .origin .0) q) parent in
+      let depth = depth-same (desc .depth) (defaultDepth g d)
+      (cond (eqb (desc .parent .0) invalid) prims (primCountIn bs (desc .parent .0))) (default-read prims e p) in
+      λ i. record {
+        arc = desc .arc;
+        flags = desc .flags;
+        stack = desc .stack;
+        layer = desc .layer;
+        parent = parent i;
+        origin = origin i;
+        depth = depth i;
+        sibling = desc .sibling;
+        restriction = desc .restriction;
+        specFrom = desc .«spec_from»;
+        hasSpecs = desc .«has_specs»;
+        path = path;
+      }
+
+  pub can-add : (prims count : ℕ) → refusal (addQuestions g d) ≡ 0 → prims ≡ primCount path → count ≡ countIn bs
+      → CanAppend bs count (addedRecord bs desc prims (length path)) path
+  can-add prims count e p c = record {
+    opened = o;
+    counted = c;
+    accepted = ap (λ (y : model.Node). refusal (recordQuestions g y)) (added-node prims e p) ∙ add-accepted g d (omega (arith, sizes bs o)) e;
+    named = p;
+    long = refl;
+  }
+
+  pub short-path : refusal (addQuestions g d) ≡ 0 → length path ≤ 255
+  short-path e = well-formed-length path (none-refused-accepted (addQuestions g d) refl e 5)
+
+-- ---- The ways that the calls end
+
+module _ (bs : List ℕ) (o : Opened bs) (d : calls.NodeDesc) where
+  pub add-to-none : countIn bs ≡ 0 → Wrote (onArena (addChild d) bs) bs (NumberRefused NodeZero) bs
+  unfolding addChild
+  add-to-none e =
+      let none : 3 ≡ refusal (hasNodeZero (decode bs) ∷ addQuestions (decode bs) d) = rw (no-node bs o e) in
+      rw (on-opened bs (addChild d) o) (wrote-decided-refused (hasNodeZero (decode bs) ∷ addQuestions (decode bs) d) (decode bs) _ _ bs NodeZero none)
+
+  module _ (some : 0 < countIn bs) where
+    asked : refusal (hasNodeZero (decode bs) ∷ addQuestions (decode bs) d) ≡ refusal (addQuestions (decode bs) d)
+    asked = rw (node-zero bs o some)
+
+    pub add-refused : (r : Refusal) → refusalNumber r ≡ refusal (addQuestions (decode bs) d) → Wrote (onArena (addChild d) bs) bs (NumberRefused r) bs
+    unfolding addChild
+    add-refused r e = rw (on-opened bs (addChild d) o) (wrote-decided-refused (hasNodeZero (decode bs) ∷ addQuestions (decode bs) d) (decode bs) _ _ bs r (e ∙ sym asked))
+
+    pub add-done : (after : List ℕ) (n : ℕ) → refusal (addQuestions (decode bs) d) ≡ 0 → n ≡ countIn bs
+        → after ≡ encode (withNode (decode bs) (addedNode (decode bs) d)) bs → Wrote (onArena (addChild d) bs) bs (Number n) after
+    unfolding addChild
+    add-done after n e c a = rw (on-opened bs (addChild d) o) (wrote-decided (hasNodeZero (decode bs) ∷ addQuestions (decode bs) d) (decode bs) _ _ bs after n (asked ∙ e) (c ∙ sym (sizes bs o)) a)
+
+module _ (bs : List ℕ) (o : Opened bs) (stack layer : ℕ) (path : List ℕ) where
+  abbrev startQuestions : List Question
+  startQuestions = ask 3 (eqb (size (decode bs)) 0) ∷ ask 5 (wellFormed path) ∷ []
+
+  abbrev started : Graph
+  started = withNode (decode bs) (rootNode stack layer path)
+
+  pub start-over : (countIn bs ≡ 0 → ⊥) → Wrote (onArena (initRoot stack layer path) bs) bs (NumberRefused NodeZero) bs
+  unfolding initRoot
+  start-over e =
+      let there : 3 ≡ refusal startQuestions = rw (ne-eqb (size (decode bs)) 0 (λ z. e (sym (sizes bs o) ∙ z))) in
+      rw (on-opened bs (initRoot stack layer path) o) (wrote-decided-refused startQuestions (decode bs) 0 started bs NodeZero there)
+
+  module _ (none : countIn bs ≡ 0) where
+    empty : size (decode bs) ≡ 0
+    empty = sizes bs o ∙ none
+
+    pub start-malformed : wellFormed path ≡ false → Wrote (onArena (initRoot stack layer path) bs) bs (NumberRefused Path) bs
+    unfolding initRoot
+    start-malformed e =
+        let malformed : 5 ≡ refusal startQuestions = rw (eq-eqb (size (decode bs)) 0 empty, e) in
+        rw (on-opened bs (initRoot stack layer path) o) (wrote-decided-refused startQuestions (decode bs) 0 started bs Path malformed)
+
+    pub start-done : (after : List ℕ) → wellFormed path ≡ true → after ≡ encode (withNode (decode bs) (rootNode stack layer path)) bs
+        → Wrote (onArena (initRoot stack layer path) bs) bs (Number 0) after
+    unfolding initRoot
+    start-done after e a =
+        let passed : refusal startQuestions ≡ 0 = rw (eq-eqb (size (decode bs)) 0 empty, e) in
+        rw (on-opened bs (initRoot stack layer path) o) (wrote-decided startQuestions (decode bs) 0 started bs after 0 passed refl a)
+
+    no-bytes : (ns : List model.Node) → length ns ≡ 0 → pathBytes ns ≡ 0
+    no-bytes [] e = refl
+    no-bytes (y ∷ ns) e = absurd (omega arith)
+
+    pub can-start : (prims : ℕ) → wellFormed path ≡ true → prims ≡ primCount path → CanAppend bs 0 (startRecord stack layer prims (length path)) path
+    can-start prims e p = record {
+      opened = o;
+      counted = sym none;
+      accepted = ap (λ (y : model.Node). refusal (recordQuestions (decode bs) y)) (start-node stack layer prims path p)
+          ∙ start-accepted (decode bs) stack layer path empty (no-bytes (decode bs .nodes) empty) e;
+      named = p;
+      long = refl;
+    }

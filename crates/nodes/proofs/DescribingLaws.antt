@@ -1,0 +1,143 @@
+-- The questions that a node to be added is put are document 01's: `add-questions`, `desc-checked`; and the sum of the path bytes, one node after the
+-- other: `bytes-start`, `bytes-step`, `bytes-end`. Assumes nothing.
+use mathlib.Core.Path.{_≡_, refl, sym, ap, _∙_}
+use mathlib.Core.Bool.{Bool, true, false, not, _||_, _&&_, cond}
+use mathlib.Core.List.{List, [], _∷_}
+use Prim.Native.Nat.{ℕ, suc, _+_, _-_, _≤_, _<_}
+use native.Mathlib.Omega.{arith}
+use native.Mathlib.Numerals.{add-one}
+use lib.Dec.{eqb, ltb, leb}
+use lib.ListN.{length}
+use borrow.Author.Tests.{ne-eqb, lt-ltb}
+use Rattle.model.specs.Path.{wellFormed}
+use Rattle.model.specs.Node as model
+use Rattle.model.specs.Node.{invalid, rootArc, isCulled}
+use Rattle.model.specs.Graph.{Graph, size, hasLocalRoot}
+use Rattle.model.specs.Refusals.{ask, refusal, pathBytes, hasRoom, arcAllowed}
+use Rattle.model.specs.Calls as calls
+use Rattle.model.specs.Calls.{given, givenBelow, addedNode}
+use Rattle.model.specs.Arena.{countIn, recordLengthIn, nodeIn, tabulate, decode, localRootIn}
+use Rattle.model.specs.ArenaCalls.{Opened, Readable}
+use Rattle.arena.proofs.HeldArenas.{held}
+use Rattle.arena.proofs.ArenaBack.{fresh-legal, fresh-nodes}
+use Rattle.arena.proofs.SlotLaws.{path-length}
+use Rattle.arena.proofs.ReadNodes.{sizes, has-path, root-found, root-held}
+use Rattle.validate.specs.declared.record.Checked.{Checked}
+use Rattle.validate.specs.RecordCheck.{linksAt, questionsAt, RecordChecked}
+use Rattle.nodes.specs.declared.description.NodeDesc.{NodeDesc}
+use Rattle.nodes.specs.Describing.{descOf, addQuestions, DescChecked, numberOr, specsTold}
+
+-- ---- The path bytes
+
+module _ (bs : List ℕ) where
+  -- those of the nodes from n on
+  abbrev pub bytesFrom : ℕ → ℕ
+  bytesFrom n = pathBytes (tabulate (nodeIn bs) n (countIn bs - n))
+
+  pub bytes-start : bytesFrom 0 ≡ pathBytes (decode bs .nodes)
+  unfolding decode
+  bytes-start =
+      let whole : countIn bs - 0 ≡ countIn bs = omega arith in
+      ap (λ (k : ℕ). pathBytes (tabulate (nodeIn bs) 0 k)) whole
+
+  pub bytes-step : (n : ℕ) → Readable bs n → bytesFrom n ≡ (recordLengthIn bs n - 27) + bytesFrom (n + 1)
+  bytes-step n r =
+      let more : countIn bs - n ≡ suc (countIn bs - (n + 1)) = omega (arith, r .below) in
+      let long : recordLengthIn bs n - 27 ≡ length (nodeIn bs n .path) = omega (arith, path-length bs n (has-path bs n r)) in
+      ap (λ (k : ℕ). pathBytes (tabulate (nodeIn bs) n k)) more
+      ∙ ap (λ (m : ℕ). length (nodeIn bs n .path) + pathBytes (tabulate (nodeIn bs) m (countIn bs - (n + 1)))) (sym (add-one n))
+      ∙ ap (λ (l : ℕ). l + bytesFrom (n + 1)) (sym long)
+
+  pub bytes-end : (n : ℕ) → countIn bs ≤ n → bytesFrom n ≡ 0
+  bytes-end n h =
+      let none : countIn bs - n ≡ 0 = omega arith in
+      ap (λ (k : ℕ). pathBytes (tabulate (nodeIn bs) n k)) none
+
+  pub few-bytes : Opened bs → pathBytes (decode bs .nodes) ≤ 32768
+  few-bytes o =
+      let all = held bs (o .holds) in
+      rw (fresh-nodes bs all) at (fresh-legal bs all .few-path-bytes)
+
+-- ---- The local root
+
+has-root : (bs : List ℕ) → Opened bs → 0 < countIn bs → not (eqb (localRootIn bs) 0) ≡ hasLocalRoot (decode bs .nodes)
+has-root bs o h = ap (λ (n : ℕ). not (eqb n 0)) (root-held bs o h) ∙ root-found (decode bs .nodes) (length (decode bs .nodes))
+
+-- ---- The questions
+
+module _ (g : Graph) (d : calls.NodeDesc) (some : 0 < size g) where
+  abbrev x : model.Node
+  x = addedNode g d
+
+  -- question 4, of the parent and the origin that are there in the end
+  pub links-asked : (ltb (x .parent) (size g) && ltb (x .origin) (size g)) ≡ (givenBelow (size g) (d .fields .parent) && givenBelow (size g) (d .fields .origin))
+  links-asked = go (eqb (d .fields .parent) invalid) (eqb (d .fields .origin) invalid)
+    where
+      same : (t : Bool) → (t && t) ≡ (t && true)
+      same true = refl
+      same false = refl
+
+      go : (p o : Bool)
+          → (ltb (cond (not p) (d .fields .parent) 0) (size g)
+          && ltb (cond (not o) (d .fields .origin) (cond (not p) (d .fields .parent) 0)) (size g))
+          ≡ ((not (not p) || ltb (d .fields .parent) (size g)) && (not (not o) || ltb (d .fields .origin) (size g)))
+      go true true = rw (lt-ltb 0 (size g) some)
+      go true false = rw (lt-ltb 0 (size g) some)
+      go false true = same (ltb (d .fields .parent) (size g))
+      go false false = refl
+
+  -- question 6, where the check is told 2 of a culled node's has-specs
+  kind-asked : (arcs : Bool)
+      → (arcs && (not (eqb (x .arc) rootArc && isCulled x) && leb (specsTold (x .flags) (x .hasSpecs)) 1))
+      ≡ (arcs && (not (isCulled x) && leb (x .hasSpecs) 1))
+  kind-asked arcs = go (eqb (x .arc) rootArc) (isCulled x)
+    where
+      go : (a c : Bool) → (arcs && (not (a && c) && leb (cond c 2 (x .hasSpecs)) 1)) ≡ (arcs && (not c && leb (x .hasSpecs) 1))
+      go true true = refl
+      go false true = refl
+      go true false = refl
+      go false false = refl
+
+  pub add-questions :
+      refusal (questionsAt (size g) (pathBytes (g .nodes)) (hasLocalRoot (g .nodes)) (x .arc) (x .flags) (x .parent) (x .origin)
+      (specsTold (x .flags) (x .hasSpecs)) (x .path))
+      ≡ refusal (addQuestions g d)
+  add-questions =
+      let links : linksAt (size g) (x .arc) (x .flags) (x .parent) (x .origin) ≡ (givenBelow (size g) (d .fields .parent) && givenBelow (size g) (d .fields .origin)) =
+      rw (ne-eqb (size g) 0 (λ z. omega arith)) links-asked in
+      ap (λ (t : Bool). refusal (ask 4 t ∷ ask 5 (wellFormed (x .path))
+      ∷ ask 6 (arcAllowed g x && (not (eqb (x .arc) rootArc && isCulled x) && leb (specsTold (x .flags) (x .hasSpecs)) 1)) ∷ ask 7 (hasRoom g x) ∷ []))
+      links
+      ∙ ap (λ (t : Bool). refusal (ask 4 (givenBelow (size g) (d .fields .parent) && givenBelow (size g) (d .fields .origin)) ∷ ask 5 (wellFormed (x .path))
+      ∷ ask 6 t ∷ ask 7 (hasRoom g x) ∷ [])) (kind-asked (arcAllowed g x))
+
+pub turned : (t : Bool) (a b : ℕ) → cond t a b ≡ cond (not t) b a
+turned true a b = refl
+turned false a b = refl
+
+module _ (bs : List ℕ) (o : Opened bs) (desc : NodeDesc) (path : List ℕ) (some : 0 < countIn bs) where
+  abbrev d : calls.NodeDesc
+  d = descOf desc path
+
+  abbrev g : Graph
+  g = decode bs
+
+  -- the check of a record, put the node with what was missing put in, has put it `addChild`'s questions
+  pub desc-checked : (count sum parent origin told : ℕ) (root : Bool) (r : Checked) → count ≡ countIn bs → sum ≡ pathBytes (g .nodes)
+      → root ≡ not (eqb (localRootIn bs) 0) → parent ≡ numberOr (desc .parent .0) 0 → origin ≡ numberOr (desc .origin .0) parent
+      → told ≡ specsTold (desc .flags) (desc .«has_specs»)
+      → RecordChecked (questionsAt count sum root (desc .arc) (desc .flags) parent origin told path) path r → DescChecked g d r
+  desc-checked count sum parent origin told root r count-is sum-is root-is parent-is origin-is told-is checked =
+      let counted : count ≡ size g = count-is ∙ sym (sizes bs o) in
+      let rooted : root ≡ hasLocalRoot (g .nodes) = root-is ∙ has-root bs o some in
+      let above : parent ≡ addedNode g d .parent = parent-is ∙ turned (eqb (desc .parent .0) invalid) 0 (desc .parent .0) in
+      let from : origin ≡ addedNode g d .origin =
+      origin-is ∙ turned (eqb (desc .origin .0) invalid) parent (desc .origin .0) ∙ ap (λ (q : ℕ). cond (given (desc .origin .0)) (desc .origin .0) q) above in
+      let same : questionsAt count sum root (desc .arc) (desc .flags) parent origin told path
+      ≡ questionsAt (size g) (pathBytes (g .nodes)) (hasLocalRoot (g .nodes)) (desc .arc) (desc .flags) (addedNode g d .parent) (addedNode g d .origin)
+      (specsTold (desc .flags) (desc .«has_specs»)) path =
+      λ i. questionsAt (counted i) (sum-is i) (rooted i) (desc .arc) (desc .flags) (above i) (from i) (told-is i) path in
+      record {
+        refused = checked .refused ∙ ap refusal same ∙ add-questions g d (omega (arith, sizes bs o));
+        prims = checked .prims;
+      }

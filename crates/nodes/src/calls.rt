@@ -1,0 +1,278 @@
+// The calls that start a graph and add to it, that read the header or one node, and that look for a site. None has a `requires`: each puts its questions in
+// document 01's order and is refused by the first whose answer is no; then no byte has changed, because nothing is written before all have passed. A path
+// is handed back as a part of the arena, and no bytes of it where the call is refused.
+// The calls and their questions are in model/specs/Calls.antt, on an arena as model/specs/ArenaCalls.antt has it; specs/Adding.antt has node 0's record,
+// specs/Queries.antt says what the reading calls answer.
+use crate::description::NodeDesc;
+use model::Finished;
+use model::NodeId;
+use model::Numbered;
+use model::PrimCount;
+use model::Refusal;
+use validate::Checked;
+ghost use mathlib.Core.Path.{_≡_};
+ghost use Prim.Native.Nat.{_≤_};
+ghost use Rattle.model.specs.ArenaCalls.{onArena, Wrote, askArena, Answered, Opened, Readable};
+ghost use Rattle.model.specs.Calls.{initRoot, addChild, readsNode};
+ghost use Rattle.nodes.specs.Describing.{descOf};
+ghost use Rattle.nodes.specs.Adding.{startRecord};
+ghost use Rattle.model.specs.Arena.{decode, countIn, localRootIn, nodeIn};
+ghost use Rattle.model.specs.Graph.{nodeAt, depthBelowIntroduction, pathAtIntroduction, usesSite, nodeUsingSite};
+ghost use Rattle.nodes.specs.Queries.{handed, NodeAnswered, GraphShown, GraphAnswered};
+ghost use mathlib.Core.Bool.{cond, not, _||_};
+ghost use lib.Dec.{eqb};
+ghost use Rattle.model.specs.Node.{invalid, hasFlag, inertFlag, culledFlag};
+ghost use Rattle.model.specs.Calls as calls;
+
+// The record of node 0: arc Root, INERT, with specs, its depth its own prim count.
+fn start_record(stack: u32, layer: u32, prims: u16, path_length: usize) -> arena::Node
+    requires { ⌜ (prims ≤ 255) × («path_length» ≤ 255) ⌝ }
+    ensures { λ r. ⌜ r ≡ startRecord stack layer prims «path_length» ⌝ }
+{
+    arena::Node {
+        first_child: NodeId::INVALID,
+        last_child: NodeId::INVALID,
+        next_sibling: NodeId::INVALID,
+        prim_count: prims as u8,
+        record_length: 27 + (path_length as u16),
+        arc: 0,
+        flags: 1,
+        stack: stack,
+        layer: layer,
+        parent: NodeId::INVALID,
+        origin: NodeId::INVALID,
+        depth: prims,
+        sibling: 0,
+        restriction: 0,
+        spec_from: 0,
+        has_specs: 1,
+    }
+}
+
+// Starts a graph in an arena that holds the empty one, and answers its number, 0. Refused 1, 2, 3 where there is a node 0, 5.
+pub fn init_root(arena: &mut [u8], stack: u32, layer: u32, path: &[u8]) -> Numbered
+    ensures { λ r. ⌜ Wrote (onArena (initRoot stack layer (now (path .entry))) (now (arena .entry))) (now (arena .entry)) r (now (arena .exit)) ⌝ }
+{
+    if arena.len() != 327744 {
+        return Numbered::Refused(Refusal::Size);
+    }
+    if !validate::is_graph(arena) {
+        return Numbered::Refused(Refusal::NotAGraph);
+    }
+    if arena::count(arena) != 0 {
+        return Numbered::Refused(Refusal::NodeZero);
+    }
+    let read = path::prim_count(path);
+    let PrimCount::Names(prims) = read else {
+        return Numbered::Refused(Refusal::Path);
+    };
+    child_lists::append_node(
+        arena,
+        0,
+        start_record(stack, layer, prims, path.len()),
+        path,
+    );
+    Numbered::Number(0)
+}
+
+// Adds the node as the last child of its parent and answers its number. Refused 1 to 7.
+pub fn add_child(arena: &mut [u8], desc: NodeDesc, path: &[u8]) -> Numbered
+    ensures { λ r. ⌜ Wrote (onArena (addChild (descOf desc (now (path .entry)))) (now (arena .entry))) (now (arena .entry)) r (now (arena .exit)) ⌝ }
+{
+    if arena.len() != 327744 {
+        return Numbered::Refused(Refusal::Size);
+    }
+    if !validate::is_graph(arena) {
+        return Numbered::Refused(Refusal::NotAGraph);
+    }
+    let count = arena::count(arena);
+    if count == 0 {
+        return Numbered::Refused(Refusal::NodeZero);
+    }
+    let checked = crate::description::check_desc(arena, count, desc, path);
+    match checked {
+        Checked::Accepted(prims) => {
+            let node = crate::description::added_record(arena, desc, prims, path.len());
+            child_lists::append_node(arena, count, node, path);
+            Numbered::Number(count)
+        }
+        Checked::Refused(refusal) => Numbered::Refused(refusal),
+    }
+}
+
+// The record of node n, with its links. Refused 1 to 4.
+pub fn node(arena: &[u8], n: u32) -> NodeRead
+    ensures { λ r. ⌜ NodeAnswered (now (arena .entry)) n r ⌝ }
+{
+    let asked = validate::ask_node(arena, n);
+    match asked {
+        Finished::Done => NodeRead::Node(arena::load_node(arena, n)),
+        Finished::Refused(refusal) => NodeRead::Refused(refusal),
+    }
+}
+
+// The path of node n, a part of the arena. Refused as `node` is, which has the refusal: then it is no bytes.
+pub fn path(arena: &[u8], n: u32) -> &[u8]
+    ensures { λ r. ⌜ now r ≡ handed (askArena (now (arena .entry)) (readsNode (decode (now (arena .entry))) n)) (nodeAt (decode (now (arena .entry)) .nodes) n .path) ⌝ }
+{
+    let asked = validate::ask_node(arena, n);
+    let Finished::Done = asked else {
+        return &arena[..0];
+    };
+    arena::path(arena, n)
+}
+
+// The parent's prim count less the node's depth, at least 0. Refused 1 to 4.
+pub fn depth_below_introduction(arena: &[u8], n: u32) -> Numbered
+    ensures { λ r. ⌜ Answered (askArena (now (arena .entry)) (readsNode (decode (now (arena .entry))) n)) (depthBelowIntroduction (decode (now (arena .entry)) .nodes) n) r ⌝ }
+{
+    let asked = validate::ask_node(arena, n);
+    match asked {
+        Finished::Done => Numbered::Number(view::depth_below(arena, n) as u32),
+        Finished::Refused(refusal) => Numbered::Refused(refusal),
+    }
+}
+
+// The path of node n as it was at its introduction: the front part of its path. Refused as `depth_below_introduction` is, which has the refusal: then it
+// is no bytes.
+pub fn path_at_introduction(arena: &[u8], n: u32) -> &[u8]
+    ensures { λ r. ⌜ now r ≡ handed (askArena (now (arena .entry)) (readsNode (decode (now (arena .entry))) n)) (pathAtIntroduction (decode (now (arena .entry)) .nodes) n) ⌝ }
+{
+    let asked = validate::ask_node(arena, n);
+    let Finished::Done = asked else {
+        return &arena[..0];
+    };
+    let depth = view::depth_below(arena, n);
+    path::path_at_intro_depth(arena::path(arena, n), depth)
+}
+
+// What an arena's header tells of its graph. Where there is no local root it is `NodeId::INVALID`.
+pub struct GraphInfo {
+    pub count: u32,
+    pub ordered: bool,
+    pub finalized: bool,
+    pub shallow: bool,
+    pub local_root: NodeId,
+}
+
+// The answer of `graph_info`.
+pub enum GraphRead {
+    Graph(GraphInfo),
+    Refused(Refusal),
+}
+
+// The answer of `node`.
+pub enum NodeRead {
+    Node(arena::Node),
+    Refused(Refusal),
+}
+
+// The local root's number: node 0 is never it, and stands for none in the header.
+fn root_or_none(root: u32) -> NodeId
+    ensures { λ r. ⌜ r .0 ≡ cond (eqb root 0) invalid root ⌝ }
+{
+    if root == 0 {
+        return NodeId::INVALID;
+    }
+    NodeId::new(root)
+}
+
+// The local root in the header; of an empty graph it is not read.
+fn stored_root(arena: &[u8], count: u32) -> u32
+    requires { ⌜ Opened (now arena) ⌝ }
+    ensures { λ r. ⌜ r ≡ cond (eqb count 0) 0 (localRootIn (now (arena .entry))) ⌝ }
+{
+    if count == 0 {
+        return 0;
+    }
+    arena::local_root(arena)
+}
+
+// The header of an arena that holds a graph.
+fn read_info(arena: &[u8], count: u32) -> GraphInfo
+    requires { ⌜ Opened (now arena) × (count ≡ countIn (now arena)) ⌝ }
+    ensures { λ r. ⌜ GraphShown (decode (now (arena .entry))) r ⌝ }
+{
+    GraphInfo {
+        count: count,
+        ordered: arena::ordered(arena) == 1,
+        finalized: arena::finalized(arena) == 1,
+        shallow: arena::shallow(arena) == 1,
+        local_root: root_or_none(stored_root(arena, count)),
+    }
+}
+
+// What the header tells of the graph. Refused 1 or 2.
+pub fn graph_info(arena: &[u8]) -> GraphRead
+    ensures { λ r. ⌜ GraphAnswered (now (arena .entry)) r ⌝ }
+{
+    let counted = validate::count(arena);
+    match counted {
+        Numbered::Number(nodes) => GraphRead::Graph(read_info(arena, nodes)),
+        Numbered::Refused(refusal) => GraphRead::Refused(refusal),
+    }
+}
+
+// Whether a node with these flags is neither INERT nor CULLED.
+fn contributes(flags: u8) -> bool
+    ensures { λ r. ⌜ r ≡ not (hasFlag inertFlag flags || hasFlag culledFlag flags) ⌝ }
+{
+    if validate::is_inert(flags) {
+        return false;
+    }
+    !validate::is_culled(flags)
+}
+
+// Whether node n, neither INERT nor CULLED, has that stack and path.
+fn uses(arena: &[u8], n: u32, stack: u32, path: &[u8]) -> bool
+    requires { ⌜ Readable (now arena) n ⌝ }
+    ensures { λ r. ⌜ r ≡ usesSite stack (now (path .entry)) (nodeIn (now (arena .entry)) n) ⌝ }
+{
+    if !contributes(arena::flags(arena, n)) {
+        return false;
+    }
+    if arena::stack(arena, n) != stack {
+        return false;
+    }
+    path::same_path(arena::path(arena, n), path)
+}
+
+// The lowest of `count` nodes that uses the site, 4,294,967,295 where none does.
+fn lowest(arena: &[u8], count: u32, stack: u32, path: &[u8]) -> u32
+    requires { ⌜ Opened (now arena) × (count ≡ countIn (now arena)) ⌝ }
+    ensures { λ r. ⌜ r ≡ nodeUsingSite stack (now (path .entry)) (decode (now (arena .entry))) ⌝ }
+{
+    let mut n: u32 = 0;
+    while n < count {
+        if uses(arena, n, stack, path) {
+            return n;
+        }
+        n += 1;
+    }
+    4294967295
+}
+
+// The lowest node, neither INERT nor CULLED, that has that stack and path; 4,294,967,295 where none does. Refused 1, 2, 3 and 5.
+pub fn node_using_site(arena: &[u8], stack: u32, path: &[u8]) -> Numbered
+    ensures { λ r. ⌜ Answered (askArena (now (arena .entry)) (calls.usesSite (decode (now (arena .entry))) (now (path .entry)))) (nodeUsingSite stack (now (path .entry)) (decode (now (arena .entry)))) r ⌝ }
+{
+    let counted = validate::count(arena);
+    match counted {
+        Numbered::Number(nodes) => lowest_asked(arena, nodes, stack, path),
+        Numbered::Refused(refusal) => Numbered::Refused(refusal),
+    }
+}
+
+// The same of an arena that holds a graph: questions 3 and 5.
+fn lowest_asked(arena: &[u8], count: u32, stack: u32, path: &[u8]) -> Numbered
+    requires { ⌜ Opened (now arena) × (count ≡ countIn (now arena)) ⌝ }
+    ensures { λ r. ⌜ Answered (calls.usesSite (decode (now (arena .entry))) (now (path .entry))) (nodeUsingSite stack (now (path .entry)) (decode (now (arena .entry)))) r ⌝ }
+{
+    if count == 0 {
+        return Numbered::Refused(Refusal::NodeZero);
+    }
+    if !path::is_well_formed(path) {
+        return Numbered::Refused(Refusal::Path);
+    }
+    Numbered::Number(lowest(arena, count, stack, path))
+}

@@ -1,0 +1,105 @@
+-- `read_selection` meets its contract: set, `=`, selection and `}` are read in turn, and each that is missing fails the reading.
+-- Assumes nothing.
+use borrow.Author.Needs.{needs}
+use borrow.Author.Tests.{not-true, not-false}
+use native.Mathlib.Omega.{arith}
+use mathlib.Core.Path.{_≡_, _∙_, sym}
+use mathlib.Core.Bool.{true}
+use Rattle.model.specs.Path.{equalsSign}
+use Rattle.path.specs.PathReading.{beginsName, standsAt}
+use Rattle.path.proofs.ReadingLaws.{begins-within, stands-within, no-set, no-sign, no-value, no-brace, selection-read}
+use Rattle.path.proofs.scan.read_selection.Statement.{statement}
+use Rattle.path.proofs.scan.read_selection.Tie as tie
+
+-- past the first test a set begins at `at`
+begun : (c : tie.Else1) → beginsName (c .before .before .before .args .path .now) (c .before .before .before .args .at) ≡ true
+begun c = sym (c .before .name-begins .ensures) ∙ not-false _ (c .if1 .left)
+
+-- past the second `=` stands behind it
+signed : (c : tie.Else2)
+    → standsAt (c .before .before .before .before .before .before .args .path .now) (c .before .before .word-end .result) equalsSign ≡ true
+signed c = sym (c .before .stands .ensures) ∙ not-false _ (c .if2 .left)
+
+name-begins-requires : tie.Need-name-begins-requires
+name-begins-requires c κs = search needs
+
+returns : tie.Need-returns
+returns c =
+    let s = c .before .before .before .args in
+    no-set (s .path .now) (s .at) (sym (c .before .name-begins .ensures) ∙ not-true _ (c .if1 .taken))
+
+add-word-end : tie.Need-add-word-end
+add-word-end c =
+    let s = c .before .before .before .args in
+    omega (arith, begins-within (s .path .now) (s .at) (begun c))
+
+word-end-requires : tie.Need-word-end-requires
+word-end-requires c κs =
+    let s = c .before .before .before .args in
+    omega (arith, begins-within (s .path .now) (s .at) (begun c))
+
+stands-requires : tie.Need-stands-requires
+stands-requires c κs = search needs
+
+returns-2 : tie.Need-returns-2
+returns-2 c =
+    let s = c .before .before .before .before .before .before .args in
+    no-sign (s .path .now) (s .at) (c .before .before .word-end .result) (begun (c .before .before .before)) (c .before .before .word-end .ensures)
+    (sym (c .before .stands .ensures) ∙ not-true _ (c .if2 .taken))
+
+add-first : tie.Need-add-first
+add-first c = search needs
+
+selection-end-requires : tie.Need-selection-end-requires
+selection-end-requires c κs =
+    let s = c .before .before .before .before .before .before .args in
+    omega (arith, stands-within (s .path .now) (c .before .before .word-end .result) equalsSign (signed c))
+
+returns-3 : tie.Need-returns-3
+returns-3 c =
+    let s = c .before .before .before .before .before .before .before .before .args in
+    let word = c .before .before .before .before .word-end in
+    no-value (s .path .now) (s .at) (word .result) (begun (c .before .before .before .before .before)) (word .ensures) (signed (c .before .before))
+    (c .before .selection-end .result) (c .before .selection-end .ensures) (c .if3 .taken)
+
+stands-requires-2 : tie.Need-stands-requires-2
+stands-requires-2 c κs = search needs
+
+returns-4 : tie.Need-returns-4
+returns-4 c =
+    let s = c .before .before .before .before .before .before .before .before .before .before .args in
+    let word = c .before .before .before .before .before .before .word-end in
+    no-brace (s .path .now) (s .at) (word .result) (begun (c .before .before .before .before .before .before .before)) (word .ensures)
+    (signed (c .before .before .before .before)) (c .before .before .before .selection-end .result)
+    (c .before .before .before .selection-end .ensures) (c .before .before .if3 .left)
+    (sym (c .before .stands2 .ensures) ∙ not-true _ (c .if4 .taken))
+
+add-t8 : tie.Need-add-t8
+add-t8 c = search needs
+
+returns-5 : tie.Need-returns-5
+returns-5 c =
+    let s = c .before .before .before .before .before .before .before .before .before .before .args in
+    let word = c .before .before .before .before .before .before .word-end in
+    selection-read (s .path .now) (s .at) (word .result) (begun (c .before .before .before .before .before .before .before)) (word .ensures)
+    (signed (c .before .before .before .before)) (c .before .before .before .selection-end .result)
+    (c .before .before .before .selection-end .ensures) (c .before .before .if3 .left)
+    (sym (c .before .stands2 .ensures) ∙ not-false _ (c .if4 .left))
+
+pub read-selection-spec : {M : Type 1} → statement M
+read-selection-spec =
+    tie.close
+    (tie.spec
+    name-begins-requires
+    returns
+    add-word-end
+    word-end-requires
+    stands-requires
+    returns-2
+    add-first
+    selection-end-requires
+    returns-3
+    stands-requires-2
+    returns-4
+    add-t8
+    returns-5)

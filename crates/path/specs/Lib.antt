@@ -1,0 +1,2 @@
+pub mod PathReading
+pub mod Tables

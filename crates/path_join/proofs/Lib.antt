@@ -1,2 +1,0 @@
--- The laws of a name appended, for callers too.
-pub mod JoinLaws

@@ -1,2 +1,0 @@
--- The laws of the tables.
-pub mod TableLaws

@@ -1,0 +1,94 @@
+-- `record_right` meets its contract: the record's length, then its numbers, its depth and its path. Assumes nothing.
+use borrow.Author.Needs.{needs}
+use mathlib.Core.Path.{_≡_, sym, ap, _∙_}
+use mathlib.Core.Bool.{true}
+use native.Mathlib.Omega.{arith}
+use lib.ListN.{length}
+use borrow.Author.Tests.{not-true, not-false}
+use Rattle.model.specs.Path.{countPrims}
+use Rattle.arena.specs.Slot.{HasPath}
+use Rattle.arena.proofs.SlotLaws.{path-length}
+use Rattle.path.specs.Tables.{isNames}
+use Rattle.validate.specs.Validate.{numbersRight}
+use Rattle.validate.proofs.ArenaRecords.{too-short, too-long, numbers-lower, numbers-wrong, depth-wrong, names-left}
+use Rattle.validate.proofs.graph.record_right.Statement.{statement}
+use Rattle.validate.proofs.graph.record_right.Tie as tie
+
+-- the record's length is right
+fits : (c : tie.Else2) → HasPath (c .before .before .before .before .before .args .arena .now) (c .before .before .before .before .before .args .n)
+fits c =
+    let s = c .before .before .before .before .before in
+    record { slot = s .pre .1 .0; numbered = omega (arith, c .before .if1 .left, s .pre .1 .1); short = omega (arith, c .if2 .left, s .pre .1 .1) }
+
+-- its numbers are right
+numbered : (c : tie.Else3)
+    → let a = c .before .before .before .before .before .before .before .before .args in
+    numbersRight (a .arena .now) (a .n) (a .path-bytes) (a .root) ≡ true
+numbered c = sym (c .before .numbers-right .ensures) ∙ not-false _ (c .if3 .left)
+
+returns : tie.Need-returns
+returns c = let s = c .before .before .before .before in sym (too-short _ _ _ _ (omega (arith, c .if1 .taken, s .pre .1 .1)))
+
+returns-2 : tie.Need-returns-2
+returns-2 c =
+    let s = c .before .before .before .before .before in
+    sym (too-long _ _ _ _ (omega (arith, c .before .if1 .left, s .pre .1 .1)) (omega (arith, c .if2 .taken, s .pre .1 .1)))
+
+parent-requires : tie.Need-parent-requires
+parent-requires c κs = search needs
+
+numbers-right-requires : tie.Need-numbers-right-requires
+numbers-right-requires c κs = search needs
+
+returns-3 : tie.Need-returns-3
+returns-3 c =
+    let s = c .before .before .before .before .before .before .before .before in
+    sym (numbers-wrong _ _ _ _ (fits (c .before .before .before)) (omega (arith, c .before .before .before .before .if1 .left, s .pre .1 .1)) (sym (c .before .numbers-right .ensures) ∙ not-true _ (c .if3 .taken)))
+
+depth-right-requires : tie.Need-depth-right-requires
+depth-right-requires c κs =
+    let s = c .before .before .before .before .before .before .before .before in
+    let same = c .before .before .parent .ensures in
+    (s .pre .1 .0, same, λ l. omega (arith, numbers-lower _ _ _ _ (numbered c) l, same))
+
+returns-4 : tie.Need-returns-4
+returns-4 c =
+    let s = c .before .before .before .before .before .before .before .before .before .before in
+    sym (depth-wrong _ _ _ _ (fits (c .before .before .before .before .before)) (omega (arith, c .before .before .before .before .before .before .if1 .left, s .pre .1 .1)) (numbered (c .before .before))
+    (sym (c .before .depth-right .ensures) ∙ not-true _ (c .if4 .taken)))
+
+prim-count-requires : tie.Need-prim-count-requires
+prim-count-requires c κs = search needs
+
+path-requires : tie.Need-path-requires
+path-requires c κs = search needs
+
+has-names-requires : tie.Need-has-names-requires
+has-names-requires c κs =
+    let s = c .before .before .before .before .before .before .before .before .before .before .before .before in
+    let long = path-length (s .args .arena .now) (s .args .n) (fits (c .before .before .before .before .before .before .before)) in
+    let same = ap length (c .path .ensures) in
+    (s .pre .0, (omega (arith, long, same, c .before .before .before .before .before .before .before .before .if1 .left, s .pre .1 .1), omega (arith, long, same, c .before .before .before .before .before .before .before .if2 .left, s .pre .1 .1)))
+
+returns-5 : tie.Need-returns-5
+returns-5 c =
+    let s = c .before .before .before .before .before .before .before .before .before .before .before .before .before in
+    c .has-names .ensures ∙ (λ i. isNames (c .before .before .prim-count .ensures i) (countPrims (c .before .path .ensures i)))
+    ∙ sym (names-left _ _ _ _ (fits (c .before .before .before .before .before .before .before .before)) (omega (arith, c .before .before .before .before .before .before .before .before .before .if1 .left, s .pre .1 .1)) (numbered (c .before .before .before .before .before))
+    (sym (c .before .before .before .before .depth-right .ensures) ∙ not-false _ (c .before .before .before .if4 .left)))
+
+pub record-right-spec : {M : Type 1} → statement M
+record-right-spec =
+    tie.close
+    (tie.spec
+    returns
+    returns-2
+    parent-requires
+    numbers-right-requires
+    returns-3
+    depth-right-requires
+    returns-4
+    prim-count-requires
+    path-requires
+    has-names-requires
+    returns-5)

@@ -1,0 +1,125 @@
+-- `records_right` meets its contract. The loop's invariant is `RecordsTo`: the records below n are right, and come to so many bytes of paths and this
+-- local root. The measure is how many are left. Assumes nothing.
+use borrow.Author.Needs.{needs}
+use mathlib.Core.Path.{sym, _∙_}
+use Prim.Native.Nat.{_-_}
+use native.Mathlib.Omega.{arith}
+use borrow.Author.Tests.{not-true, not-false}
+use Rattle.validate.proofs.ArenaRecords.{RightAfter, right-after}
+use Rattle.validate.proofs.RecordsLaws.{RecordsTo, records-none, no-root, record-fails, records-more, records-all}
+use Rattle.validate.proofs.graph.records_right.Statement.{statement}
+use Rattle.validate.proofs.graph.records_right.Tie as tie
+
+abbrev Inv-loop : tie.InvT-loop
+Inv-loop arena count kinds pairs path-bytes₀ root₀ n₀ path-bytes root n = RecordsTo arena n path-bytes root
+
+abbrev μ-loop : tie.MeasureT-loop
+μ-loop arena count kinds pairs path-bytes₀ root₀ n₀ path-bytes root n = count - n
+
+-- the record here is right
+right : (c : tie.Else1 Inv-loop μ-loop)
+    → let l = c .before .before .before .before .before .before .before in
+    RightAfter (l .before .before .before .before .args .arena .now) (l .loop .n) (l .loop .path-bytes) (l .loop .root)
+right c = right-after _ _ _ _ (sym (c .before .record-right .ensures) ∙ not-false _ (c .if1 .left))
+
+kinds-requires : tie.Need-kinds-requires Inv-loop μ-loop
+kinds-requires c κs = search needs
+
+pairs-requires : tie.Need-pairs-requires Inv-loop μ-loop
+pairs-requires c κs = search needs
+
+loop-holds : tie.Need-loop-holds Inv-loop μ-loop
+loop-holds c = records-none _
+
+record-length-requires : tie.Need-record-length-requires Inv-loop μ-loop
+record-length-requires c κs = let s = c .before .before .before .before .before in record { whole = s .pre .0; within = omega (arith, c .loop-test, s .pre) }
+
+cast-length : tie.Need-cast-length Inv-loop μ-loop
+cast-length c = search needs
+
+arc-requires : tie.Need-arc-requires Inv-loop μ-loop
+arc-requires c κs =
+    let s = c .before .before .before .before .before .before in
+    record { whole = s .pre .0; within = omega (arith, c .before .loop-test, s .pre) }
+
+slice-aggregate-record-right : tie.Need-slice-aggregate-record-right Inv-loop μ-loop
+slice-aggregate-record-right c = search needs
+
+slice-aggregate-record-right-2 : tie.Need-slice-aggregate-record-right-2 Inv-loop μ-loop
+slice-aggregate-record-right-2 c = search needs
+
+record-right-requires : tie.Need-record-right-requires Inv-loop μ-loop
+record-right-requires c κs =
+    let s = c .before .before .before .before .before .before .before .before .before in (
+      record { kinds-right = c .before .before .before .before .before .before .before .kinds .ensures; pairs-right = c .before .before .before .before .before .before .pairs .ensures },
+      (
+        record { whole = s .pre .0; within = omega (arith, c .before .before .before .before .loop-test, s .pre) },
+        c .before .before .before .record-length .ensures,
+        c .before .before .arc .ensures,
+        c .before .before .before .before .before .loop .inv .few-bytes,
+      ),
+    )
+
+returns : tie.Need-returns Inv-loop μ-loop
+returns c =
+    let l = c .before .before .before .before .before .before .before in
+    sym (record-fails _ _ _ _ (l .loop .inv) (omega (arith, c .before .before .before .before .before .before .loop-test, l .before .before .before .before .pre .1))
+    (sym (c .before .record-right .ensures) ∙ not-true _ (c .if1 .taken)))
+
+sub-path-bytes : tie.Need-sub-path-bytes Inv-loop μ-loop
+sub-path-bytes c = omega (arith, right c .named, c .before .before .before .before .before .record-length .ensures)
+
+add-path-bytes : tie.Need-add-path-bytes Inv-loop μ-loop
+add-path-bytes c =
+    omega (arith, right c .short, c .before .before .before .before .before .record-length .ensures, c .before .before .before .before .before .before .before .loop .inv .few-bytes)
+
+root-with-requires : tie.Need-root-with-requires Inv-loop μ-loop
+root-with-requires c κs = no-root _ _ _ _ (c .before .before .before .before .before .before .before .loop .inv)
+
+add-n : tie.Need-add-n Inv-loop μ-loop
+add-n c = omega (arith, c .before .before .before .before .before .before .before .loop-test, c .before .before .before .before .before .before .before .before .before .before .before .before .pre)
+
+loop-less : tie.Need-loop-less Inv-loop μ-loop
+loop-less c = omega (arith, c .before .before .before .before .before .before .before .loop-test)
+
+loop-again : tie.Need-loop-again Inv-loop μ-loop
+loop-again c =
+    let l = c .before .before .before .before .before .before .before .before in
+    let s = l .before .before .before .before in
+    records-more _ _ _ _ (l .loop .inv) (s .pre .0) (omega (arith, s .pre)) (omega (arith, c .before .before .before .before .before .before .before .loop-test, s .pre .1)) _ _ _
+    (c .before .before .before .before .before .before .record-length .ensures) (c .before .before .before .before .before .arc .ensures) (c .root-with .ensures)
+    (sym (c .before .before .record-right .ensures) ∙ not-false _ (c .before .if1 .left))
+
+root-right-requires : tie.Need-root-right-requires Inv-loop μ-loop
+root-right-requires c κs = c .before .before .before .before .before .pre .0
+
+returns-2 : tie.Need-returns-2 Inv-loop μ-loop
+returns-2 c =
+    let s = c .before .before .before .before .before .before in
+    let all = records-all _ _ _ _ (c .before .before .loop .inv) (omega (arith, c .before .loop-test, s .pre .1)) in
+    c .root-right .ensures ∙ rw (s .pre .1) (sym all)
+
+pub records-right-spec : {M : Type 1} → statement M
+records-right-spec =
+    tie.close
+    (tie.spec
+    Inv-loop
+    μ-loop
+    kinds-requires
+    pairs-requires
+    loop-holds
+    record-length-requires
+    cast-length
+    arc-requires
+    slice-aggregate-record-right
+    slice-aggregate-record-right-2
+    record-right-requires
+    returns
+    sub-path-bytes
+    add-path-bytes
+    root-with-requires
+    add-n
+    loop-less
+    loop-again
+    root-right-requires
+    returns-2)
