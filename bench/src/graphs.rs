@@ -4,7 +4,7 @@ use std::path::Path;
 use std::process::Command;
 
 use plain::arena::holds_graph;
-use plain::layout::{ARENA_BYTES, INVALID, LOCAL_ROOT};
+use plain::layout::{ARENA_BYTES, INVALID, LOCAL_ROOT, SNAPSHOT_BYTES};
 use plain::order;
 use plain::path::prim_count;
 use plain::samples::graphs::{Node, grown, snapshot};
@@ -12,7 +12,6 @@ use plain::samples::graphs::{Node, grown, snapshot};
 use crate::{proved, time};
 
 const SIZES: [usize; 4] = [16, 64, 256, 1_024];
-const SNAPSHOT_BYTES: usize = 65_536;
 
 /// The path of node 0.
 const ROOT_PATH: &[u8] = b"/World";

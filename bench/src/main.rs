@@ -9,6 +9,7 @@ mod paths;
 mod proved;
 mod slowest;
 mod snapshots;
+mod stack;
 mod strength;
 mod time;
 
@@ -25,7 +26,8 @@ usage: bench [paths]                  measure reading paths
        bench snapshots SEED COUNT     compare the reading of COUNT snapshots, whole and damaged
        bench orders SEED SMALL LARGE  compare the ordering of so many small graphs, and of so many large ones
        bench slowest SEED COUNT       order COUNT graphs of 1,024 nodes, and find the slowest
-       bench erasures SEED COUNT      compare culling and erasing in COUNT arenas";
+       bench erasures SEED COUNT      compare culling and erasing in COUNT arenas
+       bench stack SEED COUNT         measure the stack of each call, on the shapes and on COUNT random graphs";
 
 fn main() -> ExitCode {
     let arguments: Vec<String> = env::args().skip(1).collect();
@@ -41,6 +43,7 @@ fn main() -> ExitCode {
         ["orders", seed, small, large] => compare_orders(seed, small, large),
         ["slowest", seed, count] => on_numbers(seed, count, slowest::search),
         ["erasures", seed, count] => on_numbers(seed, count, erasures::compare),
+        ["stack", seed, count] => on_numbers(seed, count, stack::measure),
         _ => None,
     };
     match agreed {
@@ -53,9 +56,9 @@ fn main() -> ExitCode {
     }
 }
 
-/// Whether the proved library agreed; nothing where the words are no numbers.
-fn on_numbers(seed: &str, count: &str, compare: fn(u64, usize) -> bool) -> Option<bool> {
-    Some(compare(seed.parse().ok()?, count.parse().ok()?))
+/// What a command on a seed and a count answers; nothing where the words are no numbers.
+fn on_numbers(seed: &str, count: &str, run: fn(u64, usize) -> bool) -> Option<bool> {
+    Some(run(seed.parse().ok()?, count.parse().ok()?))
 }
 
 /// The same of ordering, which takes two counts.

@@ -11,6 +11,20 @@ unsafe extern "C" {
     fn bench_cull(arena: *mut u8, length: usize) -> u64;
     fn bench_erasable(arena: *const u8, alen: usize, set: *mut u8, slen: usize) -> u64;
     fn bench_erase(arena: *mut u8, alen: usize, set: *const u8, slen: usize) -> u64;
+    fn bench_append_child_name_to_all_sites(arena: *mut u8, alen: usize, child: *const u8, clen: usize) -> u64;
+    fn bench_seed_child(from: *const u8, flen: usize, into: *mut u8, ilen: usize, child: *const u8, clen: usize)
+    -> u64;
+    fn bench_graph_info(arena: *const u8, length: usize) -> u64;
+    fn bench_node(arena: *const u8, length: usize, n: u32) -> u64;
+    fn bench_path(arena: *const u8, length: usize, n: u32) -> u64;
+    fn bench_path_at_introduction(arena: *const u8, length: usize, n: u32) -> u64;
+    fn bench_depth_below_introduction(arena: *const u8, length: usize, n: u32) -> u64;
+    fn bench_node_using_site(arena: *const u8, alen: usize, stack: u32, path: *const u8, plen: usize) -> u64;
+    fn bench_is_ancestor_of(arena: *const u8, length: usize, x: u32, y: u32) -> u64;
+    fn bench_same_site(arena: *const u8, length: usize, a: u32, b: u32) -> u64;
+    fn bench_is_propagated_specializes(arena: *const u8, length: usize, n: u32) -> u64;
+    fn bench_get_propagated_specializes_node(arena: *const u8, length: usize, n: u32) -> u64;
+    fn bench_starting_node_of_class_hierarchy(arena: *const u8, length: usize, n: u32) -> u64;
     fn bench_compare_node_strength(arena: *const u8, length: usize, a: u32, b: u32) -> u64;
     fn bench_compare_pairs(arena: *const u8, alen: usize, pairs: *const u8, plen: usize) -> u64;
     fn bench_compare_sibling_pairs(arena: *const u8, alen: usize, pairs: *const u8, plen: usize) -> u64;
@@ -75,6 +89,73 @@ pub fn erasable(arena: &[u8], set: &mut [u8]) -> Result<u32, u32> {
 /// The count kept.
 pub fn erase(arena: &mut [u8], set: &[u8]) -> Result<u32, u32> {
     answer(unsafe { bench_erase(arena.as_mut_ptr(), arena.len(), set.as_ptr(), set.len()) })
+}
+
+/// 0, and the longer paths in the arena.
+pub fn append_child_name_to_all_sites(arena: &mut [u8], child: &[u8]) -> Result<u32, u32> {
+    let (start, length) = (arena.as_mut_ptr(), arena.len());
+    answer(unsafe { bench_append_child_name_to_all_sites(start, length, child.as_ptr(), child.len()) })
+}
+
+/// 0, and the graph with longer paths in the second arena.
+pub fn seed_child(from: &[u8], into: &mut [u8], child: &[u8]) -> Result<u32, u32> {
+    let (start, length) = (into.as_mut_ptr(), into.len());
+    answer(unsafe { bench_seed_child(from.as_ptr(), from.len(), start, length, child.as_ptr(), child.len()) })
+}
+
+/// The local root.
+pub fn graph_info(arena: &[u8]) -> Result<u32, u32> {
+    answer(unsafe { bench_graph_info(arena.as_ptr(), arena.len()) })
+}
+
+/// The first child.
+pub fn node(arena: &[u8], n: u32) -> Result<u32, u32> {
+    answer(unsafe { bench_node(arena.as_ptr(), arena.len(), n) })
+}
+
+/// The length, 0 where the call is refused.
+pub fn path(arena: &[u8], n: u32) -> Result<u32, u32> {
+    answer(unsafe { bench_path(arena.as_ptr(), arena.len(), n) })
+}
+
+/// The length, 0 where the call is refused.
+pub fn path_at_introduction(arena: &[u8], n: u32) -> Result<u32, u32> {
+    answer(unsafe { bench_path_at_introduction(arena.as_ptr(), arena.len(), n) })
+}
+
+/// The depth.
+pub fn depth_below_introduction(arena: &[u8], n: u32) -> Result<u32, u32> {
+    answer(unsafe { bench_depth_below_introduction(arena.as_ptr(), arena.len(), n) })
+}
+
+/// The node.
+pub fn node_using_site(arena: &[u8], stack: u32, path: &[u8]) -> Result<u32, u32> {
+    answer(unsafe { bench_node_using_site(arena.as_ptr(), arena.len(), stack, path.as_ptr(), path.len()) })
+}
+
+/// 1 or 0.
+pub fn is_ancestor_of(arena: &[u8], x: u32, y: u32) -> Result<u32, u32> {
+    answer(unsafe { bench_is_ancestor_of(arena.as_ptr(), arena.len(), x, y) })
+}
+
+/// 1 or 0.
+pub fn same_site(arena: &[u8], a: u32, b: u32) -> Result<u32, u32> {
+    answer(unsafe { bench_same_site(arena.as_ptr(), arena.len(), a, b) })
+}
+
+/// 1 or 0.
+pub fn is_propagated_specializes(arena: &[u8], n: u32) -> Result<u32, u32> {
+    answer(unsafe { bench_is_propagated_specializes(arena.as_ptr(), arena.len(), n) })
+}
+
+/// The node.
+pub fn get_propagated_specializes_node(arena: &[u8], n: u32) -> Result<u32, u32> {
+    answer(unsafe { bench_get_propagated_specializes_node(arena.as_ptr(), arena.len(), n) })
+}
+
+/// The topmost class.
+pub fn starting_node_of_class_hierarchy(arena: &[u8], n: u32) -> Result<u32, u32> {
+    answer(unsafe { bench_starting_node_of_class_hierarchy(arena.as_ptr(), arena.len(), n) })
 }
 
 /// Less is 0, Equal 1 and Greater 2.

@@ -1,5 +1,6 @@
 // C functions for the programs in bench/, and for nothing else: each is one call of the library below it, with its answer as a number, which carries refusal
 // and value where the call may be refused (crates/c_api).
+mod reading;
 mod sums;
 
 use model::NodeId;
@@ -11,11 +12,12 @@ ghost use mathlib.Core.Bool.{true, false};
 ghost use Rattle.model.specs.Answers.{orderingNumber};
 ghost use Rattle.model.specs.Arena.{decode};
 ghost use Rattle.model.specs.ArenaCalls.{onArena, intoArena, askArena};
-ghost use Rattle.model.specs.Calls.{initRoot, addChild, readInto, comparesNodes, finalizeStrengthOrder, cull};
+ghost use Rattle.model.specs.Calls.{initRoot, addChild, readInto, comparesNodes, finalizeStrengthOrder, cull, appendChildName};
 ghost use Rattle.model.specs.Graph.{emptyGraph};
 ghost use Rattle.model.specs.Path.{countPrims};
 ghost use Rattle.model.specs.Strength.{view, compareNodeStrength};
 ghost use Rattle.c_api.specs.Carried.{carriedAnswer, WroteCarried};
+ghost use Rattle.deepening.specs.ChildNames.{seedFrom};
 ghost use Rattle.erasing.specs.Erasures.{eraseIn};
 ghost use Rattle.bench_api.specs.Numbers.{countNumber, graphNumber, referenceDesc, SnapshotCarried, ErasableCarried};
 ghost use Rattle.bench_api.specs.Pairs.{askedNumber, pairsNumber};
@@ -150,4 +152,20 @@ pub extern "C" fn bench_erase(arena: &mut [u8], set: &[u8]) -> u64
     ensures { λ r. ⌜ WroteCarried (eraseIn (now (set .entry)) (now (arena .entry))) (now (arena .entry)) r (now (arena .exit)) ⌝ }
 {
     c_api::carry_number(prim_graph::erase(arena, set))
+}
+
+// `append_child_name_to_all_sites`.
+#[no_mangle]
+pub extern "C" fn bench_append_child_name_to_all_sites(arena: &mut [u8], child: &[u8]) -> u64
+    ensures { λ r. ⌜ WroteCarried (onArena (appendChildName (now (child .entry))) (now (arena .entry))) (now (arena .entry)) r (now (arena .exit)) ⌝ }
+{
+    c_api::carry_finish(prim_graph::append_child_name_to_all_sites(arena, child))
+}
+
+// `seed_child`.
+#[no_mangle]
+pub extern "C" fn bench_seed_child(from: &[u8], into: &mut [u8], child: &[u8]) -> u64
+    ensures { λ r. ⌜ WroteCarried (intoArena (seedFrom (now (child .entry)) (now (from .entry))) (now (into .entry))) (now (into .entry)) r (now (into .exit)) ⌝ }
+{
+    c_api::carry_finish(prim_graph::seed_child(from, into, child))
 }

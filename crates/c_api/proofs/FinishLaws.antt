@@ -1,4 +1,4 @@
--- Ordering and culling give no value, whether they are refused or not: their number is their refusal alone. Assumes nothing.
+-- Ordering, culling and appending a child's name give no value, whether they are refused or not: their number is their refusal alone. Assumes nothing.
 use mathlib.Core.Path.{_≡_, refl, sym, ap, _∙_}
 use mathlib.Core.Bool.{Bool, true, false, _||_, cond}
 use mathlib.Core.List.{List, [], _∷_}
@@ -6,14 +6,15 @@ use Prim.Native.Nat.{ℕ, zero, suc}
 use Rattle.model.specs.Graph.{Graph}
 use Rattle.model.specs.Order.{hasOrder, ordering}
 use Rattle.model.specs.Culling.{cullSubtreesWithoutOpinions}
+use Rattle.model.specs.Deepening.{appendChildNameToAllSites}
 use Rattle.model.specs.Refusals.{Question, ask, refusal}
-use Rattle.model.specs.Calls.{Outcome, unchanged, settled, decided, hasNodeZero, finalizeStrengthOrder, cull}
+use Rattle.model.specs.Calls.{Outcome, unchanged, settled, decided, hasNodeZero, finalizeStrengthOrder, cull, deepenQuestions, appendChildName}
 use Rattle.model.specs.Arena.{decode, holdsGraph}
 use Rattle.model.specs.ArenaCalls.{isArena, onArena, Finishes}
 use Rattle.model.specs.declared.Finished.{Finished}
 use Rattle.c_api.specs.Carried.{carried, carriedFinish, WroteCarried}
 
-no-value : (questions : List Question) (g result : Graph) → decided questions g 0 result .value ≡ 0
+pub no-value : (questions : List Question) (g result : Graph) → decided questions g 0 result .value ≡ 0
 no-value questions g result = go (refusal questions)
   where
     go : (k : ℕ) → settled k g 0 result .value ≡ 0
@@ -41,6 +42,10 @@ finalize-value =
 pub cull-value : (bs : List ℕ) → onArena cull bs .value ≡ 0
 unfolding cull
 cull-value = on-arena-no-value cull (λ g. no-value (hasNodeZero g ∷ []) g (cullSubtreesWithoutOpinions g))
+
+pub append-value : (child bs : List ℕ) → onArena (appendChildName child) bs .value ≡ 0
+unfolding appendChildName
+append-value child = on-arena-no-value (appendChildName child) (λ g. no-value (deepenQuestions child g) g (appendChildNameToAllSites child g))
 
 -- the number of such a call, and the arena after it
 pub finishes-carried : {o : Outcome} {before after : List ℕ} {r : Finished} {n : ℕ} → o .value ≡ 0 → n ≡ carriedFinish r → Finishes o before r after

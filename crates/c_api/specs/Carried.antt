@@ -3,12 +3,13 @@
 use mathlib.Core.Path.{_≡_}
 use mathlib.Core.List.{List}
 use Prim.Native.Nat.{ℕ, _+_, _*_}
-use Rattle.model.specs.Answers.{numberedRefusal, numberedValue, comparedRefusal, comparedValue, finishedRefusal}
+use Rattle.model.specs.Answers.{numberedRefusal, numberedValue, comparedRefusal, comparedValue, testedRefusal, testedValue, finishedRefusal}
 use Rattle.model.specs.Refusals.{Question, refusal}
 use Rattle.model.specs.Calls.{Outcome}
 use Rattle.model.specs.ArenaCalls.{left, valueUnless}
 use Rattle.model.specs.declared.Numbered.{Numbered}
 use Rattle.model.specs.declared.Compared.{Compared}
+use Rattle.model.specs.declared.Tested.{Tested}
 use Rattle.model.specs.declared.Finished.{Finished}
 
 -- "refusal's number times 4,294,967,296 plus the value"
@@ -20,6 +21,9 @@ carriedNumber r = carried (numberedRefusal r) (numberedValue r)
 
 abbrev pub carriedOrder : Compared → ℕ
 carriedOrder r = carried (comparedRefusal r) (comparedValue r)
+
+abbrev pub carriedTest : Tested → ℕ
+carriedTest r = carried (testedRefusal r) (testedValue r)
 
 -- no value
 abbrev pub carriedFinish : Finished → ℕ

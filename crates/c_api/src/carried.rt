@@ -3,9 +3,10 @@ use model::Compared;
 use model::Finished;
 use model::Numbered;
 use model::Refusal;
+use model::Tested;
 ghost use mathlib.Core.Path.{_≡_};
 ghost use Rattle.model.specs.Refusals.{refusalNumber};
-ghost use Rattle.c_api.specs.Carried.{carried, carriedNumber, carriedOrder, carriedFinish};
+ghost use Rattle.c_api.specs.Carried.{carried, carriedNumber, carriedOrder, carriedTest, carriedFinish};
 
 // A refusal, and no value.
 pub fn carry_refusal(refusal: Refusal) -> u64
@@ -31,6 +32,16 @@ pub fn carry_order(answer: Compared) -> u64
     match answer {
         Compared::As(ordering) => ordering.number() as u64,
         Compared::Refused(refusal) => carry_refusal(refusal),
+    }
+}
+
+// The answer of a test: 1 for yes and 0 for no.
+pub fn carry_test(answer: Tested) -> u64
+    ensures { λ r. ⌜ r ≡ carriedTest answer ⌝ }
+{
+    match answer {
+        Tested::Is(is) => is as u64,
+        Tested::Refused(refusal) => carry_refusal(refusal),
     }
 }
 

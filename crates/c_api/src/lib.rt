@@ -6,6 +6,8 @@ mod carried;
 pub use carried::carry_finish;
 pub use carried::carry_number;
 pub use carried::carry_order;
+pub use carried::carry_refusal;
+pub use carried::carry_test;
 ghost use mathlib.Core.Path.{_≡_};
 ghost use mathlib.Core.List.{[]};
 ghost use lib.ListN.{getD};

@@ -1,10 +1,10 @@
-//! Prints the snapshot of a shape that has an order: `shape NAME NODES`; without words the names, one to a line.
+//! Prints the snapshot of a shape to be ordered: `shape NAME NODES`; without words the names, one to a line.
 use std::env;
 use std::io::{self, Write};
 use std::process::ExitCode;
 
 use plain::samples::graphs::snapshot;
-use plain::samples::ordered::ORDERED_SHAPES;
+use plain::samples::ordered::{CYCLES, ORDERED_SHAPES};
 
 fn main() -> ExitCode {
     let arguments: Vec<String> = env::args().skip(1).collect();
@@ -20,10 +20,11 @@ fn main() -> ExitCode {
 
 /// Nothing where there is no such shape.
 fn print(arguments: &[String]) -> Option<io::Result<()>> {
+    let mut shapes = ORDERED_SHAPES.iter().chain(&CYCLES);
     let [name, count] = arguments else {
-        ORDERED_SHAPES.iter().for_each(|(name, _)| println!("{name}"));
+        shapes.for_each(|(name, _)| println!("{name}"));
         return arguments.is_empty().then_some(Ok(()));
     };
-    let (_, shape) = ORDERED_SHAPES.iter().find(|(other, _)| other == name)?;
+    let (_, shape) = shapes.find(|(other, _)| other == name)?;
     Some(io::stdout().write_all(&snapshot(&shape(count.parse().ok()?))))
 }

@@ -4,6 +4,9 @@ pub const ARENA_BYTES: usize = HEADER_BYTES + MAX_NODES * SLOT_BYTES;
 pub const HEADER_BYTES: usize = 64;
 pub const SLOT_BYTES: usize = 320;
 
+/// The buffer that a snapshot is written to.
+pub const SNAPSHOT_BYTES: usize = 65_536;
+
 pub const MAX_NODES: usize = 1_024;
 pub const MAX_PATH_BYTES: usize = 32_768;
 

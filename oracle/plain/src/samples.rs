@@ -4,6 +4,7 @@ pub mod arenas;
 pub mod culls;
 pub mod damaged_arenas;
 pub mod damaged_snapshots;
+pub mod deepest;
 pub mod graphs;
 pub mod ordered;
 pub mod orders;

@@ -1,4 +1,4 @@
-//! The shapes of which ordering is measured. Each has an order at every size.
+//! The shapes of which ordering is measured, each with an order at every size, and two without an order.
 
 use super::graphs::Node;
 use super::strength::{Shape, alike, chain, linked, long_origins, mixed, shaped, star, two_chains};
@@ -31,14 +31,31 @@ pub const ORDERED_SHAPES: [(&str, Shape); 21] = [
     ("nested", nested_roots),
 ];
 
+/// Shapes without an order, in which ordering compares through origins to show a cycle.
+pub const CYCLES: [(&str, Shape); 2] = [("pairs-in-a-cycle", pairs_in_a_cycle), ("chain-in-a-cycle", chain_in_a_cycle)];
+
 /// `pairs` whose last three nodes are in a cycle, the first two of them compared through all pairs below: two HAS_SPECIALIZES of depths 1
 /// and 3 and one without of depth 2.
-pub fn pairs_in_a_cycle(count: usize) -> Vec<Node> {
+fn pairs_in_a_cycle(count: usize) -> Vec<Node> {
     let mut nodes = chains_of_pairs(count, 0, 1);
     if let [.., first, second, third] = &mut nodes[..] {
         (first.depth, second.depth, third.depth) = (1, 3, 2);
         (third.flags, third.origin) = (0, third.parent);
     }
+    nodes
+}
+
+/// `deep` and a cycle of three: two HAS_SPECIALIZES copies of node 2, whose origins are below the last two of the chain, so that they
+/// are compared through all of it; and one without the flag, of a depth between theirs.
+fn chain_in_a_cycle(count: usize) -> Vec<Node> {
+    let node = |arc, parent, origin, depth| Node { depth, ..linked(arc, parent, origin, b"/A".into()) };
+    let last = count - 6;
+    let mut nodes = unflagged_origins(last + 1, 1);
+    nodes.push(node(REFERENCE, last - 1, 2, 0));
+    nodes.push(node(REFERENCE, last, 2, 0));
+    nodes.push(node(SPECIALIZE, 1, last + 1, 1));
+    nodes.push(node(SPECIALIZE, 1, last + 2, 3));
+    nodes.push(Node { flags: 0, ..node(SPECIALIZE, 1, 1, 2) });
     nodes
 }
 
