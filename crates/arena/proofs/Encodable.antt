@@ -6,24 +6,19 @@ use mathlib.Core.List.{List, [], _∷_}
 use Prim.Native.Nat.{ℕ, zero, suc, _≤_, _<_}
 use native.Mathlib.Omega.{arith}
 use lib.ListN.{length}
-use Rattle.model.specs.Lists.{All, count}
+use Rattle.model.specs.Lists.{All}
 use Rattle.model.specs.Node.{Node}
 use Rattle.model.specs.Graph.{Graph, emptyGraph, size, nodeAt}
 use Rattle.model.specs.Order.{isStronger, hasOrder, ordering}
 use Rattle.laws.proofs.SnapshotLaws.{FieldsFit, NodesFit}
 use Rattle.laws.proofs.OrderLaws.{in-order-ordered}
-use Rattle.laws.proofs.LengthLaws.{length-once}
+use Rattle.laws.proofs.LengthLaws.{EachOnce, length-once}
 use Rattle.laws.proofs.LegalGraphs.{Legal, empty-legal}
 use Rattle.laws.proofs.LegalAlike.{ordered-legal}
 
 -- the graph with no order
 abbrev pub unordered : Graph → Graph
 unordered g = record { nodes = g .nodes; children = g .children; order = []; ordered = false; finalized = false; shallow = g .shallow }
-
--- each of n nodes stands once in the order, and nothing else does
-pub record EachOnce (n : ℕ) (order : List ℕ) : Type 0 where
-  pub once : (i : ℕ) → i < n → count i order ≡ 1
-  pub nothing-else : All (λ x. x < n) order
 
 -- What question 2 asks of a graph: all that is legal but how its order came about ("A room may pass with an order never computed"); that each number
 -- fits its width; and that an empty graph has no mark, which `Legal` leaves open for shallow.

@@ -17,10 +17,10 @@ use Rattle.laws.proofs.BigEndianLaws.{Bytes}
 use Rattle.laws.proofs.SnapshotLaws.{FieldsFit, NodesFit}
 use Rattle.laws.proofs.SnapshotReadLaws.{built}
 use Rattle.laws.proofs.ListLaws.{all-at}
-use Rattle.laws.proofs.LengthLaws.{once-nothing-else}
+use Rattle.laws.proofs.LengthLaws.{EachOnce, once-nothing-else}
 use Rattle.laws.proofs.Trees.{Child, TreeOf}
 use Rattle.laws.proofs.LegalGraphs.{Legal, DepthsReached}
-use Rattle.arena.proofs.Encodable.{unordered, EachOnce, Encodable}
+use Rattle.arena.proofs.Encodable.{unordered, Encodable}
 use Rattle.arena.proofs.TabulateLaws.{tabulate-length}
 use Rattle.arena.proofs.HeldArenas.{Held, held, held-chain}
 use Rattle.arena.proofs.ArenaBack.{size-decode, node-decode, lists-decode, children-decode, fresh-nodes, fresh-legal, parent-lower, root-parent, node-fits}

@@ -15,7 +15,7 @@ ghost use Rattle.model.specs.ArenaCalls.{onArena, intoArena, askArena};
 ghost use Rattle.model.specs.Calls.{initRoot, addChild, readInto, comparesNodes, finalizeStrengthOrder, cull, appendChildName};
 ghost use Rattle.model.specs.Graph.{emptyGraph};
 ghost use Rattle.model.specs.Path.{countPrims};
-ghost use Rattle.model.specs.Strength.{view, compareNodeStrength};
+ghost use Rattle.model.specs.Strength.{viewOf, compareNodeStrength};
 ghost use Rattle.c_api.specs.Carried.{carriedAnswer, WroteCarried};
 ghost use Rattle.deepening.specs.ChildNames.{seedFrom};
 ghost use Rattle.erasing.specs.Erasures.{eraseIn};
@@ -93,7 +93,7 @@ pub extern "C" fn bench_write_snapshot(arena: &[u8], out: &mut [u8]) -> u64
 // `compare_node_strength`.
 #[no_mangle]
 pub extern "C" fn bench_compare_node_strength(arena: &[u8], a: u32, b: u32) -> u64
-    ensures { λ r. ⌜ r ≡ carriedAnswer (askArena (now (arena .entry)) (comparesNodes (decode (now (arena .entry))) a b)) (orderingNumber (compareNodeStrength (view (decode (now (arena .entry)) .nodes)) a b)) ⌝ }
+    ensures { λ r. ⌜ r ≡ carriedAnswer (askArena (now (arena .entry)) (comparesNodes (decode (now (arena .entry))) a b)) (orderingNumber (compareNodeStrength (viewOf (decode (now (arena .entry)))) a b)) ⌝ }
 {
     c_api::carry_order(prim_graph::compare_node_strength(arena, a, b))
 }

@@ -16,7 +16,7 @@ ghost use Rattle.model.specs.Arena.{countIn, decode};
 ghost use Rattle.model.specs.ArenaCalls.{onArena, intoArena, askArena};
 ghost use Rattle.model.specs.Calls.{finalizeStrengthOrder, readInto, comparesNodes, comparesSiblings, readsEntry};
 ghost use Rattle.model.specs.Graph.{emptyGraph};
-ghost use Rattle.model.specs.Strength.{view, compareNodeStrength, compareSiblingNodeStrength};
+ghost use Rattle.model.specs.Strength.{viewOf, compareNodeStrength, compareSiblingNodeStrength};
 ghost use Rattle.c_api.specs.Carried.{carriedAnswer, WroteCarried};
 ghost use Rattle.c_api.specs.CarriedOrders.{OrderCarried};
 
@@ -39,7 +39,7 @@ pub extern "C" fn cadgweri_count(arena: &[u8]) -> u64
 // The value is 0 where node a is the stronger, 2 where b is, 1 where they are one node. Refused 1 to 4.
 #[no_mangle]
 pub extern "C" fn cadgweri_compare_node_strength(arena: &[u8], a: u32, b: u32) -> u64
-    ensures { λ r. ⌜ r ≡ carriedAnswer (askArena (now (arena .entry)) (comparesNodes (decode (now (arena .entry))) a b)) (orderingNumber (compareNodeStrength (view (decode (now (arena .entry)) .nodes)) a b)) ⌝ }
+    ensures { λ r. ⌜ r ≡ carriedAnswer (askArena (now (arena .entry)) (comparesNodes (decode (now (arena .entry))) a b)) (orderingNumber (compareNodeStrength (viewOf (decode (now (arena .entry)))) a b)) ⌝ }
 {
     crate::carried::carry_order(prim_graph::compare_node_strength(arena, a, b))
 }
@@ -47,7 +47,7 @@ pub extern "C" fn cadgweri_compare_node_strength(arena: &[u8], a: u32, b: u32) -
 // The same of two siblings: refused 1 to 4, and 8 where they have not one parent.
 #[no_mangle]
 pub extern "C" fn cadgweri_compare_sibling_node_strength(arena: &[u8], a: u32, b: u32) -> u64
-    ensures { λ r. ⌜ r ≡ carriedAnswer (askArena (now (arena .entry)) (comparesSiblings (decode (now (arena .entry))) a b)) (orderingNumber (compareSiblingNodeStrength (view (decode (now (arena .entry)) .nodes)) a b)) ⌝ }
+    ensures { λ r. ⌜ r ≡ carriedAnswer (askArena (now (arena .entry)) (comparesSiblings (decode (now (arena .entry))) a b)) (orderingNumber (compareSiblingNodeStrength (viewOf (decode (now (arena .entry)))) a b)) ⌝ }
 {
     crate::carried::carry_order(prim_graph::compare_sibling_node_strength(arena, a, b))
 }

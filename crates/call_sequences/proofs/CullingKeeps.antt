@@ -11,9 +11,10 @@ use Rattle.model.specs.Graph.{Graph, size, nodeAt, hasLocalRoot}
 use Rattle.model.specs.Culling.{canCull, culled, cullOne, cullDown, cullSubtreesWithoutOpinions}
 use Rattle.model.specs.Calls.{hasNodeZero, cull}
 use Rattle.laws.proofs.CullingLaws.{culling-only-culls}
+use Rattle.laws.proofs.LengthLaws.{EachOnce}
 use Rattle.laws.proofs.LegalGraphs.{Legal}
 use Rattle.laws.proofs.LegalAlike.{culling-keeps-legal}
-use Rattle.arena.proofs.Encodable.{unordered, EachOnce, Encodable}
+use Rattle.arena.proofs.Encodable.{unordered, Encodable}
 use Rattle.child_lists.proofs.AppendEncodable.{NumbersFit}
 use Rattle.call_sequences.proofs.KeptFits.{Numbers, fit-numbers, legal-fits, Keeps, decided-encodable}
 

@@ -12,12 +12,13 @@ use Rattle.model.specs.Graph.{Graph, size, nodeAt}
 use Rattle.model.specs.Deepening.{deepened, deepen, appendChildNameToAllSites}
 use Rattle.model.specs.Calls.{deepenQuestions, appendChildName, seedChild}
 use Rattle.laws.proofs.BigEndianLaws.{Bytes}
+use Rattle.laws.proofs.LengthLaws.{EachOnce}
 use Rattle.laws.proofs.StoredLaws.{bytes-drop}
 use Rattle.laws.proofs.ListLaws.{all-append}
 use Rattle.laws.proofs.DeepenLaws.{size-deepened, node-deepened}
 use Rattle.laws.proofs.LegalGraphs.{Legal}
 use Rattle.laws.proofs.LegalAlike.{deepening-keeps-legal}
-use Rattle.arena.proofs.Encodable.{unordered, EachOnce, Encodable}
+use Rattle.arena.proofs.Encodable.{unordered, Encodable}
 use Rattle.child_lists.proofs.AppendEncodable.{NumbersFit}
 use Rattle.call_sequences.proofs.KeptFits.{fit-numbers, legal-fits, FinalUnlessShallow, Keeps, decided-encodable, decided-leaves}
 

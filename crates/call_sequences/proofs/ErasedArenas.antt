@@ -14,7 +14,7 @@ use borrow.Author.Tests.{eqb-true, eq-eqb, lt-ltb, ltb-true}
 use Rattle.model.specs.Lists.{filter}
 use Rattle.model.specs.Node.{Node}
 use Rattle.model.specs.Graph.{Graph, size, nodeAt, childrenOf}
-use Rattle.model.specs.Strength.{view, compareSiblingNodeStrength, compareNodeStrength}
+use Rattle.model.specs.Strength.{viewOf, compareSiblingNodeStrength, compareNodeStrength}
 use Rattle.model.specs.Culling.{isErasable}
 use Rattle.model.specs.Erasing.{stays, erasable, canErase, newNumber, renumbered, erase}
 use Rattle.model.specs.Refusals.{Question, refusal}
@@ -121,10 +121,10 @@ pub record Stands (set : List ℕ) (g left : Graph) : Type 0 where
   pub spares : Spares g (stays set)
   -- "any two of them compare as before"
   pub compare : (a b : ℕ) → a < size g → b < size g → stays set a ≡ true → stays set b ≡ true
-      → compareNodeStrength (view (left .nodes)) (newNumber (stays set) a) (newNumber (stays set) b) ≡ compareNodeStrength (view (g .nodes)) a b
+      → compareNodeStrength (viewOf left) (newNumber (stays set) a) (newNumber (stays set) b) ≡ compareNodeStrength (viewOf g) a b
   pub compare-siblings : (a b : ℕ) → a < size g → b < size g → stays set a ≡ true → stays set b ≡ true
-      → compareSiblingNodeStrength (view (left .nodes)) (newNumber (stays set) a) (newNumber (stays set) b)
-      ≡ compareSiblingNodeStrength (view (g .nodes)) a b
+      → compareSiblingNodeStrength (viewOf left) (newNumber (stays set) a) (newNumber (stays set) b)
+      ≡ compareSiblingNodeStrength (viewOf g) a b
   -- "the fields a snapshot holds are unchanged but for that renumbering of parent and origin; chains lose only what went", the order too
   pub fields : (n : ℕ) → n < size g → stays set n ≡ true
       → nodeAt (left .nodes) (newNumber (stays set) n) ≡ renumbered (stays set) (size g) (nodeAt (g .nodes) n)
@@ -182,7 +182,7 @@ module _ (set bs after : List ℕ) (n : ℕ) (bytes : Bytes bs) (erased : Erased
       spares : Spares (decode bs) (stays set)
       spares = can-erase-iff (decode bs) set (before-legal .node-0 (ltb-true 0 (size (decode bs)) (asked 3)) .arc) .0 (asked 11) .1
 
-      alike : LooksLike (size (decode bs)) (stays set) (newNumber (stays set)) (view (decode bs .nodes)) (view (graphLeft .nodes))
+      alike : LooksLike (size (decode bs)) (stays set) (newNumber (stays set)) (viewOf (decode bs)) (viewOf graphLeft)
       alike = erase-looks-like (stays set) (decode bs) spares (before-legal .links)
 
   -- of the arena, which holds what the call leaves, since that is encodable

@@ -13,13 +13,14 @@ use Rattle.model.specs.Erasing.{stays, canErase, newNumber, renumbered, eraseBy
 use Rattle.model.specs.Refusals.{ask}
 use Rattle.model.specs.Calls.{hasNodeZero, eraseSet}
 use Rattle.laws.proofs.ListLaws.{all-imp, all-map, all-filter}
+use Rattle.laws.proofs.LengthLaws.{EachOnce}
 use Rattle.laws.proofs.EraseSets.{can-erase-iff}
 use Rattle.laws.proofs.EraseLists.{new-number-grows, at-new-numbers, count-kept}
 use Rattle.laws.proofs.EraseLaws.{size-erased, node-erased, order-erased, marks-erased}
 use Rattle.laws.proofs.LegalGraphs.{Legal}
 use Rattle.laws.proofs.LegalErased.{erasing-keeps-legal}
 use Rattle.laws.proofs.AcceptedQuestions.{Accepted}
-use Rattle.arena.proofs.Encodable.{unordered, EachOnce, Encodable}
+use Rattle.arena.proofs.Encodable.{unordered, Encodable}
 use Rattle.child_lists.proofs.AppendEncodable.{NumbersFit}
 use Rattle.call_sequences.proofs.KeptFits.{fit-numbers, legal-fits, Keeps, decided-encodable}
 

@@ -11,7 +11,7 @@ use Rattle.model.specs.declared.Ordering.the-variants.{Less}
 use Rattle.model.specs.Lists.{All, Pairs, count, filter}
 use Rattle.model.specs.Node.{Node}
 use Rattle.model.specs.Graph.{emptyGraph, size, nodeAt, childrenOf}
-use Rattle.model.specs.Strength.{view, compareNodeStrength}
+use Rattle.model.specs.Strength.{viewOf, compareNodeStrength}
 use Rattle.model.specs.Order as order
 use Rattle.model.specs.Culling.{isMarked}
 use Rattle.model.specs.Erasing.{stays, erasable, newNumber, renumbered}
@@ -109,7 +109,7 @@ pub data Start : List ℕ → Type 0 where
 
 -- what comparing two nodes answers
 abbrev pub compares : List ℕ → ℕ → ℕ → Ordering
-compares bs a b = compareNodeStrength (view (decode bs .nodes)) a b
+compares bs a b = compareNodeStrength (viewOf (decode bs)) a b
 
 pub record Listed (bs : List ℕ) : Type 0 where
   pub each-once : (n : ℕ) → n < size (decode bs) → count n (decode bs .order) ≡ 1

@@ -28,8 +28,8 @@ use Rattle.arena.proofs.ArenaBack.{size-decode, fresh-legal, fresh-nodes}
 use Rattle.arena.proofs.HeldArenas.{held}
 use Rattle.view.specs.View.{viewIn}
 use Rattle.view.proofs.ViewLaws.{legal}
-use Rattle.strength.specs.declared.verdicts.Verdict.{Verdict}
-use Rattle.strength.specs.declared.verdicts.Verdict.the-variants.{Settled, Ask}
+use Rattle.model.specs.declared.Verdict.{Verdict}
+use Rattle.model.specs.declared.Verdict.the-variants.{Settled, Ask}
 use Rattle.strength.specs.Verdicts.{resolve}
 use Rattle.line_table.specs.declared.Entry.{Entry}
 use Rattle.line_table.specs.LineTable.{EntryOf, NestedKnown, Weighs, NestedRow}

@@ -7,7 +7,7 @@ use Prim.Native.Nat.{ℕ, _<_}
 use Rattle.model.specs.declared.Ordering.the-variants.{Less}
 use Rattle.model.specs.Lists.{All, Pairs, count, filter}
 use Rattle.model.specs.Graph.{Graph, emptyGraph, size, nodeAt, childrenOf}
-use Rattle.model.specs.Strength.{view, compareNodeStrength}
+use Rattle.model.specs.Strength.{viewOf, compareNodeStrength}
 use Rattle.model.specs.Order.{hasOrder, ordering}
 use Rattle.model.specs.Culling.{isMarked}
 use Rattle.model.specs.Erasing.{stays, erasable, newNumber, renumbered}
@@ -18,7 +18,7 @@ use Rattle.model.specs.Calls.{Outcome, Call, call, calls, erasing, deepening, r
 pub record Listed (g : Graph) : Type 0 where
   pub each-once : (n : ℕ) → n < size g → count n (g .order) ≡ 1
   pub nothing-else : All (λ n. n < size g) (g .order)
-  pub earlier-stronger : Pairs (λ a b. compareNodeStrength (view (g .nodes)) a b ≡ Less) (g .order)
+  pub earlier-stronger : Pairs (λ a b. compareNodeStrength (viewOf g) a b ≡ Less) (g .order)
 
 -- ---- "If its erasable nodes are erased"
 
@@ -58,7 +58,7 @@ pub record Erased (g : Graph) : Type 0 where
   pub chains-stand : (n : ℕ) → n < size g → kept g n ≡ true → childrenOf (rest g) (new g n) ≡ map (new g) (filter (kept g) (childrenOf g n))
   -- "any two of them compare as before"
   pub compare-as-before : (a b : ℕ) → a < size g → b < size g → kept g a ≡ true → kept g b ≡ true
-      → compareNodeStrength (view (rest g .nodes)) (new g a) (new g b) ≡ compareNodeStrength (view (g .nodes)) a b
+      → compareNodeStrength (viewOf (rest g)) (new g a) (new g b) ≡ compareNodeStrength (viewOf g) a b
   -- "where the graph was ordered, its list is the old one without what went"
   pub list-stands : g .ordered ≡ true → (rest g .ordered ≡ true) × (rest g .order ≡ map (new g) (filter (kept g) (g .order)))
   -- "and ordering afresh changes nothing": it sorts and walks anew, a finalized graph too
@@ -69,7 +69,7 @@ pub record Erased (g : Graph) : Type 0 where
 
 pub record Deepened (g : Graph) (child : List ℕ) : Type 0 where
   pub pairs-as-before : (a b : ℕ) → a < size g → b < size g
-      → compareNodeStrength (view (call (deepening child) g .graph .nodes)) a b ≡ compareNodeStrength (view (g .nodes)) a b
+      → compareNodeStrength (viewOf (call (deepening child) g .graph)) a b ≡ compareNodeStrength (viewOf g) a b
 
 -- ---- The claim
 

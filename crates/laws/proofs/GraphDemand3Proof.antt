@@ -8,7 +8,7 @@ use lib.ListN.{length}
 use borrow.Author.Tests.{lt-ltb, not-false}
 use Rattle.model.specs.Path.{lastName}
 use Rattle.model.specs.Graph.{Graph, size}
-use Rattle.model.specs.Strength.{view, compareNodeStrength}
+use Rattle.model.specs.Strength.{viewOf, compareNodeStrength}
 use Rattle.model.specs.Order.{ordering}
 use Rattle.model.specs.Culling.{isErasable}
 use Rattle.model.specs.Erasing.{newNumber, eraseBy}
@@ -94,11 +94,11 @@ module _ (g : Graph) (legal : Legal g) where
   legal-deepened e child = record {
     pairs-as-before = λ a b h l.
         decided-keeps (deepenQuestions child g) g 0 (appendChildNameToAllSites child g)
-        (λ after. compareNodeStrength (view (after .nodes)) a b ≡ compareNodeStrength (view (g .nodes)) a b) refl (λ q. alike q a b h l) refl;
+        (λ after. compareNodeStrength (viewOf after) a b ≡ compareNodeStrength (viewOf g) a b) refl (λ q. alike q a b h l) refl;
   }
     where
       alike : Accepted (deepenQuestions child g) → (a b : ℕ) → a < size g → b < size g
-          → compareNodeStrength (view (appendChildNameToAllSites child g .nodes)) a b ≡ compareNodeStrength (view (g .nodes)) a b
+          → compareNodeStrength (viewOf (appendChildNameToAllSites child g)) a b ≡ compareNodeStrength (viewOf g) a b
       alike q a b h l =
           nodes-alike (legal .links) (deepen-looks-like (lastName child) (deepens-by-name child g q) g (legal .links)
           (legal-reached g legal (legal .final e .1))) a b h l refl refl

@@ -13,6 +13,11 @@ use borrow.Author.Tests.{eqb-true, ltb-true, ltb-false}
 use Rattle.model.specs.Lists.{All, bit, count}
 use Rattle.laws.proofs.ListLaws.{bit-eq, bit-ne}
 
+-- each number below n once, and nothing else
+pub record EachOnce (n : ℕ) (xs : List ℕ) : Type 0 where
+  pub once : (i : ℕ) → i < n → count i xs ≡ 1
+  pub nothing-else : All (λ x. x < n) xs
+
 -- how many elements are below n
 abbrev counted : List ℕ → ℕ → ℕ
 counted xs zero = 0

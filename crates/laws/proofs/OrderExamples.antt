@@ -8,7 +8,7 @@ use native.Mathlib.Omega.{arith}
 use Rattle.model.specs.Node.{inheritArc, Node, sameSite}
 use Rattle.model.specs.Path.{samePath, wellFormed, primCount, isNameStart}
 use Rattle.model.specs.Graph.{Graph, emptyGraph, size, childrenOf, withNode, isLocalRoot}
-use Rattle.model.specs.Strength.{view, smaller, isPropagatedSpecializes, originRootNode, outward, isNestedUnder, originsAreNested, sameOriginLines, originLines, depthLine, specializesLines, plainLines, siblingLines, nodesBy, compareSiblingNodeStrength, compareNodeStrength}
+use Rattle.model.specs.Strength.{viewOf, smaller, isPropagatedSpecializes, originRootNode, outward, isNestedUnder, originsAreNested, sameOriginLines, originLines, depthLine, specializesLines, plainLines, siblingLines, nodesBy, compareSiblingNodeStrength, compareNodeStrength}
 use Rattle.model.specs.Order.{isStronger, hasOrder, ordering}
 use Rattle.model.specs.Calls.{rootNode, initRoot, addChild}
 use Rattle.model.proofs.ExampleGraphs.{from, ring, sampleNode}
@@ -42,7 +42,7 @@ family-children : OnlyOrder (isStronger family) (1 ∷ 2 ∷ []) (2 ∷ 1 ∷ []
 unfolding withNode ordering isStronger compareSiblingNodeStrength siblingLines plainLines nodesBy smaller
 family-children = ordering-children family (stronger-antisymmetric family) family-has-order 0 (omega arith)
 
-family-ordered : Ordered 3 (compareNodeStrength (view (family .nodes))) (0 ∷ 2 ∷ 1 ∷ [])
+family-ordered : Ordered 3 (compareNodeStrength (viewOf family)) (0 ∷ 2 ∷ 1 ∷ [])
 unfolding withNode ordering isStronger compareSiblingNodeStrength siblingLines plainLines nodesBy smaller
 family-ordered = ordering-ordered family family-tree (omega arith) family-has-order
 

@@ -17,7 +17,7 @@ use Rattle.model.specs.declared.Ordering.{Ordering}
 use Rattle.model.specs.declared.Ordering.the-variants.{Less}
 use Rattle.model.specs.Lists.{All, Pairs, count, SameCounts, pick}
 use Rattle.model.specs.Graph.{Graph, size, childrenOf}
-use Rattle.model.specs.Strength.{View, view, originRootNode, siblingLines, nodesBy, compareSiblingNodeStrength, compareNodeStrength}
+use Rattle.model.specs.Strength.{View, viewOf, originRootNode, siblingLines, nodesBy, compareSiblingNodeStrength, compareNodeStrength}
 use Rattle.model.specs.Order.{Sorted, isLess, isSorted, walk, isStronger, sortedChildren, hasOrder}
 use Rattle.model.specs.Places.{byPlace, Fits, Certified}
 use Rattle.laws.proofs.Views.{LegalView}
@@ -45,7 +45,7 @@ abbrev pub SortedLists : View → ℕ → (ℕ → List ℕ) → Type 0
 SortedLists u n lists = (v : ℕ) → v < n → Sorted (λ a b. isLess (compareSiblingNodeStrength u a b)) (lists v)
 
 pub authored-order : (g : Graph) (lists : ℕ → List ℕ) → ((v : ℕ) → v < size g → SameCounts (lists v) (childrenOf g v))
-    → SortedLists (view (g .nodes)) (size g) lists → OrderIs g lists
+    → SortedLists (viewOf g) (size g) lists → OrderIs g lists
 unfolding hasOrder isStronger
 authored-order g lists same sorted = record {
   has-order = all-below (λ v. isSorted (isStronger g) (sortedChildren g v)) (size g) .1
@@ -228,20 +228,20 @@ module _ (g : Graph) (lists : ℕ → List ℕ) (tree : TreeOf g) (same : (v : �
   within-below : (v : ℕ) → v < size g → within v ≡ lists v
   within-below v h = rw (lt-ltb v (size g) h)
 
-  tree-within : Tree (size g) (view (g .nodes) .parent) within
-  tree-within = tree-permuted (size g) (view (g .nodes) .parent) (childrenOf g) tree within (λ v. go v (ltb v (size g)) refl)
+  tree-within : Tree (size g) (viewOf g .parent) within
+  tree-within = tree-permuted (size g) (viewOf g .parent) (childrenOf g) tree within (λ v. go v (ltb v (size g)) refl)
     where
       go : (v : ℕ) (t : Bool) → ltb v (size g) ≡ t → SameCounts (pick t (lists v) (childrenOf g v)) (childrenOf g v)
       go v true e = same v (ltb-true v (size g) e)
       go v false e = λ a. refl
 
-  pub certified-order : LegalView (size g) (view (g .nodes)) → (place stop : ℕ → ℕ) → Certified (view (g .nodes)) (size g) lists place stop
+  pub certified-order : LegalView (size g) (viewOf g) → (place stop : ℕ → ℕ) → Certified (viewOf g) (size g) lists place stop
       → OrderIs g lists
   certified-order legal place stop certified =
       authored-order g lists same
-      (λ v h. rw (within-below v h) at (places-certify (size g) (view (g .nodes)) within place stop legal tree-within certified-within v h))
+      (λ v h. rw (within-below v h) at (places-certify (size g) (viewOf g) within place stop legal tree-within certified-within v h))
     where
-      certified-within : Certified (view (g .nodes)) (size g) within place stop
+      certified-within : Certified (viewOf g) (size g) within place stop
       certified-within = record {
         branches = λ v h. rw (within-below v h) (certified .branches v h);
         sorted = λ v h. rw (within-below v h) (certified .sorted v h);

@@ -9,7 +9,7 @@ use lib.Dec.{eqb}
 use borrow.Author.Tests.{eqb-true}
 use Rattle.model.specs.Lists.{bit, count}
 use Rattle.model.specs.Graph.{Graph, size, childrenOf}
-use Rattle.model.specs.Strength.{view}
+use Rattle.model.specs.Strength.{viewOf}
 use Rattle.model.specs.Order.{Sorted, isStronger, hasOrder}
 use Rattle.laws.proofs.ListLaws.{all-at}
 use Rattle.laws.proofs.Trees.{Child, TreeOf}
@@ -37,8 +37,8 @@ module _ (less : ℕ → ℕ → Bool) (anti : (a b : ℕ) → less a b ≡ true
         go false e false f true h ia ib ic later = first-least x xs b sorted mb (rw (eqb-true c x h) at bc)
         go false e false f false h ia ib ic later = later (omega arith) (omega arith) (omega arith)
 
-pub ring-no-order : (g : Graph) → TreeOf g → (v a b c : ℕ) → Child (size g) (view (g .nodes) .parent) v a
-    → Child (size g) (view (g .nodes) .parent) v b → Child (size g) (view (g .nodes) .parent) v c
+pub ring-no-order : (g : Graph) → TreeOf g → (v a b c : ℕ) → Child (size g) (viewOf g .parent) v a
+    → Child (size g) (viewOf g .parent) v b → Child (size g) (viewOf g .parent) v c
     → isStronger g a b ≡ true → isStronger g b c ≡ true → isStronger g c a ≡ true → hasOrder g ≡ false
 ring-no-order g tree v a b c ha hb hc ab bc ca =
     has-order-fails g (stronger-antisymmetric g) .1 (
@@ -48,5 +48,5 @@ ring-no-order g tree v a b c ha hb hc ab bc ca =
           (omega (arith, same a, stands a ha)) (omega (arith, same b, stands b hb)) (omega (arith, same c, stands c hc)),
     )
   where
-    stands : (x : ℕ) → Child (size g) (view (g .nodes) .parent) v x → count x (childrenOf g v) ≡ 1
+    stands : (x : ℕ) → Child (size g) (viewOf g .parent) v x → count x (childrenOf g v) ≡ 1
     stands x h = rw (h .2) at (tree .once x (h .0) (h .1))

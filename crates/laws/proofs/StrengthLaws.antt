@@ -1,15 +1,15 @@
 -- Document 01's comparison with no fuel in it: siblings by its lines (`compare-siblings-lines`), nodes where their chains part
 -- (`compare-nodes-parting`). That fuel does not matter is the congruence of StrengthCongruence.antt, of a view and itself. The walks that the lines
 -- name are in StrengthWalks.antt, `follow`, `steps` and `chain` in FollowLaws.antt. Assumes nothing.
-use mathlib.Core.Path.{_≡_, refl, sym}
+use mathlib.Core.Path.{_≡_, refl, _∙_}
 use mathlib.Core.Bool.{true}
-use mathlib.Core.List.{List, [], _∷_, _++_, append-nil}
+use mathlib.Core.List.{List, [], _∷_, _++_}
 use Prim.Native.Nat.{ℕ, suc, _+_, _<_}
 use native.Mathlib.Omega.{arith}
 use borrow.Author.Tests.{eq-eqb, ne-eqb, lt-ltb}
 use Rattle.model.specs.declared.Ordering.{Ordering}
 use Rattle.model.specs.declared.Ordering.the-variants.{Less, Equal, Greater}
-use Rattle.model.specs.Strength.{View, siblingLines, chain, parting, nodesBy, siblingsUpTo, compareSiblingNodeStrength, compareNodeStrength}
+use Rattle.model.specs.Strength.{View, siblingLines, chain, partingBy, parting, nodesBy, siblingsUpTo, compareSiblingNodeStrength, compareNodeStrength}
 use Rattle.laws.proofs.Views.{LegalView, LooksLike}
 use Rattle.laws.proofs.StrengthCongruence.{lower-pairs-alike, siblings-up-to-alike}
 
@@ -48,10 +48,27 @@ compare-siblings-lines {n} {u} legal a b ha hb p q =
 
 -- ---- Nodes
 
--- of two lists the common front does not count
-parting-front : (siblings : ℕ → ℕ → Ordering) (ps xs ys : List ℕ) → parting siblings (ps ++ xs) (ps ++ ys) ≡ parting siblings xs ys
-parting-front siblings [] xs ys = refl
-parting-front siblings (p ∷ ps) xs ys = rw (eq-eqb p p refl) (parting-front siblings ps xs ys)
+-- what is said of two chains, whatever it is: the common front does not count, and then one of them ends, or both go on
+module _ {A : Type 0} (same above below : A) (siblings : ℕ → ℕ → A) where
+  parting-front : (ps xs ys : List ℕ) → partingBy same above below siblings (ps ++ xs) (ps ++ ys) ≡ partingBy same above below siblings xs ys
+  parting-front [] xs ys = refl
+  parting-front (p ∷ ps) xs ys = rw (eq-eqb p p refl) (parting-front ps xs ys)
+
+  pub parting-same : (ps : List ℕ) → partingBy same above below siblings ps ps ≡ same
+  parting-same [] = refl
+  parting-same (p ∷ ps) = rw (eq-eqb p p refl) (parting-same ps)
+
+  pub parting-above : (ps : List ℕ) (y : ℕ) (ys : List ℕ) → partingBy same above below siblings ps (ps ++ (y ∷ ys)) ≡ above
+  parting-above [] y ys = refl
+  parting-above (p ∷ ps) y ys = rw (eq-eqb p p refl) (parting-above ps y ys)
+
+  pub parting-below : (ps : List ℕ) (x : ℕ) (xs : List ℕ) → partingBy same above below siblings (ps ++ (x ∷ xs)) ps ≡ below
+  parting-below [] x xs = refl
+  parting-below (p ∷ ps) x xs = rw (eq-eqb p p refl) (parting-below ps x xs)
+
+  pub parting-apart : (ps : List ℕ) (x y : ℕ) (xs ys : List ℕ) → (x ≡ y → ⊥)
+      → partingBy same above below siblings (ps ++ (x ∷ xs)) (ps ++ (y ∷ ys)) ≡ siblings x y
+  parting-apart ps x y xs ys differ = rw (parting-front ps (x ∷ xs) (y ∷ ys), ne-eqb x y differ)
 
 module _ (u : View) where
   -- "compare the siblings where the chains part"
@@ -60,25 +77,6 @@ module _ (u : View) where
   unfolding compareNodeStrength nodesBy
   compare-nodes-parting a b = refl
 
-  compare-front : (a b : ℕ) (ps xs ys : List ℕ) → chain (u .parent) a ≡ ps ++ xs → chain (u .parent) b ≡ ps ++ ys
-      → compareNodeStrength u a b ≡ parting (compareSiblingNodeStrength u) xs ys
-  compare-front a b ps xs ys e f = rw (compare-nodes-parting a b, e, f) (parting-front (compareSiblingNodeStrength u) ps xs ys)
-
-  whole : (a : ℕ) → chain (u .parent) a ≡ chain (u .parent) a ++ []
-  whole a = sym (append-nil (chain (u .parent) a))
-
   -- "the same node is Equal"
   pub compare-same : (a : ℕ) → compareNodeStrength u a a ≡ Equal
-  compare-same a = compare-front a a (chain (u .parent) a) [] [] (whole a) (whole a)
-
-  -- "an ancestor is stronger (Less)"
-  pub compare-ancestor : (a b x : ℕ) (rest : List ℕ) → chain (u .parent) b ≡ chain (u .parent) a ++ (x ∷ rest) → compareNodeStrength u a b ≡ Less
-  compare-ancestor a b x rest e = compare-front a b (chain (u .parent) a) [] (x ∷ rest) (whole a) e
-
-  pub compare-descendant : (a b x : ℕ) (rest : List ℕ) → chain (u .parent) a ≡ chain (u .parent) b ++ (x ∷ rest) → compareNodeStrength u a b ≡ Greater
-  compare-descendant a b x rest e = compare-front a b (chain (u .parent) b) (x ∷ rest) [] e (whole b)
-
-  -- "else compare the siblings where the chains part"
-  pub compare-parted : (a b x y : ℕ) (ps xs ys : List ℕ) → chain (u .parent) a ≡ ps ++ (x ∷ xs) → chain (u .parent) b ≡ ps ++ (y ∷ ys)
-      → (x ≡ y → ⊥) → compareNodeStrength u a b ≡ compareSiblingNodeStrength u x y
-  compare-parted a b x y ps xs ys e f differ = rw (compare-front a b ps (x ∷ xs) (y ∷ ys) e f, ne-eqb x y differ)
+  compare-same a = compare-nodes-parting a a ∙ parting-same Equal Less Greater (compareSiblingNodeStrength u) (chain (u .parent) a)

@@ -13,8 +13,8 @@ use Rattle.laws.proofs.Views.{LegalView}
 use Rattle.laws.proofs.StrengthWalks.{origin-below, origin-root-below}
 use Rattle.view.specs.declared.origins.OriginRoot.{OriginRoot}
 use Rattle.view.specs.Walks.{RootOf}
-use Rattle.strength.specs.declared.verdicts.Verdict.{Verdict}
-use Rattle.strength.specs.declared.verdicts.Verdict.the-variants.{Settled, Ask}
+use Rattle.model.specs.declared.Verdict.{Verdict}
+use Rattle.model.specs.declared.Verdict.the-variants.{Settled, Ask}
 use Rattle.strength.proofs.VerdictNumbers.{bySibling, passed, settles, read-same, read-other, read-smaller}
 use Rattle.strength.proofs.SameRootLaws.{RootsAlike, classes-differ, hops-differ, alike-passed}
 use Rattle.strength.proofs.SpecializesLaws.{one-depth, roots-nested, not-nested, one-origin}

@@ -12,8 +12,8 @@ use Rattle.model.specs.Graph.{depthBelowIntroduction}
 use Rattle.model.specs.Arena.{countIn, decode}
 use Rattle.model.specs.Strength.{View, isAuthored, isImplied, originRootNode, originHops, outward, isNestedUnder, originsAreNested, replaced, classHierarchyFrom, skipRelocates, classDepth, siblingLines}
 use Rattle.view.specs.View.{viewIn, Standing}
-use Rattle.strength.specs.declared.verdicts.Verdict.{Verdict}
-use Rattle.strength.specs.declared.verdicts.Verdict.the-variants.{Settled, Ask}
+use Rattle.model.specs.declared.Verdict.{Verdict}
+use Rattle.model.specs.declared.Verdict.the-variants.{Settled, Ask}
 use Rattle.strength.specs.Verdicts.{resolve}
 use Rattle.line_table.specs.declared.Entry.{Entry}
 

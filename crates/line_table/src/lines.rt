@@ -1,7 +1,7 @@
 // Document 01's lines on two siblings, by their entries alone.
 use crate::Entry;
 use model::Ordering;
-use strength::Verdict;
+use model::Verdict;
 ghost use Rattle.model.specs.Strength.{sameOriginLines, localLine, sameRootLines, originLines, specializesLines, plainLines};
 ghost use Rattle.strength.proofs.VerdictNumbers.{bySibling};
 ghost use Rattle.line_table.specs.LineTable.{Always, NestedAtDepths, Orders, Weighs, WeighsBy};

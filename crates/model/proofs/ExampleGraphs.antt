@@ -7,7 +7,7 @@ use Rattle.model.proofs.Text.{bytes}
 use Rattle.model.specs.declared.Ordering.{Ordering}
 use Rattle.model.specs.Node.{invalid, Node}
 use Rattle.model.specs.Graph.{Graph, emptyGraph}
-use Rattle.model.specs.Strength.{view, compareSiblingNodeStrength, compareNodeStrength}
+use Rattle.model.specs.Strength.{viewOf, compareSiblingNodeStrength, compareNodeStrength}
 use Rattle.model.specs.Calls.{rootNode, Call, starting, adding, calls}
 
 -- a node of layer 0 that restricts nothing
@@ -40,10 +40,10 @@ abbrev pub from : List Call → Graph
 from cs = calls cs emptyGraph
 
 abbrev pub node : List Call → ℕ → ℕ → Ordering
-node cs a b = compareNodeStrength (view (from cs .nodes)) a b
+node cs a b = compareNodeStrength (viewOf (from cs)) a b
 
 abbrev pub siblings : List Call → ℕ → ℕ → Ordering
-siblings cs a b = compareSiblingNodeStrength (view (from cs .nodes)) a b
+siblings cs a b = compareSiblingNodeStrength (viewOf (from cs)) a b
 
 -- node 0 `/M` and the local root
 abbrev pub line : List Call → List Call

@@ -8,7 +8,7 @@ use lib.Dec.{eqb, ltb}
 use Rattle.model.specs.declared.Ordering.{Ordering}
 use Rattle.model.specs.declared.Ordering.the-variants.{Less, Equal, Greater}
 use Rattle.model.specs.Node.{inheritArc, relocateArc, specializeArc, Node, hasSpecializes, sameSite as sameSiteOf}
-use Rattle.model.specs.Graph.{nodeAt, depthBelowIntroduction, isLocalRoot, inLocalStack}
+use Rattle.model.specs.Graph.{Graph, nodeAt, depthBelowIntroduction, isLocalRoot, inLocalStack}
 
 -- ---- What the comparison reads
 
@@ -45,6 +45,10 @@ view ns = record {
   localRoot = isLocalRoot ns;
   localStack = inLocalStack ns;
 }
+
+-- what every statement about a graph's comparison goes through
+abbrev pub viewOf : Graph → View
+viewOf g = view (g .nodes)
 
 -- ---- Orderings
 
@@ -209,12 +213,15 @@ chainUpTo parent (suc k) n = cond (eqb n 0) (n ∷ []) (chainUpTo parent k (pare
 abbrev pub chain : (ℕ → ℕ) → ℕ → List ℕ
 chain parent n = chainUpTo parent n n
 
--- the siblings where two chains part; a chain that ends first is an ancestor's
+-- what is said of two chains: that they are one, that one ends first and so is an ancestor's, or what is said of the siblings where they part
+abbrev pub partingBy : {A : Type 0} → A → A → A → (ℕ → ℕ → A) → List ℕ → List ℕ → A
+partingBy same above below siblings [] [] = same
+partingBy same above below siblings [] (y ∷ ys) = above
+partingBy same above below siblings (x ∷ xs) [] = below
+partingBy same above below siblings (x ∷ xs) (y ∷ ys) = cond (eqb x y) (partingBy same above below siblings xs ys) (siblings x y)
+
 abbrev pub parting : (ℕ → ℕ → Ordering) → List ℕ → List ℕ → Ordering
-parting siblings [] [] = Equal
-parting siblings [] (y ∷ ys) = Less
-parting siblings (x ∷ xs) [] = Greater
-parting siblings (x ∷ xs) (y ∷ ys) = cond (eqb x y) (parting siblings xs ys) (siblings x y)
+parting siblings xs ys = partingBy Equal Less Greater siblings xs ys
 
 unfoldable pub nodesBy : (ℕ → ℕ) → (ℕ → ℕ → Ordering) → ℕ → ℕ → Ordering
 nodesBy parent siblings a b = parting siblings (chain parent a) (chain parent b)

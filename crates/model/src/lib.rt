@@ -121,3 +121,9 @@ pub enum Finished {
     Done,
     Refused(Refusal),
 }
+
+// What document 01's lines say of two siblings: an answer, or the strength of two nodes with a lower sum, and the answer where those are Equal.
+pub enum Verdict {
+    Settled(Ordering),
+    Ask(u32, u32, Ordering),
+}

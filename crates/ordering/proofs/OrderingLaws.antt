@@ -10,7 +10,7 @@ use lib.ListN.{length, List·getD-eq-default}
 use Rattle.model.specs.Node.{invalid, Node}
 use Rattle.model.specs.Graph.{Graph, size, childrenOf}
 use Rattle.model.specs.Order.{sort, walk, isStronger, sortedChildren, hasOrder, ordering}
-use Rattle.model.specs.Strength.{view}
+use Rattle.model.specs.Strength.{view, viewOf}
 use Rattle.model.specs.Arena.{arenaBytes, countIn, firstChildIn, nextSiblingIn, firstOf, afterIn, orderStored, decode, encode}
 use Rattle.model.specs.ArenaCalls.{Opened, Readable}
 use Rattle.laws.proofs.BigEndianLaws.{Bytes}
@@ -60,7 +60,7 @@ module _ (bs : List ℕ) (n : ℕ) (ready : Orderable bs n) where
   lists = sortedChildren g
 
   abbrev parent : ℕ → ℕ
-  parent = view (g .nodes) .parent
+  parent = viewOf g .parent
 
   sized : n ≡ size g
   sized = ready .counted ∙ sym (sizes bs (ready .opened))

@@ -5,7 +5,7 @@ use mathlib.Core.List.{List}
 use Prim.Native.Nat.{ℕ}
 use native.Mathlib.Omega.{arith}
 use Rattle.model.specs.Graph.{size}
-use Rattle.model.specs.Strength.{view}
+use Rattle.model.specs.Strength.{viewOf}
 use Rattle.model.specs.Order.{isStronger, hasOrder}
 use Rattle.model.specs.Arena.{localRootIn, decode}
 use Rattle.model.specs.ArenaCalls.{Opened}
@@ -18,7 +18,7 @@ use Rattle.sorting.specs.Cycle.{Three}
 use Rattle.certificate.specs.Sorts.{Sorts}
 
 module _ (bs : List ℕ) (o : Opened bs) where
-  child-of : (v c : ℕ) → ChildOf bs v c → Child (size (decode bs)) (view (decode bs .nodes) .parent) v c
+  child-of : (v c : ℕ) → ChildOf bs v c → Child (size (decode bs)) (viewOf (decode bs) .parent) v c
   child-of v c h = (h .0, omega (arith, h .1, sizes bs o), h .2)
 
   pub siblings-pair : (root v a b : ℕ) → root ≡ localRootIn bs → ChildOf bs v a → ChildOf bs v b → Pair bs root a b

@@ -8,7 +8,7 @@ use Rattle.model.specs.declared.Ordering.the-variants.{Less}
 use Rattle.model.specs.Graph.{Graph, size, childrenOf}
 use Rattle.model.specs.Order.{Sorted, isStronger}
 use Rattle.model.specs.Places.{byPlace, keyLines}
-use Rattle.model.specs.Strength.{View, view, isAuthored}
+use Rattle.model.specs.Strength.{View, viewOf, isAuthored}
 use Rattle.model.specs.Node.{invalid}
 use Rattle.model.specs.Arena.{nextSiblingIn, decode}
 
@@ -24,7 +24,7 @@ pub record Precedes (u : View) (x y : ℕ) : Type 0 where
 
 -- a node that has a next sibling precedes it
 abbrev pub PrecedesNext : List ℕ → ℕ → Type 0
-PrecedesNext bs x = (nextSiblingIn bs x ≡ invalid → ⊥) → Precedes (view (decode bs .nodes)) x (nextSiblingIn bs x)
+PrecedesNext bs x = (nextSiblingIn bs x ≡ invalid → ⊥) → Precedes (viewOf (decode bs)) x (nextSiblingIn bs x)
 
 -- if true, each child list is sorted as it stands
 pub record Stands (g : Graph) (r : Bool) : Type 0 where

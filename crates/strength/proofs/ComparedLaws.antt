@@ -7,7 +7,7 @@ use native.Mathlib.Omega.{arith}
 use Rattle.model.specs.Refusals.{Question}
 use Rattle.model.specs.Answers.{orderingNumber}
 use Rattle.model.specs.Calls.{comparesNodes, comparesSiblings}
-use Rattle.model.specs.Strength.{View, view, compareSiblingNodeStrength, compareNodeStrength}
+use Rattle.model.specs.Strength.{View, viewOf, compareSiblingNodeStrength, compareNodeStrength}
 use Rattle.model.specs.Arena.{decode}
 use Rattle.model.specs.ArenaCalls.{askArena, valueUnless, AnsweredOrder}
 use Rattle.model.specs.declared.Ordering.{Ordering}
@@ -37,7 +37,7 @@ answered-as qs x o a = same-number o x (a .value ∙ ap (λ (k : ℕ). valueUnle
 
 module _ (bs : List ℕ) where
   abbrev viewed : View
-  viewed = view (decode bs .nodes)
+  viewed = viewOf (decode bs)
 
   abbrev pub NodesCompared : ℕ → ℕ → Compared → Type 0
   NodesCompared a b r = AnsweredOrder (askArena bs (comparesNodes (decode bs) a b)) (compareNodeStrength viewed a b) r

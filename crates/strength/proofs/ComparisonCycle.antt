@@ -11,8 +11,9 @@ use Rattle.view.proofs.ViewLaws.{legal, standing-lower}
 use Rattle.view.specs.declared.parting.Parting.{Parting}
 use Rattle.view.specs.declared.parting.Parting.the-variants.{Apart}
 use Rattle.view.specs.Walks.{Siblings, comparedAt, Parts}
-use Rattle.strength.specs.declared.verdicts.Verdict.{Verdict}
-use Rattle.strength.specs.declared.verdicts.Verdict.the-variants.{Settled, Ask}
+use Rattle.view.proofs.PartingLaws.{parts-compare}
+use Rattle.model.specs.declared.Verdict.{Verdict}
+use Rattle.model.specs.declared.Verdict.the-variants.{Settled, Ask}
 use Rattle.strength.specs.Verdicts.{Pair, resolve, Weighed}
 use Rattle.strength.specs.declared.lines.Known.{Known}
 use Rattle.strength.specs.declared.lines.Known.the-variants.{As, Open}
@@ -62,7 +63,7 @@ left-open u a b k told said = rw told at said
 
 pub nodes-compared : (u : View) (a b : ℕ) (p q : Parting) → p ≡ q → Parts u a b p
     → comparedAt (compareSiblingNodeStrength u) q ≡ compareNodeStrength u a b
-nodes-compared u a b p q told parts = ap (comparedAt (compareSiblingNodeStrength u)) (sym told) ∙ sym (parts .compares)
+nodes-compared u a b p q told parts = ap (comparedAt (compareSiblingNodeStrength u)) (sym told) ∙ sym (parts-compare u a b p parts)
 
 pub parted-pair : {bs : List ℕ} {root a b : ℕ} → Standing bs root a → Standing bs root b → (p : Parting) {x y : ℕ} → p ≡ Apart x y → Parts (viewIn bs) a b p
     → Pair bs root x y × (x + y ≤ a + b)

@@ -7,8 +7,8 @@ use Prim.Native.Nat.{ℕ}
 use Rattle.model.specs.declared.Ordering.{Ordering}
 use Rattle.model.specs.declared.Ordering.the-variants.{Less, Equal, Greater}
 use Rattle.model.specs.Strength.{View, first, smaller, isAuthored, originHops, classDepth, impliedOver, sameOriginLines, localLine, sameRootLines}
-use Rattle.strength.specs.declared.verdicts.Verdict.{Verdict}
-use Rattle.strength.specs.declared.verdicts.Verdict.the-variants.{Settled}
+use Rattle.model.specs.declared.Verdict.{Verdict}
+use Rattle.model.specs.declared.Verdict.the-variants.{Settled}
 use Rattle.strength.specs.Verdicts.{originsThenNumbers, Weighed}
 use Rattle.strength.proofs.VerdictNumbers.{bySibling, passed, settles}
 

@@ -6,8 +6,8 @@ use Prim.Native.Nat.{ℕ}
 use Rattle.model.specs.declared.Ordering.{Ordering}
 use Rattle.model.specs.Strength.{View, smaller, specializesLines, plainLines, siblingLines}
 use Rattle.view.specs.View.{viewIn}
-use Rattle.strength.specs.declared.verdicts.Verdict.{Verdict}
-use Rattle.strength.specs.declared.verdicts.Verdict.the-variants.{Settled, Ask}
+use Rattle.model.specs.declared.Verdict.{Verdict}
+use Rattle.model.specs.declared.Verdict.the-variants.{Settled, Ask}
 use Rattle.strength.specs.Verdicts.{Pair, Weighed}
 use Rattle.strength.proofs.VerdictNumbers.{bySibling, passed, settles}
 use Rattle.strength.proofs.VerdictLaws.{origins-asked}

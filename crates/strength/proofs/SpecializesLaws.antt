@@ -14,8 +14,8 @@ use Rattle.view.specs.View.{viewIn, Standing}
 use Rattle.view.proofs.ViewLaws.{legal, standing-lower}
 use Rattle.view.specs.declared.origins.OriginRoot.{OriginRoot}
 use Rattle.view.specs.Walks.{RootOf}
-use Rattle.strength.specs.declared.verdicts.Verdict.{Verdict}
-use Rattle.strength.specs.declared.verdicts.Verdict.the-variants.{Settled, Ask}
+use Rattle.model.specs.declared.Verdict.{Verdict}
+use Rattle.model.specs.declared.Verdict.the-variants.{Settled, Ask}
 use Rattle.strength.specs.Verdicts.{Pair, Weighed}
 use Rattle.laws.proofs.SmallerLaws.{smaller-eq}
 use Rattle.strength.proofs.VerdictLaws.{links-lower}

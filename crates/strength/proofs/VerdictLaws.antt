@@ -10,7 +10,7 @@ use Rattle.model.specs.Strength.{smaller}
 use Rattle.laws.proofs.Views.{LegalView}
 use Rattle.view.specs.View.{viewIn}
 use Rattle.view.proofs.ViewLaws.{legal, readable-origin}
-use Rattle.strength.specs.declared.verdicts.Verdict.the-variants.{Ask}
+use Rattle.model.specs.declared.Verdict.the-variants.{Ask}
 use Rattle.strength.specs.Verdicts.{Pair, originsThenNumbers, Weighed}
 
 module _ {bs : List ℕ} {root a b : ℕ} (pair : Pair bs root a b) where

@@ -6,8 +6,8 @@ use Rattle.model.specs.declared.Ordering.{Ordering}
 use Rattle.model.specs.ArenaCalls.{Readable}
 use Rattle.model.specs.Strength.{View, first, smaller}
 use Rattle.view.specs.View.{viewIn, Standing}
-use Rattle.strength.specs.declared.verdicts.Verdict.{Verdict}
-use Rattle.strength.specs.declared.verdicts.Verdict.the-variants.{Settled, Ask}
+use Rattle.model.specs.declared.Verdict.{Verdict}
+use Rattle.model.specs.declared.Verdict.the-variants.{Settled, Ask}
 
 -- two nodes with one parent, neither of them node 0
 pub record Pair (bs : List ℕ) (root a b : ℕ) : Type 0 where

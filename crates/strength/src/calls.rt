@@ -14,13 +14,13 @@ ghost use Rattle.model.specs.Arena.{decode};
 ghost use Rattle.model.specs.ArenaCalls.{askArena, AnsweredOrder, AnsweredTest, Answered};
 ghost use Rattle.model.specs.Calls.{comparesNodes, comparesSiblings, readsNode};
 ghost use Rattle.model.specs.Hierarchy.{isAncestorOf, getPropagatedSpecializesNode};
-ghost use Rattle.model.specs.Strength.{view, compareNodeStrength, compareSiblingNodeStrength, isPropagatedSpecializes};
+ghost use Rattle.model.specs.Strength.{view, viewOf, compareNodeStrength, compareSiblingNodeStrength, isPropagatedSpecializes};
 ghost use Rattle.strength.specs.Comparisons.{Siblings};
 ghost use Rattle.strength.specs.Hierarchies.{HierarchyAnswered};
 
 // Which of two nodes is the stronger: Less where a is, Equal only for one node twice. Refused 1 to 4.
 pub fn compare_node_strength(arena: &[u8], a: u32, b: u32) -> Compared
-    ensures { λ r. ⌜ AnsweredOrder (askArena (now (arena .entry)) (comparesNodes (decode (now (arena .entry))) a b)) (compareNodeStrength (view (decode (now (arena .entry)) .nodes)) a b) r ⌝ }
+    ensures { λ r. ⌜ AnsweredOrder (askArena (now (arena .entry)) (comparesNodes (decode (now (arena .entry))) a b)) (compareNodeStrength (viewOf (decode (now (arena .entry)))) a b) r ⌝ }
 {
     let asked = validate::ask_nodes(arena, a, b);
     match asked {
@@ -35,7 +35,7 @@ pub fn compare_node_strength(arena: &[u8], a: u32, b: u32) -> Compared
 // Two siblings, or one node twice, which need not have a parent.
 fn compare_siblings(arena: &[u8], a: u32, b: u32) -> Ordering
     requires { ⌜ Siblings (now arena) a b ⌝ }
-    ensures { λ r. ⌜ r ≡ compareSiblingNodeStrength (view (decode (now (arena .entry)) .nodes)) a b ⌝ }
+    ensures { λ r. ⌜ r ≡ compareSiblingNodeStrength (viewOf (decode (now (arena .entry)))) a b ⌝ }
 {
     if a == b {
         return Ordering::Equal;
@@ -46,7 +46,7 @@ fn compare_siblings(arena: &[u8], a: u32, b: u32) -> Ordering
 
 // Which of two siblings is the stronger. Refused 1 to 4 and 8.
 pub fn compare_sibling_node_strength(arena: &[u8], a: u32, b: u32) -> Compared
-    ensures { λ r. ⌜ AnsweredOrder (askArena (now (arena .entry)) (comparesSiblings (decode (now (arena .entry))) a b)) (compareSiblingNodeStrength (view (decode (now (arena .entry)) .nodes)) a b) r ⌝ }
+    ensures { λ r. ⌜ AnsweredOrder (askArena (now (arena .entry)) (comparesSiblings (decode (now (arena .entry))) a b)) (compareSiblingNodeStrength (viewOf (decode (now (arena .entry)))) a b) r ⌝ }
 {
     let asked = validate::ask_siblings(arena, a, b);
     match asked {

@@ -2,8 +2,8 @@
 // nodes. Siblings join it where their own records do not settle them (`compare_siblings`).
 // Document 01's lists of lines stand outside the cycle, in lines.rt and specializes.rt: they settle two siblings, or say which two nodes to ask.
 use crate::lines::Known;
-use crate::verdicts::Verdict;
 use model::Ordering;
+use model::Verdict;
 use view::Parting;
 ghost use mathlib.Core.Path.{_≡_};
 ghost use Rattle.model.specs.Strength.{compareSiblingNodeStrength, compareNodeStrength};

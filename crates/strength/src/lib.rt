@@ -17,4 +17,3 @@ pub use orderings::by_having;
 pub use orderings::by_number;
 pub use orderings::is_less;
 pub use orderings::or_else;
-pub use verdicts::Verdict;

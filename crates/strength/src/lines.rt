@@ -1,6 +1,6 @@
 // Document 01's lines on two siblings, but for those on two that are HAS_SPECIALIZES.
-use crate::verdicts::Verdict;
 use model::Ordering;
+use model::Verdict;
 ghost use mathlib.Core.Path.{_≡_};
 ghost use mathlib.Core.Bool.{false, _&&_};
 ghost use Rattle.model.specs.ArenaCalls.{Readable};

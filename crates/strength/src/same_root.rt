@@ -1,6 +1,6 @@
 // Document 01's lines 2 and 4 of the list for two siblings that are HAS_SPECIALIZES: those for one origin, and those for one R.
-use crate::verdicts::Verdict;
 use model::Ordering;
+use model::Verdict;
 use view::OriginRoot;
 ghost use mathlib.Core.Path.{_≡_};
 ghost use Rattle.model.specs.Strength.{sameOriginLines, localLine, sameRootLines};

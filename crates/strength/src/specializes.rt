@@ -1,7 +1,7 @@
 // Document 01's list for two siblings that are HAS_SPECIALIZES. R of each is found once and handed down; same_root.rt has the lines for one origin
 // and for one R.
-use crate::verdicts::Verdict;
 use model::Ordering;
+use model::Verdict;
 use view::OriginRoot;
 ghost use mathlib.Core.Path.{_≡_};
 ghost use Rattle.model.specs.Strength.{originLines, depthLine, specializesLines};

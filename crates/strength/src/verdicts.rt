@@ -1,19 +1,14 @@
-// What the lists of lines answer, a verdict, and the lines that others are put together from. specs/Verdicts.antt says what a verdict means.
+// The lines that others are put together from. specs/Verdicts.antt says what their verdict means.
 use crate::orderings::by_having;
 use crate::orderings::by_number;
 use crate::orderings::or_else;
 use model::Ordering;
+use model::Verdict;
 ghost use mathlib.Core.Path.{_≡_};
 ghost use Rattle.model.specs.ArenaCalls.{Readable};
 ghost use Rattle.model.specs.Strength.{first, smaller, impliedOver};
 ghost use Rattle.view.specs.View.{viewIn};
 ghost use Rattle.strength.specs.Verdicts.{Pair, Weighed, originsThenNumbers};
-
-// What the lines say of two siblings: an answer, or the strength of two nodes with a lower sum, and the answer where those are Equal.
-pub enum Verdict {
-    Settled(Ordering),
-    Ask(u32, u32, Ordering),
-}
 
 // The namespace depth of node n, as wide as the numbers that are compared.
 pub fn depth(arena: &[u8], n: u32) -> u32

@@ -1,19 +1,22 @@
 -- Where the chains of two nodes part, by two walks up parents that meet: `meet-start`, `meet-left` and `meet-right` are the steps, `meet-above`,
--- `meet-below` and `meet-apart` the ends. The higher of two numbers goes up, so neither walk passes the meeting node. Assumes nothing.
+-- `meet-below` and `meet-apart` the ends. The higher of two numbers goes up, so neither walk passes the meeting node. `parts-by`: what is said of two chains
+-- is said of their parting. Assumes nothing.
 use mathlib.Core.Path.{_≡_, refl, sym, ap, _∙_}
 use mathlib.Core.List.{List, [], _∷_, _++_, append-assoc}
 use mathlib.Core.Logic.{_⊎_, inl, inr}
 use Prim.Native.Nat.{ℕ, _≤_, _<_}
 use native.Mathlib.Omega.{arith}
 use Rattle.model.specs.ArenaCalls.{Readable}
-use Rattle.model.specs.Strength.{View, chain}
+use Rattle.model.specs.declared.Ordering.the-variants.{Less, Equal, Greater}
+use Rattle.model.specs.Strength.{View, chain, partingBy, compareNodeStrength, compareSiblingNodeStrength}
 use Rattle.laws.proofs.Views.{LegalView}
 use Rattle.laws.proofs.FollowLaws.{chain-step}
-use Rattle.laws.proofs.StrengthLaws.{compare-same, compare-ancestor, compare-descendant, compare-parted}
+use Rattle.laws.proofs.StrengthLaws.{compare-nodes-parting, parting-same, parting-above, parting-below, parting-apart}
 use Rattle.view.specs.View.{viewIn}
 use Rattle.view.proofs.ViewLaws.{legal, readable-lower}
+use Rattle.view.specs.declared.parting.Parting.{Parting}
 use Rattle.view.specs.declared.parting.Parting.the-variants.{Same, Above, Below, Apart}
-use Rattle.view.specs.Walks.{Parts}
+use Rattle.view.specs.Walks.{partedAt, comparedAt, Parts}
 
 -- ---- One walk
 
@@ -81,7 +84,7 @@ pub record Meeting (bs : List ℕ) (a b x y l r : ℕ) : Type 0 where
   pub differ : l ≡ r → ⊥
 
 pub part-same : (u : View) (a b : ℕ) → a ≡ b → Parts u a b Same
-part-same u a b e = record { compares = rw e (compare-same u b); apart = tt }
+part-same u a b e = record { chains = ap (chain (u .parent)) e; apart = tt }
 
 pub meet-start : (bs : List ℕ) (a b : ℕ) → Readable bs a → Readable bs b → (a ≡ b → ⊥) → Meeting bs a b a b a b
 meet-start bs a b f g h = record { first = f; second = g; left = inl (refl, refl); right = inl (refl, refl); differ = h }
@@ -133,7 +136,7 @@ module _ {bs : List ℕ} {a b x y l r : ℕ} (m : Meeting bs a b x y l r) where
         go (inl s) (inl t) = absurd (m .differ (omega arith))
         go (inl s) (inr t) =
             let whole = t .whole ∙ ap (λ (c : ℕ). chain (viewIn bs .parent) c ++ (r ∷ t .tail)) (sym e ∙ f) in
-            record { compares = compare-ancestor (viewIn bs) a b r (t .tail) whole; apart = tt }
+            record { chains = record { next = r; rest = t .tail; whole = whole }; apart = tt }
         go (inr s) t = absurd (omega arith)
 
     module _ (h : x ≡ a → ⊥) where
@@ -144,7 +147,7 @@ module _ {bs : List ℕ} {a b x y l r : ℕ} (m : Meeting bs a b x y l r) where
           go (inl s) = absurd (h (s .0))
           go (inr s) =
               let whole = s .whole ∙ ap (λ (c : ℕ). chain (viewIn bs .parent) c ++ (l ∷ s .tail)) f in
-              record { compares = compare-descendant (viewIn bs) a b l (s .tail) whole; apart = tt }
+              record { chains = record { next = l; rest = s .tail; whole = whole }; apart = tt }
 
       pub meet-apart : (x ≡ b → ⊥) → Parts (viewIn bs) a b (Apart l r)
       meet-apart k = go (m .left) (m .right)
@@ -155,7 +158,8 @@ module _ {bs : List ℕ} {a b x y l r : ℕ} (m : Meeting bs a b x y l r) where
           go (inr s) (inr t) =
               let whole = t .whole ∙ ap (λ (c : ℕ). chain (viewIn bs .parent) c ++ (r ∷ t .tail)) (sym e) in
               record {
-                compares = compare-parted (viewIn bs) a b l r (chain (viewIn bs .parent) x) (s .tail) (t .tail) (s .whole) whole (m .differ);
+                chains =
+                    record { front = chain (viewIn bs .parent) x; left = s .tail; right = t .tail; first = s .whole; second = whole };
                 apart =
                     record {
                       left = (omega arith, s .within);
@@ -164,3 +168,25 @@ module _ {bs : List ℕ} {a b x y l r : ℕ} (m : Meeting bs a b x y l r) where
                       differ = m .differ;
                     };
               }
+
+-- ---- What is said where they part
+
+module _ (u : View) (a b : ℕ) where
+  -- whatever is said of two chains is said of their parting
+  pub parts-by : {A : Type 0} (same above below : A) (siblings : ℕ → ℕ → A) (r : Parting) → Parts u a b r
+      → partingBy same above below siblings (chain (u .parent) a) (chain (u .parent) b) ≡ partedAt same above below siblings r
+  parts-by same above below siblings Same p = rw (p .chains) (parting-same same above below siblings (chain (u .parent) b))
+  parts-by same above below siblings Above p =
+      let on = p .chains in
+      rw (on .whole) (parting-above same above below siblings (chain (u .parent) a) (on .next) (on .rest))
+  parts-by same above below siblings Below p =
+      let on = p .chains in
+      rw (on .whole) (parting-below same above below siblings (chain (u .parent) b) (on .next) (on .rest))
+  parts-by same above below siblings (Apart x y) p =
+      let split = p .chains in
+      rw (split .first, split .second)
+      (parting-apart same above below siblings (split .front) x y (split .left) (split .right) (p .apart .differ))
+
+  -- so is their comparison
+  pub parts-compare : (r : Parting) → Parts u a b r → compareNodeStrength u a b ≡ comparedAt (compareSiblingNodeStrength u) r
+  parts-compare r p = compare-nodes-parting u a b ∙ parts-by Equal Less Greater (compareSiblingNodeStrength u) r p

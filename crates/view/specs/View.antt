@@ -2,12 +2,12 @@
 use mathlib.Core.Path.{_≡_}
 use mathlib.Core.List.{List}
 use Prim.Native.Nat.{ℕ}
-use Rattle.model.specs.Strength.{View, view}
+use Rattle.model.specs.Strength.{View, viewOf}
 use Rattle.model.specs.Arena.{localRootIn, decode}
 use Rattle.model.specs.ArenaCalls.{Readable}
 
 abbrev pub viewIn : List ℕ → View
-viewIn bs = view (decode bs .nodes)
+viewIn bs = viewOf (decode bs)
 
 -- n is a node of the graph, and `root` is its local root's number, 0 for none
 pub record Standing (bs : List ℕ) (root n : ℕ) : Type 0 where

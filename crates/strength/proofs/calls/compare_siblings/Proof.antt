@@ -1,6 +1,6 @@
 -- `compare_siblings` meets its contract: one node twice is Equal, and two different nodes with one parent are above node 0. Assumes nothing.
 use mathlib.Core.Path.{sym, ap, _∙_}
-use Rattle.model.specs.Strength.{view, compareSiblingNodeStrength}
+use Rattle.model.specs.Strength.{viewOf, compareSiblingNodeStrength}
 use Rattle.model.specs.Arena.{decode}
 use Rattle.laws.proofs.StrengthFlips.{siblings-same}
 use Rattle.strength.proofs.SiblingLaws.{one-parent, left-above, right-above}
@@ -10,7 +10,7 @@ use Rattle.strength.proofs.calls.compare_siblings.Tie as tie
 returns : tie.Need-returns
 returns c =
     let a = c .before .before .args in
-    let u = view (decode (a .arena .now) .nodes) in
+    let u = viewOf (decode (a .arena .now)) in
     sym (ap (compareSiblingNodeStrength u (a .a)) (sym (c .if1 .taken)) ∙ siblings-same u (a .a))
 
 local-root-requires : tie.Need-local-root-requires
