@@ -5,7 +5,7 @@ use borrow.Author.Needs.{needs}
 use native.Mathlib.Omega.{arith}
 use lib.ListN.{length}
 use lib.Seq.{length-take-le}
-use Rattle.order.proofs.InputLaws.{held-within}
+use Rattle.command_io.proofs.InputLaws.{held-within}
 use Rattle.order.proofs.main.Statement.{statement}
 use Rattle.order.proofs.main.Tie as tie
 

@@ -2,9 +2,9 @@
 use mathlib.Core.Path.{_≡_}
 use Prim.Native.Nat.{ℕ, _≤_}
 use native.Mathlib.Omega.{arith}
-use Rattle.order.specs.declared.Input.{Input}
-use Rattle.order.specs.declared.Input.the-variants.{Held, Long, Failed}
-use Rattle.order.specs.Inputs.{HeldIn}
+use Rattle.command_io.specs.declared.input.Input.{Input}
+use Rattle.command_io.specs.declared.input.Input.the-variants.{Held, Long, Failed}
+use Rattle.command_io.specs.Inputs.{HeldIn}
 
 pub held-more : (a b : ℕ) (r : Input) → a ≤ b → HeldIn a r → HeldIn b r
 held-more a b (Held count) l h = omega arith

@@ -4,9 +4,9 @@ use Prim.Native.Nat.{_-_, _≤_}
 use mathlib.Core.Path.{_≡_}
 use borrow.Author.Needs.{needs}
 use lib.ListN.{length}
-use Rattle.order.proofs.InputLaws.{held-more}
-use Rattle.order.proofs.read_input.Statement.{statement}
-use Rattle.order.proofs.read_input.Tie as tie
+use Rattle.command_io.proofs.InputLaws.{held-more}
+use Rattle.command_io.proofs.input.read_input.Statement.{statement}
+use Rattle.command_io.proofs.input.read_input.Tie as tie
 
 abbrev Inv-loop : tie.InvT-loop
 Inv-loop bytes₀ held₀ bytes held = (length bytes ≡ length bytes₀) × (held ≤ length bytes₀)
