@@ -1,5 +1,6 @@
--- The graph that an arena holds, encoded in that arena, changes no byte: `encode-decode`. Each store of `encode` puts in what is there; so nothing is
--- said of how the stores meet. Assumes nothing.
+-- The graph that an arena holds, encoded in that arena, changes no byte: `encode-decode`. Each
+-- store of `encode` puts in what is there; so nothing is said of how the stores meet. Assumes
+-- nothing.
 use mathlib.Core.Path.{_≡_, refl, sym, ap, _∙_}
 use mathlib.Core.Bool.{Bool, true, false, cond}
 use mathlib.Core.List.{List, [], _∷_, _++_}

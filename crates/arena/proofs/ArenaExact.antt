@@ -1,5 +1,6 @@
--- Question 2, exactly: it passes at the bytes of encodable graphs and at no others (`holds-exactly`), and each passing arena is the bytes of one graph
--- only, the one that it holds (`encoded-one`). Assumes nothing.
+-- Question 2, exactly: it passes at the bytes of encodable graphs and at no others
+-- (`holds-exactly`), and each passing arena is the bytes of one graph only, the one that it holds
+-- (`encoded-one`). Assumes nothing.
 use mathlib.Core.Path.{_≡_, sym, ap, subst, _∙_}
 use mathlib.Core.Logic.{_↔_}
 use mathlib.Core.Bool.{true}

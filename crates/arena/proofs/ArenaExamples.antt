@@ -1,5 +1,6 @@
--- Arenas by computation: all zero bytes hold the empty graph; the listing of document 01, ordered, is held by the bytes that it is encoded in, and read
--- back as it was; and bytes that hold no graph. The arenas here are as long as their graphs need. Assumes nothing.
+-- Arenas by computation: all zero bytes hold the empty graph; the listing of document 01, ordered,
+-- is held by the bytes that it is encoded in, and read back as it was; and bytes that hold no
+-- graph. The arenas here are as long as their graphs need. Assumes nothing.
 use mathlib.Core.Path.{_≡_, refl}
 use mathlib.Core.Bool.{true, false}
 use mathlib.Core.List.{List, [], _∷_, _++_}
@@ -30,7 +31,8 @@ pub record Arenas : Type 0 where
   pub zeros-hold : holdsGraph zeros ≡ true
   pub listed-holds : holdsGraph arena ≡ true
   pub listed-back : decode arena ≡ listed
-  -- a next sibling that leads back, an origin that is not lower, a node twice in the order, a prim count off by one, a wrong local root
+  -- a next sibling that leads back, an origin that is not lower, a node twice in the order, a prim
+  -- count off by one, a wrong local root
   pub cyclic-chain : holdsGraph (stored (slotAt 2 + 8) (bigEndian 4 3) arena) ≡ false
   pub high-origin : holdsGraph (stored (slotAt 2 + 33) (bigEndian 4 2) arena) ≡ false
   pub order-twice : holdsGraph (stored (slotAt 2 + 12) (bigEndian 4 1) arena) ≡ false

@@ -1,4 +1,5 @@
--- The bytes of a graph hold a graph: `holds-encoded`, that question 2 passes after `encode`. Assumes nothing.
+-- The bytes of a graph hold a graph: `holds-encoded`, that question 2 passes after `encode`.
+-- Assumes nothing.
 use mathlib.Core.Path.{_≡_, refl, sym, ap, _∙_}
 use mathlib.Core.Bool.{Bool, true, false, not, _||_, _&&_, cond, or-true}
 use mathlib.Core.List.{List, [], _∷_}
@@ -11,7 +12,7 @@ use Rattle.model.specs.Lists.{bit, count}
 use Rattle.model.specs.Path.{primCount}
 use Rattle.model.specs.Node.{invalid, Node}
 use Rattle.model.specs.Graph.{Graph, emptyGraph, size, nodeAt, childrenOf, isShallow, withNode}
-use Rattle.model.specs.Arena.{arenaBytes, countIn, orderedIn, localRootIn, firstChildIn, lastChildIn, nextSiblingIn, primCountIn, recordLengthIn, nodeIn, nodesIn, childrenIn, lastOf, afterIn, localRootOf, encode, recordsAccepted, recordFits, chainEnds, chainRight, inChainOnce, inOrderOnce, shallowMarked, marksRight, nodeRight, holdsGraph}
+use Rattle.model.specs.Arena.{arenaBytes, countIn, orderedIn, localRootIn, firstChildIn, lastChildIn, nextSiblingIn, primCountIn, recordLengthIn, nodeIn, nodesIn, childrenIn, lastOf, afterIn, localRootOf, encode, recordsAccepted, recordFits, chainEnds, chainValid, inChainOnce, inOrderOnce, shallowMarked, stateValid, nodeValid, holdsGraph}
 use Rattle.laws.proofs.ListLaws.{all-below}
 use Rattle.arena.proofs.ChainLaws.{chain-ends-linked}
 use Rattle.laws.proofs.SnapshotReadLaws.{GrowsFrom}
@@ -37,8 +38,8 @@ module _ (g : Graph) (bs : List ℕ) (ok : Encodable g) (whole : length bs ≡ a
 
   -- ---- The marks
 
-  marks-right : marksRight arena ≡ true
-  marks-right =
+  state-valid : stateValid arena ≡ true
+  state-valid =
       rw (ordered-encode g bs ok whole, finalized-encode g bs ok whole, shallow-encode g bs ok whole, counted)
       (rw (bit-small (g .ordered), bit-small (g .finalized), bit-small (g .shallow), final (g .finalized) refl)
       (empty (eqb (size g) 0) refl))
@@ -73,7 +74,7 @@ module _ (g : Graph) (bs : List ℕ) (ok : Encodable g) (whole : length bs ≡ a
         eq-eqb (primCountIn arena n) (primCount (nodeIn arena n .path))
         (prim-count-encode g bs ok whole n here ∙ ap (λ (x : Node). primCount (x .path)) (sym read))
 
-    chain-right : chainRight arena n ≡ true
+    chain-right : chainValid arena n ≡ true
     chain-right =
         let ends : chainEnds arena n (countIn arena) (firstChildIn arena n) ≡ true =
         ap (chainEnds arena n (countIn arena)) (first-child-encode g bs ok whole n here)
@@ -123,13 +124,13 @@ module _ (g : Graph) (bs : List ℕ) (ok : Encodable g) (whole : length bs ≡ a
         go true e = eq-eqb (count n (g .order)) 1 (ok .each-once e .once n here)
         go false e = refl
 
-    node-right : nodeRight arena n ≡ true
+    node-right : nodeValid arena n ≡ true
     node-right = rw (record-fits, prim-count-right, chain-right, in-chain-once, shallow-marked) in-order-once
 
   -- ---- Question 2
 
-  local-root-right : (eqb (countIn arena) 0 || eqb (localRootIn arena) (localRootOf (nodesIn arena))) ≡ true
-  local-root-right = rw (nodes-encode g bs ok whole, counted) (go (eqb (size g) 0) refl)
+  local-root-valid : (eqb (countIn arena) 0 || eqb (localRootIn arena) (localRootOf (nodesIn arena))) ≡ true
+  local-root-valid = rw (nodes-encode g bs ok whole, counted) (go (eqb (size g) 0) refl)
     where
       go : (t : Bool) → eqb (size g) 0 ≡ t → (t || eqb (localRootIn arena) (localRootOf (g .nodes))) ≡ true
       go true e = refl
@@ -141,7 +142,7 @@ module _ (g : Graph) (bs : List ℕ) (ok : Encodable g) (whole : length bs ≡ a
   holds-encoded =
       rw (
         le-leb (countIn arena) 1024 (omega (arith, counted, ok .legal .few-nodes)),
-        marks-right,
-        all-below (nodeRight arena) (countIn arena) .1 (λ n h. node-right n (omega (arith, counted))),
+        state-valid,
+        all-below (nodeValid arena) (countIn arena) .1 (λ n h. node-right n (omega (arith, counted))),
         ap (recordsAccepted emptyGraph) (nodes-encode g bs ok whole) ∙ grown-accepted emptyGraph (g .nodes) (legal-grows (unordered g) (ok .legal)),
-      ) local-root-right
+      ) local-root-valid

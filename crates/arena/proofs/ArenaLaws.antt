@@ -1,4 +1,5 @@
--- The graph that an arena holds after `encode` is the graph encoded: `decode-encode`. Assumes nothing.
+-- The graph that an arena holds after `encode` is the graph encoded: `decode-encode`. Assumes
+-- nothing.
 use mathlib.Core.Path.{_≡_, refl, sym, ap, _∙_}
 use mathlib.Core.Bool.{Bool, true, false, cond}
 use mathlib.Core.List.{List, []}

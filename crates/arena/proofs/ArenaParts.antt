@@ -1,6 +1,7 @@
--- What each part of an arena is after `encode`: the parts that a graph uses (`header-part`, `root-part`, `link-part`, `site-part`, `entry-part`), and
--- that the rest keeps what it had (`encode-keeps`). A part is w bytes from a on. The slots and the order each have one law for what they leave, over
--- any part. Assumes nothing.
+-- What each part of an arena is after `encode`: the parts that a graph uses (`header-part`,
+-- `root-part`, `link-part`, `site-part`, `entry-part`), and that the rest keeps what it had
+-- (`encode-keeps`). A part is w bytes from a on. The slots and the order each have one law for what
+-- they leave, over any part. Assumes nothing.
 use mathlib.Core.Path.{_≡_, refl, sym, ap, _∙_}
 use mathlib.Core.Logic.{_⊎_, inl, inr}
 use mathlib.Core.Bool.{Bool, true, false, cond}
@@ -159,8 +160,9 @@ headed g bs = stored 0 (headerBytes g) bs
 abbrev opened : Graph → List ℕ → List ℕ
 opened g bs = rootStored g (headed g bs)
 
--- the part is none of the bytes that g uses: the count and the marks; the local root; of each slot the links and, from byte 16 on, the prim count and
--- the record to the end of its path; and an order's entries
+-- the part is none of the bytes that g uses: the count and the marks; the local root; of each slot
+-- the links and, from byte 16 on, the prim count and the record to the end of its path; and an
+-- order's entries
 pub record Unused (g : Graph) (a w : ℕ) : Type 0 where
   pub header : Apart a w 0 7
   pub root : 0 < size g → Apart a w 8 4
@@ -264,8 +266,9 @@ module _ (g : Graph) (bs : List ℕ) (ok : Encodable g) (whole : length bs ≡ a
   pub encode-keeps-byte : (i : ℕ) → Unused g i 1 → getD (encode g bs) i 0 ≡ getD bs i 0
   encode-keeps-byte i unused = rw (byte-part i bs, byte-part i (encode g bs), encode-keeps i 1 unused)
 
-  -- such are: the header behind the marks, but the local root of a graph with nodes; the slots from the graph's size on; a slot behind its record;
-  -- and where there is no order, the places of its entries
+  -- such are: the header behind the marks, but the local root of a graph with nodes; the slots from
+  -- the graph's size on; a slot behind its record; and where there is no order, the places of its
+  -- entries
   pub unused-header : (a w : ℕ) → 7 ≤ a → a + w ≤ 64 → (0 < size g → Apart a w 8 4) → Unused g a w
   unused-header a w l h root = record {
     header = inr (omega arith);

@@ -1,5 +1,6 @@
--- A child list and its links in an arena: a list linked element by element is what `chainIn` reads, and `chainEnds` passes on it (`chain-linked`,
--- `chain-ends-linked`); and what passes is such a list (`chain-held`). `afterIn` gives the links, and they give it. `lastOf` is the last. Assumes
+-- A child list and its links in an arena: a list linked element by element is what `chainIn` reads,
+-- and `chainEnds` passes on it (`chain-linked`, `chain-ends-linked`); and what passes is such a
+-- list (`chain-held`). `afterIn` gives the links, and they give it. `lastOf` is the last. Assumes
 -- nothing.
 use mathlib.Core.Path.{_≡_, refl, sym, ap, _∙_}
 use mathlib.Core.Bool.{Bool, true, false, cond, _||_, _&&_, or-true, false≢true}

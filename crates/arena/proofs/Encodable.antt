@@ -1,5 +1,6 @@
--- What `encode` asks of a graph: `Encodable`. Every legal graph whose numbers fit their widths is such, but for an empty one marked shallow:
--- `legal-encodable`; and ordering leaves such a graph such: `ordered-encodable`. Assumes nothing.
+-- What `encode` asks of a graph: `Encodable`. Every legal graph whose numbers fit their widths is
+-- such, but for an empty one marked shallow: `legal-encodable`; and ordering leaves such a graph
+-- such: `ordered-encodable`. Assumes nothing.
 use mathlib.Core.Path.{_≡_, refl}
 use mathlib.Core.Bool.{Bool, true, false, false≢true}
 use mathlib.Core.List.{List, [], _∷_}
@@ -20,8 +21,9 @@ use Rattle.laws.proofs.LegalAlike.{ordered-legal}
 abbrev pub unordered : Graph → Graph
 unordered g = record { nodes = g .nodes; children = g .children; order = []; ordered = false; finalized = false; shallow = g .shallow }
 
--- What question 2 asks of a graph: all that is legal but how its order came about ("A room may pass with an order never computed"); that each number
--- fits its width; and that an empty graph has no mark, which `Legal` leaves open for shallow.
+-- What question 2 asks of a graph: all that is legal but how its order came about ("A room may pass
+-- with an order never computed"); that each number fits its width; and that an empty graph has no
+-- mark, which `Legal` leaves open for shallow.
 pub record Encodable (g : Graph) : Type 0 where
   pub legal : Legal (unordered g)
   pub fit : NodesFit (g .nodes)

@@ -1,5 +1,5 @@
--- What question 2 says of an arena that passes it, part by part: `Held`, and of each node `HeldNode`; and that each child list is one by its links
--- (`held-chain`). Assumes nothing.
+-- What question 2 says of an arena that passes it, part by part: `Held`, and of each node
+-- `HeldNode`; and that each child list is one by its links (`held-chain`). Assumes nothing.
 use mathlib.Core.Path.{_≡_, refl, sym, _∙_}
 use mathlib.Core.Bool.{Bool, true, false, not, _||_, _&&_, and-eq-true-iff, false≢true}
 use mathlib.Core.List.{List, [], _∷_}
@@ -12,13 +12,13 @@ use Rattle.model.specs.Path.{primCount}
 use Rattle.model.specs.Node.{invalid, Node}
 use Rattle.model.specs.Graph.{Graph, emptyGraph, isShallow, withNode}
 use Rattle.model.specs.Refusals.{refusal, recordQuestions}
-use Rattle.model.specs.Arena.{countIn, orderedIn, finalizedIn, shallowIn, localRootIn, firstChildIn, lastChildIn, nextSiblingIn, primCountIn, recordLengthIn, nodeIn, nodesIn, childrenIn, orderIn, lastOf, localRootOf, recordsAccepted, chainEnds, inChainOnce, inOrderOnce, shallowMarked, nodeRight, holdsGraph}
+use Rattle.model.specs.Arena.{countIn, orderedIn, finalizedIn, shallowIn, localRootIn, firstChildIn, lastChildIn, nextSiblingIn, primCountIn, recordLengthIn, nodeIn, nodesIn, childrenIn, orderIn, lastOf, localRootOf, recordsAccepted, chainEnds, inChainOnce, inOrderOnce, shallowMarked, nodeValid, holdsGraph}
 use Rattle.laws.proofs.ListLaws.{all-below}
 use Rattle.laws.proofs.SnapshotLaws.{and-first, and-second}
 use Rattle.laws.proofs.SnapshotReadLaws.{GrowsFrom, Grows}
 use Rattle.arena.proofs.ChainLaws.{or-second, Chain, chain-held}
 
--- `nodeRight`, test by test
+-- `nodeValid`, test by test
 pub record HeldNode (bs : List ℕ) (n : ℕ) : Type 0 where
   pub record-named : 28 ≤ recordLengthIn bs n
   pub record-short : recordLengthIn bs n ≤ 282
@@ -50,7 +50,7 @@ accepted-grows g (x ∷ xs) e =
     let both = and-eq-true-iff (eqb (refusal (recordQuestions g x)) 0) (recordsAccepted (withNode g x) xs) .0 e in
     (eqb-true (refusal (recordQuestions g x)) 0 (both .0), accepted-grows (withNode g x) xs (both .1))
 
-module _ (bs : List ℕ) (n : ℕ) (e : nodeRight bs n ≡ true) where
+module _ (bs : List ℕ) (n : ℕ) (e : nodeValid bs n ≡ true) where
   held-node : HeldNode bs n
   held-node = record {
     record-named = leb-true 28 (recordLengthIn bs n) (search (and-first, and-second));
@@ -91,7 +91,7 @@ module _ (bs : List ℕ) (e : holdsGraph bs ≡ true) where
         (or-second (not (eqb (countIn bs) 0)) (eqb (orderedIn bs) 0 && eqb (shallowIn bs) 0) (search (and-first, and-second))
         (rw (eq-eqb (countIn bs) 0 none))) in
         (eqb-true (orderedIn bs) 0 (both .0), eqb-true (shallowIn bs) 0 (both .1));
-    node = λ n h. held-node bs n (all-below (nodeRight bs) (countIn bs) .0 (search (and-first, and-second)) n h);
+    node = λ n h. held-node bs n (all-below (nodeValid bs) (countIn bs) .0 (search (and-first, and-second)) n h);
     records = accepted-grows emptyGraph (nodesIn bs) (search (and-first, and-second));
     local-root = λ some-node. eqb-true (localRootIn bs) (localRootOf (nodesIn bs))
         (or-second (eqb (countIn bs) 0) (eqb (localRootIn bs) (localRootOf (nodesIn bs))) (search (and-first, and-second))

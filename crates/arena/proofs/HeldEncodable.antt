@@ -1,5 +1,6 @@
--- An arena that passes question 2 holds a graph that is encodable: `held-encodable`. With `holds-encoded` and `encode-decode`: question 2 passes on the
--- arenas that `encode` makes of encodable graphs, and on no others. Assumes nothing.
+-- An arena that passes question 2 holds a graph that is encodable: `held-encodable`. With
+-- `holds-encoded` and `encode-decode`: question 2 passes on the arenas that `encode` makes of
+-- encodable graphs, and on no others. Assumes nothing.
 use mathlib.Core.Path.{_≡_, refl, sym, ap, _∙_}
 use mathlib.Core.Bool.{Bool, true, false, false≢true}
 use mathlib.Core.List.{List, []}

@@ -1,5 +1,6 @@
--- The laws of the layout: what each part and field is after `encode`, that `encode` and `decode` undo each other, and what question 2 means. Then what
--- the functions' proofs cite, and for callers the fields of a slot.
+-- The laws of the layout: what each part and field is after `encode`, that `encode` and `decode`
+-- undo each other, and what question 2 means. Then what the functions' proofs cite, and for callers
+-- the fields of a slot.
 pub mod TabulateLaws
 pub mod ChainLaws
 pub mod Encodable

@@ -1,5 +1,5 @@
--- What the fields of a node say of the graph that an arena holds, where questions 1 to 4 pass: `node-read`, `fields-read`; and of its
--- local root: `root-found`, `root-held`. Assumes nothing.
+-- What the fields of a node say of the graph that an arena holds, where questions 1 to 4 pass:
+-- `node-read`, `fields-read`; and of its local root: `root-found`, `root-held`. Assumes nothing.
 use mathlib.Core.Path.{_≡_, refl}
 use mathlib.Core.Bool.{Bool, true, false, not, _||_, cond}
 use mathlib.Core.List.{List, [], _∷_}
@@ -14,37 +14,37 @@ use Rattle.model.specs.Graph.{size, nodeAt, isLocalRoot}
 use Rattle.model.specs.Refusals.{ask, refusal}
 use Rattle.model.specs.Calls.{readsNode}
 use Rattle.model.specs.Arena.{arenaBytes, countIn, nodeIn, localRootBelow, localRootOf, localRootIn, decode, holdsGraph}
-use Rattle.model.specs.ArenaCalls.{isArena, Opened, Readable, askArena}
+use Rattle.model.specs.ArenaCalls.{isArena, ValidArena, ValidNode, askArena}
 use Rattle.arena.specs.Slot.{HasSlot, HasPath, parentIn}
 use Rattle.arena.proofs.SlotLaws.{SameFields, same-fields}
 use Rattle.arena.proofs.HeldArenas.{Held, held}
 use Rattle.arena.proofs.ArenaBack.{size-decode, node-decode, parent-lower}
 
-pub sizes : (bs : List ℕ) → Opened bs → size (decode bs) ≡ countIn bs
+pub sizes : (bs : List ℕ) → ValidArena bs → size (decode bs) ≡ countIn bs
 sizes bs o = size-decode bs (held bs (o .holds))
 
 -- the count answers question 3
-pub node-zero : (bs : List ℕ) → Opened bs → 0 < countIn bs → ltb 0 (size (decode bs)) ≡ true
+pub node-zero : (bs : List ℕ) → ValidArena bs → 0 < countIn bs → ltb 0 (size (decode bs)) ≡ true
 node-zero bs o some = lt-ltb 0 (size (decode bs)) (omega (arith, some, sizes bs o))
 
-pub no-node : (bs : List ℕ) → Opened bs → countIn bs ≡ 0 → ltb 0 (size (decode bs)) ≡ false
+pub no-node : (bs : List ℕ) → ValidArena bs → countIn bs ≡ 0 → ltb 0 (size (decode bs)) ≡ false
 no-node bs o none = le-ltb 0 (size (decode bs)) (omega (arith, none, sizes bs o))
 
 -- where questions 1 to 4 pass, the node can be read
-pub readable : (bs : List ℕ) (n : ℕ) → refusal (askArena bs (readsNode (decode bs) n)) ≡ 0 → Readable bs n
+pub readable : (bs : List ℕ) (n : ℕ) → refusal (askArena bs (readsNode (decode bs) n)) ≡ 0 → ValidNode bs n
 readable bs n e = go (isArena bs) refl (holdsGraph bs) refl (ltb 0 (size (decode bs))) (ltb n (size (decode bs))) refl e
   where
     go : (s : Bool) → isArena bs ≡ s → (h : Bool) → holdsGraph bs ≡ h → (z t : Bool) → ltb n (size (decode bs)) ≡ t
-        → refusal (ask 1 s ∷ ask 2 h ∷ ask 3 z ∷ ask 4 t ∷ []) ≡ 0 → Readable bs n
+        → refusal (ask 1 s ∷ ask 2 h ∷ ask 3 z ∷ ask 4 t ∷ []) ≡ 0 → ValidNode bs n
     go true s true h true true t e =
-        let o : Opened bs = record { whole = eqb-true (length bs) arenaBytes s; holds = h } in
+        let o : ValidArena bs = record { whole = eqb-true (length bs) arenaBytes s; holds = h } in
         record { opened = o; below = omega (arith, ltb-true n (size (decode bs)) t, sizes bs o) }
     go true s true h true false t e = absurd (omega arith)
     go true s true h false t q e = absurd (omega arith)
     go true s false h z t q e = absurd (omega arith)
     go false s h q z t r e = absurd (omega arith)
 
-module _ (bs : List ℕ) (n : ℕ) (r : Readable bs n) where
+module _ (bs : List ℕ) (n : ℕ) (r : ValidNode bs n) where
   pub all : Held bs
   all = held bs (r .opened .holds)
 
@@ -62,7 +62,7 @@ module _ (bs : List ℕ) (n : ℕ) (r : Readable bs n) where
   pub fields-read : SameFields bs n
   fields-read = same-fields bs n (has-path .numbered)
 
-  pub parent-read : 0 < n → Readable bs (parentIn bs n)
+  pub parent-read : 0 < n → ValidNode bs (parentIn bs n)
   parent-read h =
       let lower = parent-lower bs all n h (r .below) in
       record { opened = r .opened; below = omega (arith, r .below, fields-read .parent) }
@@ -84,6 +84,6 @@ root-found ns (suc k) = go (isLocalRoot ns k) refl (root-found ns k)
     go true e below = rw (ne-eqb k 0 (root-above ns k e))
     go false e below = below
 
-pub root-held : (bs : List ℕ) → Opened bs → 0 < countIn bs → localRootIn bs ≡ localRootOf (decode bs .nodes)
+pub root-held : (bs : List ℕ) → ValidArena bs → 0 < countIn bs → localRootIn bs ≡ localRootOf (decode bs .nodes)
 unfolding decode
 root-held bs o h = held bs (o .holds) .local-root h

@@ -1,5 +1,6 @@
--- For callers: where the record's length covers its 27 bytes of numbers, the fields read one at a time, and the record loaded, with its path, are
--- those of the node that the bytes hold. Each field is one case of `field-of-record`, over place and width. Assumes nothing.
+-- For callers: where the record's length covers its 27 bytes of numbers, the fields read one at a
+-- time, and the record loaded, with its path, are those of the node that the bytes hold. Each field
+-- is one case of `field-of-record`, over place and width. Assumes nothing.
 use mathlib.Core.Path.{_≡_, sym, ap, _∙_}
 use mathlib.Core.List.{List, [], _∷_}
 use Prim.Native.Nat.{ℕ, zero, suc, _+_, _-_, _≤_}

@@ -1,4 +1,5 @@
--- Stores one after the other, each where the one before it ends, are one store of all their bytes. Assumes nothing.
+-- Stores one after the other, each where the one before it ends, are one store of all their bytes.
+-- Assumes nothing.
 use mathlib.Core.Path.{_≡_, refl, ap, _∙_}
 use mathlib.Core.Bool.{Bool, true, false}
 use mathlib.Core.List.{List, [], _∷_, _++_}

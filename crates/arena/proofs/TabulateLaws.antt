@@ -1,4 +1,5 @@
--- The laws of `tabulate`: its length, its elements, and that a list is known by what each place has. Assumes nothing.
+-- The laws of `tabulate`: its length, its elements, and that a list is known by what each place
+-- has. Assumes nothing.
 use mathlib.Core.Path.{_≡_, refl, sym, ap, _∙_}
 use mathlib.Core.List.{List}
 use Prim.Native.Nat.{ℕ, zero, suc, _+_, _<_}

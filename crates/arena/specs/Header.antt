@@ -1,5 +1,6 @@
--- What a store to the header leaves. The header's fields are read by model/specs/Arena.antt's `countIn`, `orderedIn`, `finalizedIn`, `shallowIn` and
--- `localRootIn`; their bytes are the parts of its `headerBytes` and `rootStored`.
+-- What a store to the header leaves. The header's fields are read by model/specs/Arena.antt's
+-- `countIn`, `orderedIn`, `finalizedIn`, `shallowIn` and `localRootIn`; their bytes are the parts
+-- of its `headerBytes` and `rootStored`.
 use mathlib.Core.Bool.{Bool}
 use mathlib.Core.List.{List, [], _∷_}
 use Prim.Native.Nat.{ℕ}

@@ -1,6 +1,7 @@
--- A node's slot by names: the fields of its record, each where it lies, whatever the record's length; the record by value; and what a store leaves.
--- The layout and the slot's other fields are in model/specs/Arena.antt. Its `nodeIn` reads the record only as far as its length goes: where that is 27
--- or more the two agree (proofs/SlotLaws.antt).
+-- A node's slot by names: the fields of its record, each where it lies, whatever the record's
+-- length; the record by value; and what a store leaves. The layout and the slot's other fields are
+-- in model/specs/Arena.antt. Its `nodeIn` reads the record only as far as its length goes: where
+-- that is 27 or more the two agree (proofs/SlotLaws.antt).
 use mathlib.Core.Path.{_≡_}
 use mathlib.Core.List.{List, _∷_, _++_}
 use Prim.Native.Nat.{ℕ, _+_, _≤_, _<_}

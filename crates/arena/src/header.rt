@@ -57,7 +57,7 @@ pub fn write_count(arena: &mut [u8], count: u32)
 }
 
 // Stores a mark, 1 or 0.
-fn write_mark(arena: &mut [u8], at: usize, set: bool)
+fn write_state_byte(arena: &mut [u8], at: usize, set: bool)
     requires { ⌜ at + 1 ≤ length (now arena) ⌝ }
     ensures { λ _. ⌜ now (arena .exit) ≡ stored at (bit set ∷ []) (now (arena .entry)) ⌝ }
 {
@@ -65,13 +65,13 @@ fn write_mark(arena: &mut [u8], at: usize, set: bool)
 }
 
 // Stores the three marks.
-pub fn write_marks(arena: &mut [u8], ordered: bool, finalized: bool, shallow: bool)
+pub fn write_state(arena: &mut [u8], ordered: bool, finalized: bool, shallow: bool)
     requires { ⌜ length (now arena) ≡ arenaBytes ⌝ }
     ensures { λ _. ⌜ now (arena .exit) ≡ marksStored ordered finalized shallow (now (arena .entry)) ⌝ }
 {
-    write_mark(arena, 4, ordered);
-    write_mark(arena, 5, finalized);
-    write_mark(arena, 6, shallow);
+    write_state_byte(arena, 4, ordered);
+    write_state_byte(arena, 5, finalized);
+    write_state_byte(arena, 6, shallow);
 }
 
 // Stores the number of the local root, 0 for none.

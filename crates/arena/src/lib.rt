@@ -1,9 +1,10 @@
-// The node arena (document 01: the room) in lent bytes: a header of 64 bytes, then 1,024 slots of 320. The only crate that knows an offset. It
-// reads and writes what lies where, and decides nothing: it never refuses, and never asks whether the bytes hold a graph, so a reader answers on
-// any bytes. Each function requires that its place is within, which its callers prove. A node's number is a plain u32, as parameter and as a
-// single field; 4,294,967,295 is no node.
-// The layout is in model/specs/Arena.antt; what is read and stored has its names in specs/Slot.antt and specs/Header.antt; proofs/SlotLaws.antt
-// ties the fields to the node that the bytes hold.
+// The node arena (document 01: the room) in lent bytes: a header of 64 bytes, then 1,024 slots of
+// 320. The only crate that knows an offset. It reads and writes what lies where, and decides
+// nothing: it never refuses, and never asks whether the bytes hold a graph, so a reader answers on
+// any bytes. Each function requires that its place is within, which its callers prove. A node's
+// number is a plain u32, as parameter and as a single field; 4,294,967,295 is no node.
+// The layout is in model/specs/Arena.antt; what is read and stored has its names in specs/Slot.antt
+// and specs/Header.antt; proofs/SlotLaws.antt ties the fields to the node that the bytes hold.
 mod header;
 mod slot;
 
@@ -14,7 +15,7 @@ pub use header::ordered;
 pub use header::shallow;
 pub use header::write_count;
 pub use header::write_local_root;
-pub use header::write_marks;
+pub use header::write_state;
 use model::NodeId;
 pub use slot::arc;
 pub use slot::depth;
@@ -43,7 +44,8 @@ ghost use lib.ListN.{length};
 ghost use Rattle.model.specs.Bytes.{stored};
 ghost use Rattle.arena.specs.Slot.{HasSlot, Loaded, withFirstChild, withLastChild, withNextSibling, linksStored, recordStored, headBytes, fourNumbers};
 
-// A node's record by value: its links, the prim count of its path, the record's length and the record's numbers. Its path stays in the arena (`path`).
+// A node's record by value: its links, the prim count of its path, the record's length and the
+// record's numbers. Its path stays in the arena (`path`).
 pub struct Node {
     pub first_child: NodeId,
     pub last_child: NodeId,
@@ -165,8 +167,8 @@ fn store_depths(
     big_endian::write_u16(arena, at + 43, spec_from);
 }
 
-// Stores the prim count of node n and its record: the length, the numbers and the path, at most 255 bytes, which the length counts too. Its
-// links and the order entry stay.
+// Stores the prim count of node n and its record: the length, the numbers and the path, at most 255
+// bytes, which the length counts too. Its links and the order entry stay.
 pub fn store_record(arena: &mut [u8], n: u32, node: Node, path: &[u8])
     requires { ⌜ HasSlot (now arena) n ⌝ }
     requires { ⌜ (node .«record_length» ≡ 27 + length (now path)) × (length (now path) ≤ 255) ⌝ }

@@ -1,4 +1,5 @@
-// A slot's fields, one load or store each, and the path. The record's fields are read where they lie, whatever length the record says it has.
+// A slot's fields, one load or store each, and the path. The record's fields are read where they
+// lie, whatever length the record says it has.
 ghost use mathlib.Core.Path.{_≡_};
 ghost use Prim.Native.Nat.{_+_, _≤_};
 ghost use lib.ListN.{take, drop};

@@ -1,4 +1,5 @@
--- What refuses a pair, pairs and a call, case by case; what is known of those that have passed; and one pair more in the sum. Assumes nothing.
+-- What refuses a pair, pairs and a call, case by case; what is known of those that have passed; and
+-- one pair more in the sum. Assumes nothing.
 use mathlib.Core.Path.{_≡_, refl, sym, ap, ap₂, _∙_}
 use mathlib.Core.Logic.{_⊎_, inl, inr}
 use mathlib.Core.Bool.{Bool, true, false, not, _||_, _&&_, and-eq-true-iff, false≢true}
@@ -12,13 +13,13 @@ use native.Mathlib.Omega.{arith}
 use borrow.Author.Tests.{ltb-true, leb-true, eqb-true, lt-ltb, le-ltb, le-leb, lt-leb, eq-eqb, ne-eqb}
 use Rattle.model.specs.Answers.{orderingNumber}
 use Rattle.model.specs.Arena.{arenaBytes, countIn, localRootIn, holdsGraph}
-use Rattle.model.specs.ArenaCalls.{isArena, Opened, valueUnless}
+use Rattle.model.specs.ArenaCalls.{isArena, ValidArena, valueUnless}
 use Rattle.model.specs.Refusals.{refusal}
 use Rattle.model.specs.Strength.{compareNodeStrength, compareSiblingNodeStrength}
 use Rattle.model.specs.declared.Ordering.{Ordering}
 use Rattle.c_api.specs.Carried.{carried}
 use Rattle.laws.proofs.AcceptedQuestions.{Accepted, none-refused-accepted}
-use Rattle.view.specs.View.{viewIn, Standing}
+use Rattle.view.specs.View.{viewIn, ValidNodeAndRoot}
 use Rattle.strength.specs.Verdicts.{Pair}
 use Rattle.bench_api.specs.Pairs.{firstOf, secondOf, areSiblings, pairQuestions, pairRefused, orElse, pairsRefused, mostPairBytes, callQuestions, callRefused, comparison, pairSum}
 
@@ -80,9 +81,9 @@ module _ (siblings : Bool) (bs : List ℕ) (a b : ℕ) where
   unfolding pairRefused
   accepted e = none-refused-accepted (pairQuestions siblings bs a b) refl e
 
-  module _ (opened : Opened bs) {root : ℕ} (root-read : root ≡ localRootIn bs) (passed : pairRefused siblings bs a b ≡ 0) where
+  module _ (opened : ValidArena bs) {root : ℕ} (root-read : root ≡ localRootIn bs) (passed : pairRefused siblings bs a b ≡ 0) where
     -- a pair that has passed: two nodes
-    pub nodes-passed : Standing bs root a × Standing bs root b
+    pub nodes-passed : ValidNodeAndRoot bs root a × ValidNodeAndRoot bs root b
     nodes-passed = (
       record { readable = record { opened = opened; below = ltb-true a (countIn bs) (both .0) }; root-read = root-read },
       record { readable = record { opened = opened; below = ltb-true b (countIn bs) (both .1) }; root-read = root-read },
@@ -160,7 +161,7 @@ one-more-added compare ps i before first second compared number =
 
 -- where nothing refuses it
 pub record Passed (siblings : Bool) (bs ps : List ℕ) : Type 0 where
-  pub opened : Opened bs
+  pub opened : ValidArena bs
   pub few : length ps ≤ mostPairBytes
   pub pairs : pairsRefused (pairRefused siblings bs) ps (length ps / 8) ≡ 0
 

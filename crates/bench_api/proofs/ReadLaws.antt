@@ -1,4 +1,5 @@
--- The number of a call that hands back more than a number, and of seeding, which gives no value. Assumes nothing.
+-- The number of a call that hands back more than a number, and of seeding, which gives no value.
+-- Assumes nothing.
 use mathlib.Core.Path.{_≡_, refl, sym, ap, _∙_}
 use mathlib.Core.Bool.{Bool, true, false, cond}
 use mathlib.Core.List.{List}
@@ -16,7 +17,8 @@ use Rattle.c_api.specs.Carried.{carried}
 use Rattle.c_api.proofs.FinishLaws.{no-value}
 use Rattle.deepening.specs.ChildNames.{seedFrom}
 
--- the number that carries a call's answer, where its questions come to k: the case that is accepted, and the one that is refused
+-- the number that carries a call's answer, where its questions come to k: the case that is
+-- accepted, and the one that is refused
 pub accepted-number : {k n answer : ℕ} → 0 ≡ k → n ≡ answer → n ≡ carried k (valueUnless k answer)
 accepted-number {k} {n} {answer} e v = v ∙ sym (zero-add answer) ∙ ap (λ (j : ℕ). carried j (valueUnless j answer)) e
 

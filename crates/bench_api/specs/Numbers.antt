@@ -1,5 +1,5 @@
--- What the programs in bench/ give and get, where crates/c_api has no word for it: two numbers that carry no refusal, what two calls leave of a buffer, and
--- the node that is added.
+-- What the programs in bench/ give and get, where crates/c_api has no word for it: two numbers that
+-- carry no refusal, what two calls leave of a buffer, and the node that is added.
 use mathlib.Core.Path.{_≡_}
 use mathlib.Core.Bool.{_&&_, cond}
 use mathlib.Core.Option.{none}
@@ -29,12 +29,14 @@ countNumber Malformed = 65536
 abbrev pub graphNumber : List ℕ → ℕ
 graphNumber bs = bit (isArena bs && holdsGraph bs)
 
--- the number of a call that writes a snapshot, and the buffer after it: the snapshot at its front; refused, it is as it was
+-- the number of a call that writes a snapshot, and the buffer after it: the snapshot at its front;
+-- refused, it is as it was
 pub record SnapshotCarried (arena out : List ℕ) (r : ℕ) (after : List ℕ) : Type 0 where
   pub number : r ≡ carriedAnswer (writeQuestions arena out) (length (writeSnapshot (decode arena)))
   pub bytes : after ≡ cond (eqb (refusal (writeQuestions arena out)) 0) (stored 0 (writeSnapshot (decode arena)) out) out
 
--- the number of a call that finds the erasable set, which has no value, and the lent bytes after it: the set; refused, they are as they were
+-- the number of a call that finds the erasable set, which has no value, and the lent bytes after
+-- it: the set; refused, they are as they were
 pub record ErasableCarried (arena set : List ℕ) (r : ℕ) (after : List ℕ) : Type 0 where
   pub number : r ≡ carried (refusal (setQuestions arena set)) 0
   pub bytes : after ≡ cond (eqb (refusal (setQuestions arena set)) 0) (erasable (decode arena)) set

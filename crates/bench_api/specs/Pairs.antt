@@ -1,5 +1,5 @@
--- Comparisons added up, for the programs in bench/: over a list of pairs of node numbers, eight bytes a pair, both big-endian. Every pair is asked before
--- the first is compared.
+-- Comparisons added up, for the programs in bench/: over a list of pairs of node numbers, eight
+-- bytes a pair, both big-endian. Every pair is asked before the first is compared.
 use mathlib.Core.Bool.{Bool, not, _||_, _&&_, cond}
 use mathlib.Core.List.{List, [], _∷_}
 use Prim.Native.Nat.{ℕ, zero, suc, _+_, _*_, _/_}
@@ -24,7 +24,8 @@ secondOf ps k = field (8 * k + 4) 4 ps
 
 -- ---- The questions
 
--- narrower than question 8 of the call, which lets node 0 with itself pass: below the questions no node 0 is compared with a sibling
+-- narrower than question 8 of the call, which lets node 0 with itself pass: below the questions no
+-- node 0 is compared with a sibling
 unfoldable pub areSiblings : List ℕ → ℕ → ℕ → Bool
 areSiblings bs a b = ltb 0 a && (ltb 0 b && eqb (viewIn bs .parent a) (viewIn bs .parent b))
 

@@ -1,5 +1,6 @@
-// C functions for the programs in bench/, and for nothing else: each is one call of the library below it, with its answer as a number, which carries refusal
-// and value where the call may be refused (crates/c_api).
+// C functions for the programs in bench/, and for nothing else: each is one call of the library
+// below it, with its answer as a number, which carries refusal and value where the call may be
+// refused (crates/c_api).
 mod reading;
 mod sums;
 
@@ -98,7 +99,8 @@ pub extern "C" fn bench_compare_node_strength(arena: &[u8], a: u32, b: u32) -> u
     c_api::carry_order(prim_graph::compare_node_strength(arena, a, b))
 }
 
-// The sum of `compare_node_strength` over pairs of node numbers, eight bytes a pair: Less 0, Equal 1, Greater 2.
+// The sum of `compare_node_strength` over pairs of node numbers, eight bytes a pair: Less 0, Equal
+// 1, Greater 2.
 #[no_mangle]
 pub extern "C" fn bench_compare_pairs(arena: &[u8], pairs: &[u8]) -> u64
     ensures { λ r. ⌜ r ≡ pairsNumber false (now (arena .entry)) (now (pairs .entry)) ⌝ }

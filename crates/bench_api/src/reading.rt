@@ -1,5 +1,6 @@
-// The calls that only read, beside the comparisons. A number carries the refusal and the answer; of an answer that is more than a number it carries the part
-// that is said there, and of a path its length alone.
+// The calls that only read, beside the comparisons. A number carries the refusal and the answer; of
+// an answer that is more than a number it carries the part that is said there, and of a path its
+// length alone.
 use prim_graph::GraphRead;
 use prim_graph::HierarchyRead;
 use prim_graph::NodeRead;

@@ -1,15 +1,16 @@
-// Comparisons below the questions, which are put before, to every pair: what bench/ measures. specs/Pairs.antt says what is asked and what is added up.
+// Comparisons below the questions, which are put before, to every pair: what bench/ measures.
+// specs/Pairs.antt says what is asked and what is added up.
 use model::Ordering;
 ghost use mathlib.Core.Path.{_≡_};
 ghost use Prim.Native.Nat.{_≤_, _/_};
 ghost use lib.ListN.{length};
 ghost use Rattle.model.specs.Arena.{countIn, localRootIn};
-ghost use Rattle.model.specs.ArenaCalls.{Opened, Readable};
+ghost use Rattle.model.specs.ArenaCalls.{ValidArena, ValidNode};
 ghost use Rattle.bench_api.specs.Pairs.{areSiblings, pairRefused, pairsRefused, callRefused, comparison, pairSum, askedNumber, pairsNumber, mostPairBytes};
 
 // Whether two nodes have one parent, and neither is node 0.
 fn are_siblings(arena: &[u8], a: u32, b: u32) -> bool
-    requires { ⌜ Readable (now arena) a × Readable (now arena) b ⌝ }
+    requires { ⌜ ValidNode (now arena) a × ValidNode (now arena) b ⌝ }
     ensures { λ r. ⌜ r ≡ areSiblings (now (arena .entry)) a b ⌝ }
 {
     if a == 0 {
@@ -23,7 +24,7 @@ fn are_siblings(arena: &[u8], a: u32, b: u32) -> bool
 
 // What refuses a pair: 4, of siblings 4 or 8; or 0.
 fn ask_pair(arena: &[u8], siblings: bool, count: u32, a: u32, b: u32) -> u32
-    requires { ⌜ Opened (now arena) × (count ≡ countIn (now arena)) ⌝ }
+    requires { ⌜ ValidArena (now arena) × (count ≡ countIn (now arena)) ⌝ }
     ensures { λ r. ⌜ r ≡ pairRefused siblings (now (arena .entry)) a b ⌝ }
 {
     if a >= count {
@@ -43,7 +44,7 @@ fn ask_pair(arena: &[u8], siblings: bool, count: u32, a: u32, b: u32) -> u32
 
 // What refuses the first pair that is refused, or 0.
 fn ask_pairs(arena: &[u8], pairs: &[u8], siblings: bool) -> u32
-    requires { ⌜ Opened (now arena) × (length (now pairs) ≤ mostPairBytes) ⌝ }
+    requires { ⌜ ValidArena (now arena) × (length (now pairs) ≤ mostPairBytes) ⌝ }
     ensures { λ r. ⌜ r ≡ pairsRefused (pairRefused siblings (now (arena .entry))) (now (pairs .entry)) (length (now (pairs .entry)) / 8) ⌝ }
 {
     let count = arena::count(arena);
@@ -79,7 +80,7 @@ fn ask_call(arena: &[u8], pairs: &[u8], siblings: bool) -> u32
 
 // Which of a pair that has passed is the stronger.
 fn compare_pair(arena: &[u8], siblings: bool, root: u32, a: u32, b: u32) -> Ordering
-    requires { ⌜ Opened (now arena) × (root ≡ localRootIn (now arena)) × (pairRefused siblings (now arena) a b ≡ 0) ⌝ }
+    requires { ⌜ ValidArena (now arena) × (root ≡ localRootIn (now arena)) × (pairRefused siblings (now arena) a b ≡ 0) ⌝ }
     ensures { λ r. ⌜ r ≡ comparison siblings (now (arena .entry)) a b ⌝ }
 {
     if siblings {

@@ -1,5 +1,6 @@
--- Byte by byte, at any width: what code loads at `at`, `at + 1`, `at + 2` .. is `field`, and what it stores there is `stored`. At a width that is
--- a literal, `loads`, `stores` and `digits` compute to the code's own expressions. The last law is for a part lent to a callee.
+-- Byte by byte, at any width: what code loads at `at`, `at + 1`, `at + 2` .. is `field`, and what
+-- it stores there is `stored`. At a width that is a literal, `loads`, `stores` and `digits` compute
+-- to the code's own expressions. The last law is for a part lent to a callee.
 -- Assumes nothing.
 use mathlib.Core.Path.{_≡_, refl, ap, _∙_}
 use mathlib.Core.List.{List, [], _∷_, _++_, append-assoc, append-nil}

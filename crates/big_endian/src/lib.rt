@@ -1,6 +1,7 @@
-// Big-endian numbers of one, two and four bytes, and runs of bytes, read and written at a place in lent bytes. Each function requires that the
-// place is within, which its callers prove, so nothing here refuses. What is read is `field` of
-// model/specs/Snapshot.antt and what is written `stored` of model/specs/Bytes.antt; laws/proofs/StoredLaws.antt has the laws of both, at any width.
+// Big-endian numbers of one, two and four bytes, and runs of bytes, read and written at a place in
+// lent bytes. Each function requires that the place is within, which its callers prove, so nothing
+// here refuses. What is read is `field` of model/specs/Snapshot.antt and what is written `stored`
+// of model/specs/Bytes.antt; laws/proofs/StoredLaws.antt has the laws of both, at any width.
 ghost use mathlib.Core.Path.{_≡_};
 ghost use mathlib.Core.List.{[], _∷_};
 ghost use Prim.Native.Nat.{_+_, _≤_};

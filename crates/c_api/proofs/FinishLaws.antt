@@ -1,4 +1,5 @@
--- Ordering, culling and appending a child's name give no value, whether they are refused or not: their number is their refusal alone. Assumes nothing.
+-- Ordering, culling and appending a child's name give no value, whether they are refused or not:
+-- their number is their refusal alone. Assumes nothing.
 use mathlib.Core.Path.{_≡_, refl, sym, ap, _∙_}
 use mathlib.Core.Bool.{Bool, true, false, _||_, cond}
 use mathlib.Core.List.{List, [], _∷_}
@@ -11,7 +12,7 @@ use Rattle.model.specs.Refusals.{Question, ask, refusal}
 use Rattle.model.specs.Calls.{Outcome, unchanged, settled, decided, hasNodeZero, finalizeStrengthOrder, cull, deepenQuestions, appendChildName}
 use Rattle.model.specs.Arena.{decode, holdsGraph}
 use Rattle.model.specs.ArenaCalls.{isArena, onArena, Finishes}
-use Rattle.model.specs.declared.Finished.{Finished}
+use Rattle.model.specs.declared.UnitResult.{UnitResult}
 use Rattle.c_api.specs.Carried.{carried, carriedFinish, WroteCarried}
 
 pub no-value : (questions : List Question) (g result : Graph) → decided questions g 0 result .value ≡ 0
@@ -48,7 +49,7 @@ unfolding appendChildName
 append-value child = on-arena-no-value (appendChildName child) (λ g. no-value (deepenQuestions child g) g (appendChildNameToAllSites child g))
 
 -- the number of such a call, and the arena after it
-pub finishes-carried : {o : Outcome} {before after : List ℕ} {r : Finished} {n : ℕ} → o .value ≡ 0 → n ≡ carriedFinish r → Finishes o before r after
+pub finishes-carried : {o : Outcome} {before after : List ℕ} {r : UnitResult} {n : ℕ} → o .value ≡ 0 → n ≡ carriedFinish r → Finishes o before r after
     → WroteCarried o before n after
 finishes-carried {o} none number finishes =
     record { number = number ∙ ap (λ (k : ℕ). carried k 0) (finishes .refused) ∙ ap (carried (o .refused)) (sym none); arena = finishes .arena }

@@ -11,7 +11,8 @@ use Rattle.model.specs.Arena.{decode}
 use Rattle.c_api.specs.Carried.{carriedAnswer}
 use Rattle.ordering.specs.OrderReading.{orderBytes, listQuestions}
 
--- the number of a call that reads the order, and the buffer after it: the order's bytes at its front; refused, it is as it was
+-- the number of a call that reads the order, and the buffer after it: the order's bytes at its
+-- front; refused, it is as it was
 pub record OrderCarried (arena out : List ℕ) (r : ℕ) (after : List ℕ) : Type 0 where
   pub number : r ≡ carriedAnswer (listQuestions arena out) (length (decode arena .order))
   pub bytes : after ≡ cond (eqb (refusal (listQuestions arena out)) 0) (stored 0 (orderBytes (decode arena .order)) out) out

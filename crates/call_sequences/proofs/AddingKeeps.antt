@@ -1,5 +1,5 @@
--- Starting a graph and adding to it leave it encodable where the numbers that are given fit their widths (`starting-keeps`,
--- `adding-keeps`). Assumes nothing.
+-- Starting a graph and adding to it leave it encodable where the numbers that are given fit their
+-- widths (`starting-keeps`, `adding-keeps`). Assumes nothing.
 use mathlib.Core.Path.{_≡_, refl}
 use mathlib.Core.Logic.{_⊎_, inl, inr}
 use mathlib.Core.Bool.{Bool, true, false, _&&_, cond, false≢true}

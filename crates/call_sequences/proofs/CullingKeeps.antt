@@ -1,4 +1,5 @@
--- Culling leaves a graph encodable: it sets a flag where the flag was clear, and keeps all else (`culling-keeps`). Assumes nothing.
+-- Culling leaves a graph encodable: it sets a flag where the flag was clear, and keeps all else
+-- (`culling-keeps`). Assumes nothing.
 use mathlib.Core.Path.{_≡_, refl, sym, _∙_}
 use mathlib.Core.Bool.{Bool, true, false, cond}
 use mathlib.Core.List.{List, [], _∷_}

@@ -1,5 +1,6 @@
--- Deepening leaves a graph encodable, in its own arena (`deepening-keeps`) or in a second (`seeding-leaves`): a path with a name appended is
--- of bytes, and the order stays where it is finalized and goes where it is not. Assumes nothing.
+-- Deepening leaves a graph encodable, in its own arena (`deepening-keeps`) or in a second
+-- (`seeding-leaves`): a path with a name appended is of bytes, and the order stays where it is
+-- finalized and goes where it is not. Assumes nothing.
 use mathlib.Core.Path.{_≡_, refl, sym, _∙_}
 use mathlib.Core.Bool.{Bool, true, false, _||_, _&&_, cond, and-eq-true-iff, true≢false}
 use mathlib.Core.List.{List, [], _∷_, _++_}

@@ -1,5 +1,6 @@
--- Ten calls, two of them refused, run by computation at the graph; and of every arena without a node, that it holds this graph after them
--- (`ten-arena`). It is ordered, finalized and has a node to erase, so every clause of demand 3 says something of it. An arena that its snapshot is read
+-- Ten calls, two of them refused, run by computation at the graph; and of every arena without a
+-- node, that it holds this graph after them (`ten-arena`). It is ordered, finalized and has a node
+-- to erase, so every clause of demand 3 says something of it. An arena that its snapshot is read
 -- into and one that is seeded from it are starts (`ten-read`, `ten-seeded`). Assumes nothing.
 use mathlib.Core.Path.{_≡_, refl, sym, ap, subst, _∙_}
 use mathlib.Core.Bool.{true, false}
@@ -22,7 +23,7 @@ use Rattle.model.specs.Deepening.{deepen}
 use Rattle.model.specs.Snapshot.{writeSnapshot, readSnapshot}
 use Rattle.model.specs.Calls.{Outcome, initRoot, addChild, finalizeStrengthOrder, cull, eraseSet, appendChildName, seedChild, readInto}
 use Rattle.model.specs.Arena.{countIn, decode, holdsGraph}
-use Rattle.model.specs.ArenaCalls.{left}
+use Rattle.model.specs.ArenaCalls.{arenaAfter}
 use Rattle.model.proofs.Text.{bytes}
 use Rattle.laws.proofs.SnapshotLaws.{written-bytes}
 use Rattle.laws.proofs.ListLaws.{all-imp, every-all}
@@ -71,8 +72,9 @@ add parent arc hasSpecs depth fits path = adding (record {
   has-specs = fits .2;
 }) path
 
--- Nodes 0 and 1 `/M/a`; under 1 the References 2 and 3, of which 2 has no specs, and the Inherit 4. Culling marks 2. An erase set with node 1, the parent
--- of the others, is refused 11, and bytes that are no snapshot 12.
+-- Nodes 0 and 1 `/M/a`; under 1 the References 2 and 3, of which 2 has no specs, and the Inherit 4.
+-- Culling marks 2. An erase set with node 1, the parent of the others, is refused 11, and bytes
+-- that are no snapshot 12.
 unfoldable ten : List Write
 ten =
     starting (record { number = 0; small = omega arith }) (record { number = 0; small = omega arith }) (slice (bytes "/M/a") refl)
@@ -158,7 +160,7 @@ module _ (bs : List ℕ) (lent : Lent bs) (holds : holdsGraph bs ≡ true) (none
     abbrev child : Slice
     child = slice (bytes "/c") refl
 
-    ten-seeded : Start (left (seeding child (steps ten bs) into) into)
+    ten-seeded : Start (arenaAfter (seeding child (steps ten bs) into) into)
     ten-seeded =
         seeded bs ten child into (empty lent holds none) room
         (ap (λ (o : Outcome). o .refused) (seed-whole child (steps ten bs) into (after .arena .opened) (room .whole))

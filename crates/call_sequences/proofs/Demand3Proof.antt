@@ -1,5 +1,6 @@
--- Demand 3 of the bytes (specs/Demand3.antt): every arena that a list of calls leaves is reached (ReachedArenas.antt), so its graph meets
--- laws/proofs/GraphDemand3.antt's demand, clause by clause; and each call that a clause names leaves the graph that it is there. Assumes nothing.
+-- Demand 3 of the bytes (specs/Demand3.antt): every arena that a list of calls leaves is reached
+-- (ReachedArenas.antt), so its graph meets laws/proofs/GraphDemand3.antt's demand, clause by
+-- clause; and each call that a clause names leaves the graph that it is there. Assumes nothing.
 use mathlib.Core.Path.{_≡_, refl, sym, ap, subst, _∙_}
 use mathlib.Core.Bool.{Bool, true, false, cond, true≢false, or-true}
 use mathlib.Core.List.{List}
@@ -14,7 +15,7 @@ use Rattle.model.specs.Erasing.{erasable}
 use Rattle.model.specs.Calls as calls
 use Rattle.model.specs.Calls.{Outcome, call, finalizeStrengthOrder, eraseSet}
 use Rattle.model.specs.Arena.{arenaBytes, decode, holdsGraph}
-use Rattle.model.specs.ArenaCalls.{onArena, left}
+use Rattle.model.specs.ArenaCalls.{onArena, arenaAfter}
 use Rattle.laws.proofs.BigEndianLaws.{Bytes}
 use Rattle.laws.proofs.ArenaCallLaws.{on-opened}
 use Rattle.laws.proofs.EraseSets.{erasable-length}
@@ -23,7 +24,7 @@ use Rattle.arena.proofs.ArenaBack.{encode-decode}
 use Rattle.erasing.specs.Erasures.{eraseIn}
 use Rattle.call_sequences.proofs.KeptFits.{FinalUnlessShallow}
 use Rattle.call_sequences.proofs.KeepEncodable.{call-keeps, Arena, arena-encodable, ArenaOf, call-arena}
-use Rattle.call_sequences.specs.Demand3.{Slice, ordering, deepening, comesTo, steps, Start, empty, Listed, erasingAll, rest, Afresh, Erased, Deepened, Demand3, Demand3AfterEveryList}
+use Rattle.call_sequences.specs.Demand3.{Slice, ordering, deepening, outcome, steps, Start, empty, Listed, erasingAll, rest, Afresh, Erased, Deepened, Demand3, Demand3AfterEveryList}
 use Rattle.call_sequences.proofs.GrownGraphs.{grown-demand}
 use Rattle.call_sequences.proofs.ReachedArenas.{Reached, start-reached, steps-reached}
 
@@ -54,7 +55,7 @@ module _ (bs : List ℕ) (a : Arena bs) (ordered : decode bs .ordered ≡ true) 
       go (suc n) some = omega arith
 
   -- a finalized graph is left, another is ordered
-  comes-to : comesTo ordering bs ≡ record { refused = 0; value = 0; graph = graph }
+  comes-to : outcome ordering bs ≡ record { refused = 0; value = 0; graph = graph }
   unfolding finalizeStrengthOrder
   comes-to =
       on-opened bs finalizeStrengthOrder (a .opened)
@@ -68,7 +69,7 @@ module _ (bs : List ℕ) (a : Arena bs) (ordered : decode bs .ordered ≡ true) 
   afresh : Afresh bs
   afresh = record {
     accepted = ap (λ (o : Outcome). o .refused) comes-to;
-    bytes = ap (λ (o : Outcome). left o bs) comes-to ∙ encode-decode bs (a .bytes) (a .opened .whole) (a .opened .holds);
+    bytes = ap (λ (o : Outcome). arenaAfter o bs) comes-to ∙ encode-decode bs (a .bytes) (a .opened .whole) (a .opened .holds);
     has-order = e;
     anew = anew;
   }
@@ -97,7 +98,7 @@ module _ (bs : List ℕ) (r : Reached bs) where
 
   rest-arena : ArenaOf (model.rest g) (rest bs)
   rest-arena =
-      subst (λ (o : Outcome). ArenaOf (model.rest g) (left o bs)) (sym erasing-whole) (call-arena (calls.erasing (erasable g)) bs tt (r .arena))
+      subst (λ (o : Outcome). ArenaOf (model.rest g) (arenaAfter o bs)) (sym erasing-whole) (call-arena (calls.erasing (erasable g)) bs tt (r .arena))
 
   rest-final : FinalUnlessShallow (model.rest g)
   rest-final = call-keeps (calls.erasing (erasable g)) g tt (arena-encodable bs (r .arena)) .final (r .final)
@@ -134,7 +135,8 @@ module _ (bs : List ℕ) (r : Reached bs) where
     deepened = reached-deepened;
   }
 
--- "For every list of the calls that write a graph ..., refused ones included, ... this holds after it."
+-- "For every list of the calls that write a graph ..., refused ones included, ... this holds after
+-- it."
 pub demand3 : Demand3AfterEveryList
 demand3 bs start cs = reached-demand (steps cs bs) (steps-reached cs bs (start-reached bs start))
 

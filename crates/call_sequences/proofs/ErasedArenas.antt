@@ -1,8 +1,10 @@
--- The laws of erasable sets and erased graphs, restated for the calls. Where `erasable` is done, `erase` accepts the set that it wrote (`written-accepted`),
--- the largest set of marked nodes that no node outside it has as parent or origin (`written-largest`). Where `erase` answers a number, it is the count of
--- the graph whose bytes the arena then has, and what is kept stands in it as before (`left-bytes`, `left-count`, `left-stands`); that graph is the one
--- that the arena holds, and question 2 passes (`erased-opened`, `erased-count`, `erased-stands`). Each law asks that the arena has bytes only, as every
--- lent buffer has. Assumes nothing.
+-- The laws of erasable sets and erased graphs, restated for the calls. Where `erasable` is done,
+-- `erase` accepts the set that it wrote (`written-accepted`), the largest set of marked nodes that
+-- no node outside it has as parent or origin (`written-largest`). Where `erase` answers a number,
+-- it is the count of the graph whose bytes the arena then has, and what is kept stands in it as
+-- before (`left-bytes`, `left-count`, `left-stands`); that graph is the one that the arena holds,
+-- and question 2 passes (`erased-opened`, `erased-count`, `erased-stands`). Each law asks that the
+-- arena has bytes only, as every lent buffer has. Assumes nothing.
 use mathlib.Core.Path.{_≡_, refl, sym, ap, _∙_, subst}
 use mathlib.Core.Bool.{Bool, true, false, not, and-eq-true-iff}
 use mathlib.Core.List.{List, map}
@@ -18,13 +20,13 @@ use Rattle.model.specs.Strength.{viewOf, compareSiblingNodeStrength, compareNod
 use Rattle.model.specs.Culling.{isErasable}
 use Rattle.model.specs.Erasing.{stays, erasable, canErase, newNumber, renumbered, erase}
 use Rattle.model.specs.Refusals.{Question, refusal}
-use Rattle.model.specs.Answers.{numberedRefusal}
+use Rattle.model.specs.Answers.{numberRefusal}
 use Rattle.model.specs.Calls.{Outcome, settled, decided, eraseSet, erasing}
 use Rattle.model.specs.Arena.{arenaBytes, countIn, decode, encode, holdsGraph}
-use Rattle.model.specs.ArenaCalls.{isArena, Opened, Wrote}
-use Rattle.model.specs.declared.Finished.the-variants.{Done}
-use Rattle.model.specs.declared.Numbered.{Numbered}
-use Rattle.model.specs.declared.Numbered.the-variants.{Number}
+use Rattle.model.specs.ArenaCalls.{isArena, ValidArena, Wrote}
+use Rattle.model.specs.declared.UnitResult.the-variants.{Done}
+use Rattle.model.specs.declared.NumberResult.{NumberResult}
+use Rattle.model.specs.declared.NumberResult.the-variants.{Number}
 use Rattle.laws.proofs.Views.{LooksLike}
 use Rattle.laws.proofs.BigEndianLaws.{Bytes}
 use Rattle.laws.proofs.AcceptedQuestions.{Accepted, none-refused-accepted}
@@ -44,11 +46,11 @@ use Rattle.erasing.proofs.EraseCallLaws.{asks-own, eraseQuestions, eraseAll, ke
 
 -- ---- Where questions 1 and 2 pass
 
-opened : (bs set : List ℕ) → isSet bs set ≡ true → holdsGraph bs ≡ true → Opened bs
+opened : (bs set : List ℕ) → isSet bs set ≡ true → holdsGraph bs ≡ true → ValidArena bs
 opened bs set e h = record { whole = eqb-true (length bs) arenaBytes (and-eq-true-iff (isArena bs) _ .0 e .0); holds = h }
 
 -- the graph is legal but for its order, which neither call looks at
-held-legal : (bs : List ℕ) → Bytes bs → Opened bs → Legal (unordered (decode bs))
+held-legal : (bs : List ℕ) → Bytes bs → ValidArena bs → Legal (unordered (decode bs))
 held-legal bs bytes o = held-encodable bs bytes (o .whole) (o .holds) .legal
 
 -- ---- After `erasable`
@@ -57,7 +59,8 @@ held-legal bs bytes o = held-encodable bs bytes (o .whole) (o .holds) .legal
 abbrev pub goes : List ℕ → ℕ → Bool
 goes set n = not (stays set n)
 
--- all that goes is marked, no node that stays has one of them as parent or origin, and every such set lies within this one
+-- all that goes is marked, no node that stays has one of them as parent or origin, and every such
+-- set lies within this one
 pub record LargestSpared (ns : List Node) (set : List ℕ) : Type 0 where
   pub spared : Spared ns (goes set)
   pub largest : (other : ℕ → Bool) → Spared ns other → (n : ℕ) → n < length ns → other n ≡ true → goes set n ≡ true
@@ -70,7 +73,7 @@ module _ (bs set after : List ℕ) (bytes : Bytes bs) (done : ErasableWritten bs
   passed : Accepted (setQuestions bs set)
   passed = none-refused-accepted (setQuestions bs set) refl (sym (done .refused))
 
-  arena-read : Opened bs
+  arena-read : ValidArena bs
   arena-read = opened bs set (passed 1) (passed 2)
 
   some-node : 0 < size (decode bs)
@@ -100,7 +103,7 @@ module _ (bs set after : List ℕ) (bytes : Bytes bs) (done : ErasableWritten bs
       spares = erasable-spared (decode bs .nodes) (legal .links) some-node
 
   -- question 11 passes, and every other question of `erase`
-  pub written-accepted : (r : Numbered) (left : List ℕ) → Erased after bs r left → numberedRefusal r ≡ 0
+  pub written-accepted : (r : NumberResult) (left : List ℕ) → Erased after bs r left → numberRefusal r ≡ 0
   written-accepted r left erased =
       erased .refused
       ∙ ap (λ (o : Outcome). o .refused) (erase-asks after bs ∙ decided-accepted (eraseAll after bs) (decode bs) _ _ passes)
@@ -125,7 +128,8 @@ pub record Stands (set : List ℕ) (g left : Graph) : Type 0 where
   pub compare-siblings : (a b : ℕ) → a < size g → b < size g → stays set a ≡ true → stays set b ≡ true
       → compareSiblingNodeStrength (viewOf left) (newNumber (stays set) a) (newNumber (stays set) b)
       ≡ compareSiblingNodeStrength (viewOf g) a b
-  -- "the fields a snapshot holds are unchanged but for that renumbering of parent and origin; chains lose only what went", the order too
+  -- "the fields a snapshot holds are unchanged but for that renumbering of parent and origin;
+  -- chains lose only what went", the order too
   pub fields : (n : ℕ) → n < size g → stays set n ≡ true
       → nodeAt (left .nodes) (newNumber (stays set) n) ≡ renumbered (stays set) (size g) (nodeAt (g .nodes) n)
   pub child-list : (n : ℕ) → n < size g → stays set n ≡ true
@@ -154,7 +158,7 @@ module _ (set bs after : List ℕ) (n : ℕ) (bytes : Bytes bs) (erased : Erased
   asked : Accepted (eraseAll set bs)
   asked = none-refused-accepted (eraseAll set bs) refl (accepts .0)
 
-  arena-before : Opened bs
+  arena-before : ValidArena bs
   arena-before = opened bs set (asked 1) (asked 2)
 
   before-legal : Legal (unordered (decode bs))
@@ -202,7 +206,7 @@ module _ (set bs after : List ℕ) (n : ℕ) (bytes : Bytes bs) (erased : Erased
   arena-after : ArenaOf graphLeft after
   arena-after = rw left-bytes (encoded-arena graphLeft bs left-encodable bytes (arena-before .whole))
 
-  pub erased-opened : Opened after
+  pub erased-opened : ValidArena after
   erased-opened = arena-after .arena .opened
 
   pub erased-count : n ≡ countIn after

@@ -1,5 +1,6 @@
--- Erasing leaves a graph encodable: a link is renumbered to a lower number, and a marked order, without what went and renumbered, has each node that
--- is left once (`erased-once`, `erasing-keeps`). Assumes nothing.
+-- Erasing leaves a graph encodable: a link is renumbered to a lower number, and a marked order,
+-- without what went and renumbered, has each node that is left once (`erased-once`,
+-- `erasing-keeps`). Assumes nothing.
 use mathlib.Core.Path.{_≡_, refl, sym, ap, subst, _∙_}
 use mathlib.Core.Bool.{Bool, true}
 use mathlib.Core.List.{List, [], _∷_, map}
@@ -24,7 +25,8 @@ use Rattle.arena.proofs.Encodable.{unordered, Encodable}
 use Rattle.child_lists.proofs.AppendEncodable.{NumbersFit}
 use Rattle.call_sequences.proofs.KeptFits.{fit-numbers, legal-fits, Keeps, decided-encodable}
 
--- what is kept of an order that has each of n nodes once, renumbered, has each number below how many are kept once
+-- what is kept of an order that has each of n nodes once, renumbered, has each number below how
+-- many are kept once
 pub erased-once : (kept : ℕ → Bool) (n : ℕ) (order : List ℕ) → EachOnce n order → EachOnce (newNumber kept n) (map (newNumber kept) (filter kept order))
 erased-once kept n order each = record {
   once =

@@ -1,5 +1,6 @@
--- The graphs that lists of calls leave from the starts of laws/proofs/GraphDemand3.antt: `Grown`. A call more leaves one again (`grown-call`), and what is
--- seeded from one is a start (`grown-seeded`). Assumes nothing.
+-- The graphs that lists of calls leave from the starts of laws/proofs/GraphDemand3.antt: `Grown`. A
+-- call more leaves one again (`grown-call`), and what is seeded from one is a start
+-- (`grown-seeded`). Assumes nothing.
 use mathlib.Core.Path.{_≡_, refl, sym, ap, subst, _∙_}
 use mathlib.Core.List.{List, [], _∷_, _++_}
 use Prim.Native.Nat.{ℕ}

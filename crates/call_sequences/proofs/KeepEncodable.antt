@@ -1,5 +1,6 @@
--- What question 2 asks of a graph, every call keeps (`call-keeps-encodable`) whose numbers fit their widths, as every argument of the code's types does
--- (`CallFits`); so an arena that passes question 2 passes it after every call (`call-holds`). Assumes nothing.
+-- What question 2 asks of a graph, every call keeps (`call-keeps-encodable`) whose numbers fit
+-- their widths, as every argument of the code's types does (`CallFits`); so an arena that passes
+-- question 2 passes it after every call (`call-holds`). Assumes nothing.
 use mathlib.Core.Path.{_≡_, refl, sym, _∙_}
 use mathlib.Core.Bool.{Bool, true, false, cond}
 use mathlib.Core.List.{List}
@@ -10,7 +11,7 @@ use borrow.Author.Tests.{eqb-false}
 use Rattle.model.specs.Graph.{Graph}
 use Rattle.model.specs.Calls.{Outcome, Call, starting, adding, orders, culls, erasing, deepening, reading, call}
 use Rattle.model.specs.Arena.{arenaBytes, decode, encode, holdsGraph}
-use Rattle.model.specs.ArenaCalls.{Opened, onArena, left}
+use Rattle.model.specs.ArenaCalls.{ValidArena, onArena, arenaAfter}
 use Rattle.laws.proofs.BigEndianLaws.{Bytes}
 use Rattle.laws.proofs.ArenaCallLaws.{on-opened}
 use Rattle.arena.proofs.Encodable.{Encodable}
@@ -30,8 +31,9 @@ use Rattle.call_sequences.proofs.ReadingKeeps.{reading-keeps}
 
 -- ---- The numbers that a call is given
 
--- u32 for stack and layer, u16 for a depth, bytes for a path; of a node to be added what `NumbersFit` says. Arc, links and has-specs are judged by the
--- questions, and so is every byte of an erase set.
+-- u32 for stack and layer, u16 for a depth, bytes for a path; of a node to be added what
+-- `NumbersFit` says. Arc, links and has-specs are judged by the questions, and so is every byte of
+-- an erase set.
 abbrev pub CallFits : Call → Type 0
 CallFits (starting stack layer path) = (stack < 256 ^ 4) × (layer < 256 ^ 4) × Bytes path
 CallFits (adding d) = NumbersFit (d .fields) × DepthFits (d .depth)
@@ -61,7 +63,7 @@ call-keeps-encodable c g fits ok = call-keeps c g fits ok .encodable
 -- bytes of an arena's length that pass question 2
 pub record Arena (bs : List ℕ) : Type 0 where
   pub bytes : Bytes bs
-  pub opened : Opened bs
+  pub opened : ValidArena bs
 
 pub arena-encodable : (bs : List ℕ) → Arena bs → Encodable (decode bs)
 arena-encodable bs a = held-encodable bs (a .bytes) (a .opened .whole) (a .opened .holds)
@@ -82,19 +84,19 @@ encoded-arena g bs ok bytes whole = record {
 }
 
 -- what an outcome leaves of an arena
-pub left-arena : (o : Outcome) (bs : List ℕ) → Arena bs → Keeps (decode bs) o → ArenaOf (o .graph) (left o bs)
+pub left-arena : (o : Outcome) (bs : List ℕ) → Arena bs → Keeps (decode bs) o → ArenaOf (o .graph) (arenaAfter o bs)
 left-arena o bs a keeps = go (eqb (o .refused) 0) refl
   where
     go : (t : Bool) → eqb (o .refused) 0 ≡ t → ArenaOf (o .graph) (cond t (encode (o .graph) bs) bs)
     go true e = encoded-arena (o .graph) bs (keeps .encodable) (a .bytes) (a .opened .whole)
     go false e = record { arena = a; graph = sym (keeps .refused (eqb-false (o .refused) 0 e)) }
 
-pub call-arena : (c : Call) (bs : List ℕ) → CallFits c → Arena bs → ArenaOf (call c (decode bs) .graph) (left (onArena (call c) bs) bs)
+pub call-arena : (c : Call) (bs : List ℕ) → CallFits c → Arena bs → ArenaOf (call c (decode bs) .graph) (arenaAfter (onArena (call c) bs) bs)
 call-arena c bs fits a =
     rw (on-opened bs (call c) (a .opened)) (left-arena (call c (decode bs)) bs a (call-keeps c (decode bs) fits (arena-encodable bs a)))
 
 -- question 2 never refuses what a call left
 pub call-holds : (c : Call) (bs : List ℕ) → CallFits c → Bytes bs → length bs ≡ arenaBytes → holdsGraph bs ≡ true
-    → holdsGraph (left (onArena (call c) bs) bs) ≡ true
+    → holdsGraph (arenaAfter (onArena (call c) bs) bs) ≡ true
 call-holds c bs fits bytes whole holds =
     call-arena c bs fits (record { bytes = bytes; opened = record { whole = whole; holds = holds } }) .arena .opened .holds

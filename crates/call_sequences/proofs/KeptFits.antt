@@ -1,5 +1,7 @@
--- What the calls' laws share. The nodes of a legal graph fit where the numbers do that its questions leave open (`legal-fits`); and a call that is put
--- questions leaves a graph encodable if what it makes of it is, and refused leaves the graph (`Keeps`, `decided-encodable`). Assumes nothing.
+-- What the calls' laws share. The nodes of a legal graph fit where the numbers do that its
+-- questions leave open (`legal-fits`); and a call that is put questions leaves a graph encodable if
+-- what it makes of it is, and refused leaves the graph (`Keeps`, `decided-encodable`). Assumes
+-- nothing.
 use mathlib.Core.Path.{_≡_, refl, ap, subst}
 use mathlib.Core.Bool.{true, not}
 use mathlib.Core.List.{List, [], _∷_}
@@ -87,7 +89,8 @@ legal-fits g legal numbers = fit-all (g .nodes) fits
 
 -- ---- A call that is put questions
 
--- Every call keeps that an ordered graph is finalized unless shallow, which question 2 does not ask.
+-- Every call keeps that an ordered graph is finalized unless shallow, which question 2 does not
+-- ask.
 abbrev pub FinalUnlessShallow : Graph → Type 0
 FinalUnlessShallow g = g .ordered ≡ true → g .finalized ≡ not (g .shallow)
 
@@ -105,8 +108,8 @@ module _ (qs : List Question) (g : Graph) (value : ℕ) (result : Graph) (final 
       go zero e = record { encodable = new e; final = final; refused = λ h. absurd (h refl) }
       go (suc r) e = record { encodable = ok; final = λ old. old; refused = λ h. refl }
 
-  -- The call keeps the graph without its order legal, and its questions do not look at the order: so what an accepted one makes, without its order, is
-  -- legal.
+  -- The call keeps the graph without its order legal, and its questions do not look at the order:
+  -- so what an accepted one makes, without its order, is legal.
   module _ (n : numbered qs ≡ true) (legal : Legal (decided qs (unordered g) value (unordered result) .graph))
       (new : Accepted qs → Legal (unordered result) → Encodable result) where
     accepted-encodable : refusal qs ≡ 0 → Encodable result

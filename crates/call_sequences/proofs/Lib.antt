@@ -1,4 +1,5 @@
--- What each call keeps of a graph that question 2 passes, and of an arena that does. KeepEncodable.antt has both for every call.
+-- What each call keeps of a graph that question 2 passes, and of an arena that does.
+-- KeepEncodable.antt has both for every call.
 pub mod KeptFits
 pub mod AddingKeeps
 mod OrderingKeeps

@@ -1,4 +1,5 @@
--- Ordering leaves a graph encodable: the order is the walk of a tree (`ordering-keeps`). Assumes nothing.
+-- Ordering leaves a graph encodable: the order is the walk of a tree (`ordering-keeps`). Assumes
+-- nothing.
 use mathlib.Core.Path.{_≡_, refl}
 use mathlib.Core.Bool.{Bool, true, false, _||_, cond}
 use mathlib.Core.List.{[], _∷_}

@@ -1,5 +1,6 @@
--- The arenas that lists of calls leave: each holds a graph, and one that calls of model/specs/Calls.antt leave of a start (`Reached`). Every start is such
--- (`start-reached`), and every call leaves such (`steps-reached`). Assumes nothing.
+-- The arenas that lists of calls leave: each holds a graph, and one that calls of
+-- model/specs/Calls.antt leave of a start (`Reached`). Every start is such (`start-reached`), and
+-- every call leaves such (`steps-reached`). Assumes nothing.
 use mathlib.Core.Path.{_≡_, refl, sym, ap, subst, _∙_}
 use mathlib.Core.Bool.{Bool, true, false, cond, false≢true}
 use mathlib.Core.List.{List, [], _∷_}
@@ -9,7 +10,7 @@ use borrow.Author.Tests.{eq-eqb}
 use Rattle.model.specs.Graph.{Graph, emptyGraph}
 use Rattle.model.specs.Calls.{Outcome, call, readInto, seedChild}
 use Rattle.model.specs.Arena.{arenaBytes, countIn, tabulate, nodeIn, childrenIn, decode, encode}
-use Rattle.model.specs.ArenaCalls.{Opened, left}
+use Rattle.model.specs.ArenaCalls.{ValidArena, arenaAfter}
 use Rattle.laws.proofs.GraphDemand3 as model
 use Rattle.arena.proofs.Encodable.{Encodable}
 use Rattle.deepening.specs.ChildNames.{seedFrom}
@@ -17,7 +18,7 @@ use Rattle.call_sequences.proofs.KeptFits.{FinalUnlessShallow}
 use Rattle.call_sequences.proofs.DeepeningKeeps.{seeding-leaves}
 use Rattle.call_sequences.proofs.ReadingKeeps.{reading-encodable, reading-unordered}
 use Rattle.call_sequences.proofs.KeepEncodable.{call-keeps, Arena, arena-encodable, ArenaOf, encoded-arena}
-use Rattle.call_sequences.specs.Demand3.{Slice, Write, reading, comesTo, step, steps, Lent, seeding, Start, empty, read, seeded}
+use Rattle.call_sequences.specs.Demand3.{Slice, Write, reading, outcome, step, steps, Lent, seeding, Start, empty, read, seeded}
 use Rattle.call_sequences.proofs.StepGraphs.{callOf, isSized, graphStep, graphSteps, call-fits, left-accepted, into-whole, steps-arena}
 use Rattle.call_sequences.proofs.GrownGraphs.{Grown, grown-start, grown-call, grown-seeded}
 
@@ -79,7 +80,7 @@ no-node bs a none =
     not-finalized true e = absurd (false≢true (sym (unmarked .0) ∙ ok .final e .0))
     not-finalized false e = refl
 
-pub seed-whole : (child : Slice) (from into : List ℕ) → Opened from → length into ≡ arenaBytes
+pub seed-whole : (child : Slice) (from into : List ℕ) → ValidArena from → length into ≡ arenaBytes
     → seeding child from into ≡ seedChild (child .bytes) (decode from) emptyGraph
 unfolding seedFrom
 seed-whole child from into opened whole =
@@ -87,16 +88,16 @@ seed-whole child from into opened whole =
 
 -- an arena of any content that is filled with what an accepted call came to
 filled : (o met : Outcome) (into : List ℕ) → Lent into → o ≡ met → o .refused ≡ 0
-    → (met .refused ≡ 0 → Encodable (met .graph) × Grown (met .graph) × FinalUnlessShallow (met .graph)) → Reached (left o into)
+    → (met .refused ≡ 0 → Encodable (met .graph) × Grown (met .graph) × FinalUnlessShallow (met .graph)) → Reached (arenaAfter o into)
 filled o met into lent same accepted new =
     let passed : met .refused ≡ 0 = ap (λ (o : Outcome). o .refused) (sym same) ∙ accepted in
     let fine = new passed in
     rw (same, left-accepted met into passed)
     (holds-reached (met .graph) (encode (met .graph) into) (encoded-arena (met .graph) into (fine .0) (lent .bytes) (lent .whole)) (fine .1) (fine .2))
 
-read-reached : (snapshot : Slice) (into : List ℕ) → Lent into → comesTo (reading snapshot) into .refused ≡ 0 → Reached (step (reading snapshot) into)
+read-reached : (snapshot : Slice) (into : List ℕ) → Lent into → outcome (reading snapshot) into .refused ≡ 0 → Reached (step (reading snapshot) into)
 read-reached snapshot into lent accepted =
-    filled (comesTo (reading snapshot) into) o into lent (into-whole o into (lent .whole)) accepted
+    filled (outcome (reading snapshot) into) o into lent (into-whole o into (lent .whole)) accepted
     (λ z. (
       reading-encodable (snapshot .bytes) (snapshot .each) emptyGraph z,
       grown-start (o .graph) (model.read (snapshot .bytes) emptyGraph z refl),
@@ -107,7 +108,7 @@ read-reached snapshot into lent accepted =
     o = readInto (snapshot .bytes) emptyGraph
 
 seed-reached : (child : Slice) (from into : List ℕ) → Reached from → Lent into → seeding child from into .refused ≡ 0
-    → Reached (left (seeding child from into) into)
+    → Reached (arenaAfter (seeding child from into) into)
 seed-reached child from into r lent accepted =
     filled (seeding child from into) (seedChild (child .bytes) (decode from) emptyGraph) into lent
     (seed-whole child from into (r .arena .opened) (lent .whole)) accepted

@@ -1,4 +1,5 @@
--- Reading a snapshot leaves an encodable graph: that of the nodes read, or the old one where it is refused (`reading-keeps`). Assumes nothing.
+-- Reading a snapshot leaves an encodable graph: that of the nodes read, or the old one where it is
+-- refused (`reading-keeps`). Assumes nothing.
 use mathlib.Core.Path.{_≡_, refl, sym, ap, subst, _∙_}
 use mathlib.Core.Bool.{false≢true}
 use mathlib.Core.List.{List}

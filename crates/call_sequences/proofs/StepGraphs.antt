@@ -1,5 +1,6 @@
--- What each call of specs/Demand3.antt does to the graph: it is a call of model/specs/Calls.antt, but that an erase set of another size is refused
--- (`graphStep`); and the arena after a list of them holds what they make of the graph: `steps-arena`. Assumes nothing.
+-- What each call of specs/Demand3.antt does to the graph: it is a call of model/specs/Calls.antt,
+-- but that an erase set of another size is refused (`graphStep`); and the arena after a list of
+-- them holds what they make of the graph: `steps-arena`. Assumes nothing.
 use mathlib.Core.Path.{_≡_, refl, sym, ap, subst, _∙_}
 use mathlib.Core.Bool.{Bool, true, false, cond}
 use mathlib.Core.List.{List, [], _∷_}
@@ -12,7 +13,7 @@ use Rattle.model.specs.Graph.{Graph, emptyGraph}
 use Rattle.model.specs.Calls as calls
 use Rattle.model.specs.Calls.{Outcome, unchanged, Call, call, readInto, eraseSet}
 use Rattle.model.specs.Arena.{arenaBytes, decode, encode}
-use Rattle.model.specs.ArenaCalls.{onArena, intoArena, left}
+use Rattle.model.specs.ArenaCalls.{onArena, intoArena, arenaAfter}
 use Rattle.laws.proofs.SnapshotReadLaws.{accepted-read, grown-read, refused-read-keeps}
 use Rattle.nodes.specs.Describing.{depthOption, descOf}
 use Rattle.nodes.specs.declared.description.NodeDesc.{NodeDesc}
@@ -84,10 +85,10 @@ call-fits (reading snapshot) = snapshot .each
 -- ---- Reading: what was there does not matter
 
 -- an outcome that is accepted, and one that is not
-pub left-accepted : (o : Outcome) (bs : List ℕ) → o .refused ≡ 0 → left o bs ≡ encode (o .graph) bs
+pub left-accepted : (o : Outcome) (bs : List ℕ) → o .refused ≡ 0 → arenaAfter o bs ≡ encode (o .graph) bs
 left-accepted o bs e = rw (eq-eqb (o .refused) 0 e)
 
-left-refused : (o : Outcome) (bs : List ℕ) → (o .refused ≡ 0 → ⊥) → left o bs ≡ bs
+left-refused : (o : Outcome) (bs : List ℕ) → (o .refused ≡ 0 → ⊥) → arenaAfter o bs ≡ bs
 left-refused o bs h = rw (ne-eqb (o .refused) 0 h)
 
 read-anywhere : (bytes : List ℕ) (old other : Graph) → readInto bytes old .refused ≡ 0 → readInto bytes other ≡ readInto bytes old
@@ -105,7 +106,7 @@ read-arena snapshot bs a = rw (into-whole o bs (a .opened .whole)) (go (readInto
     o : Outcome
     o = readInto (snapshot .bytes) emptyGraph
 
-    go : (r : ℕ) → readInto (snapshot .bytes) (decode bs) .refused ≡ r → ArenaOf (readInto (snapshot .bytes) (decode bs) .graph) (left o bs)
+    go : (r : ℕ) → readInto (snapshot .bytes) (decode bs) .refused ≡ r → ArenaOf (readInto (snapshot .bytes) (decode bs) .graph) (arenaAfter o bs)
     go zero e =
         let same = read-anywhere (snapshot .bytes) (decode bs) emptyGraph e in
         rw (left-accepted o bs (ap (λ (o : Outcome). o .refused) same ∙ e), same)
@@ -124,7 +125,7 @@ unfolding eraseIn
 erase-arena set bs a = rw (eq-eqb (length bs) arenaBytes (a .opened .whole)) (go (eqb (length (set .bytes)) 1024))
   where
     go : (t : Bool) → ArenaOf (cond t (eraseSet (set .bytes) (decode bs) .graph) (decode bs))
-        (left (cond t (onArena (eraseSet (set .bytes)) bs) (unchanged 1 (decode bs))) bs)
+        (arenaAfter (cond t (onArena (eraseSet (set .bytes)) bs) (unchanged 1 (decode bs))) bs)
     go true = call-arena (calls.erasing (set .bytes)) bs tt a
     go false = record { arena = a; graph = refl }
 

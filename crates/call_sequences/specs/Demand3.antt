@@ -1,6 +1,7 @@
--- Demand 3 (document 00), of the bytes of an arena: the calls that write a graph, what a list of them leaves, where it may begin, and the claim, its
--- words beside each clause. Each call is the one function that its contract cites (crates/call_sequences); what an arena holds is `decode`. The theorem is
--- `demand3` in proofs/Demand3Proof.antt.
+-- Demand 3 (document 00), of the bytes of an arena: the calls that write a graph, what a list of
+-- them leaves, where it may begin, and the claim, its words beside each clause. Each call is the
+-- one function that its contract cites (crates/call_sequences); what an arena holds is `decode`.
+-- The theorem is `demand3` in proofs/Demand3Proof.antt.
 use mathlib.Core.Path.{_≡_}
 use mathlib.Core.Bool.{Bool, true, false}
 use mathlib.Core.List.{List, [], _∷_, map}
@@ -17,7 +18,7 @@ use Rattle.model.specs.Culling.{isMarked}
 use Rattle.model.specs.Erasing.{stays, erasable, newNumber, renumbered}
 use Rattle.model.specs.Calls.{Outcome, initRoot, addChild, finalizeStrengthOrder, cull, appendChildName, readInto}
 use Rattle.model.specs.Arena.{arenaBytes, countIn, decode, holdsGraph}
-use Rattle.model.specs.ArenaCalls.{Opened, onArena, intoArena, left}
+use Rattle.model.specs.ArenaCalls.{ValidArena, onArena, intoArena, arenaAfter}
 use Rattle.nodes.specs.Describing.{descOf}
 use Rattle.nodes.specs.declared.description.NodeDesc.{NodeDesc}
 use Rattle.nodes.specs.declared.description.Depth.{Depth}
@@ -68,18 +69,19 @@ pub data Write : Type 0 where
   reading : (snapshot : Slice) → Write
 
 -- what a call comes to on an arena: refusal, value and graph
-abbrev pub comesTo : Write → List ℕ → Outcome
-comesTo (starting stack layer path) bs = onArena (initRoot (stack .number) (layer .number) (path .bytes)) bs
-comesTo (adding desc fits path) bs = onArena (addChild (descOf desc (path .bytes))) bs
-comesTo ordering bs = onArena finalizeStrengthOrder bs
-comesTo culling bs = onArena cull bs
-comesTo (erasing set) bs = eraseIn (set .bytes) bs
-comesTo (deepening child) bs = onArena (appendChildName (child .bytes)) bs
-comesTo (reading snapshot) bs = intoArena (readInto (snapshot .bytes) emptyGraph) bs
+abbrev pub outcome : Write → List ℕ → Outcome
+outcome (starting stack layer path) bs = onArena (initRoot (stack .number) (layer .number) (path .bytes)) bs
+outcome (adding desc fits path) bs = onArena (addChild (descOf desc (path .bytes))) bs
+outcome ordering bs = onArena finalizeStrengthOrder bs
+outcome culling bs = onArena cull bs
+outcome (erasing set) bs = eraseIn (set .bytes) bs
+outcome (deepening child) bs = onArena (appendChildName (child .bytes)) bs
+outcome (reading snapshot) bs = intoArena (readInto (snapshot .bytes) emptyGraph) bs
 
--- the arena after a call, refused ones included, and after a list: "Each call, with any arguments, gets the room as the last left it"
+-- the arena after a call, refused ones included, and after a list: "Each call, with any arguments,
+-- gets the room as the last left it"
 abbrev pub step : Write → List ℕ → List ℕ
-step c bs = left (comesTo c bs) bs
+step c bs = arenaAfter (outcome c bs) bs
 
 abbrev pub steps : List Write → List ℕ → List ℕ
 steps [] bs = bs
@@ -97,13 +99,14 @@ pub record Lent (bs : List ℕ) : Type 0 where
   pub whole : length bs ≡ arenaBytes
 
 pub data Start : List ℕ → Type 0 where
-  -- question 2 passes with no node; "A room whose bytes are all zero is the empty graph" (proofs/Demand3Proof.antt, `zeros-start`)
+  -- question 2 passes with no node; "A room whose bytes are all zero is the empty graph"
+  -- (proofs/Demand3Proof.antt, `zeros-start`)
   empty : {bs : List ℕ} → Lent bs → holdsGraph bs ≡ true → countIn bs ≡ 0 → Start bs
-  read : {bs : List ℕ} (snapshot : Slice) (into : List ℕ) → Lent into → comesTo (reading snapshot) into .refused ≡ 0
+  read : {bs : List ℕ} (snapshot : Slice) (into : List ℕ) → Lent into → outcome (reading snapshot) into .refused ≡ 0
       → bs ≡ step (reading snapshot) into → Start bs
   -- "Seeding fills from a graph that such a list left"
   seeded : {bs : List ℕ} (from : List ℕ) (cs : List Write) (child : Slice) (into : List ℕ) → Start from → Lent into
-      → seeding child (steps cs from) into .refused ≡ 0 → bs ≡ left (seeding child (steps cs from) into) into → Start bs
+      → seeding child (steps cs from) into .refused ≡ 0 → bs ≡ arenaAfter (seeding child (steps cs from) into) into → Start bs
 
 -- ---- "If the graph is ordered, its list has each node once, and of any two the earlier is the stronger."
 
@@ -123,7 +126,7 @@ abbrev pub erasingAll : List ℕ → Outcome
 erasingAll bs = eraseIn (erasable (decode bs)) bs
 
 abbrev pub rest : List ℕ → List ℕ
-rest bs = left (erasingAll bs) bs
+rest bs = arenaAfter (erasingAll bs) bs
 
 -- what stays, and its new number
 abbrev pub kept : List ℕ → ℕ → Bool
@@ -141,9 +144,10 @@ pub record Free (bs : List ℕ) (goes : ℕ → Bool) : Type 0 where
   pub no-parent : (n : ℕ) → 0 < n → n < size (decode bs) → goes n ≡ false → goes (node bs n .parent) ≡ false
   pub no-origin : (n : ℕ) → 0 < n → n < size (decode bs) → goes n ≡ false → goes (node bs n .origin) ≡ false
 
--- "ordering afresh changes nothing": the call is accepted and leaves every byte; and "Ordering afresh sorts and walks anew, a finalized graph too"
+-- "ordering afresh changes nothing": the call is accepted and leaves every byte; and "Ordering
+-- afresh sorts and walks anew, a finalized graph too"
 pub record Afresh (bs : List ℕ) : Type 0 where
-  pub accepted : comesTo ordering bs .refused ≡ 0
+  pub accepted : outcome ordering bs .refused ≡ 0
   pub bytes : step ordering bs ≡ bs
   pub has-order : order.hasOrder (decode bs) ≡ true
   pub anew : order.ordering (decode bs) ≡ decode bs
@@ -157,9 +161,11 @@ pub record Erased (bs : List ℕ) : Type 0 where
   -- "none was parent or origin of a kept one"
   pub parents-kept : (n : ℕ) → 0 < n → n < size (decode bs) → kept bs n ≡ true → kept bs (node bs n .parent) ≡ true
   pub origins-kept : (n : ℕ) → 0 < n → n < size (decode bs) → kept bs n ≡ true → kept bs (node bs n .origin) ≡ true
-  -- "and every set of marked nodes that no node outside it had as parent or origin lies within what went"
+  -- "and every set of marked nodes that no node outside it had as parent or origin lies within what
+  -- went"
   pub largest : (goes : ℕ → Bool) → Free bs goes → (n : ℕ) → n < size (decode bs) → goes n ≡ true → kept bs n ≡ false
-  -- "the rest stand as before": the fields a snapshot holds are unchanged but for the renumbering of parent and origin; chains lose only what went
+  -- "the rest stand as before": the fields a snapshot holds are unchanged but for the renumbering
+  -- of parent and origin; chains lose only what went
   pub fields-stand : (n : ℕ) → n < size (decode bs) → kept bs n ≡ true → node (rest bs) (new bs n) ≡ renumbered (kept bs) (size (decode bs)) (node bs n)
   pub chains-stand : (n : ℕ) → n < size (decode bs) → kept bs n ≡ true
       → childrenOf (decode (rest bs)) (new bs n) ≡ map (new bs) (filter (kept bs) (childrenOf (decode bs) n))
@@ -181,12 +187,13 @@ pub record Deepened (bs : List ℕ) (child : Slice) : Type 0 where
 
 pub record Demand3 (bs : List ℕ) : Type 0 where
   -- questions 1 and 2 never refuse the arena
-  pub opened : Opened bs
+  pub opened : ValidArena bs
   pub listed : decode bs .ordered ≡ true → Listed bs
   -- without a node 0 erasing is refused 3, and there is nothing to erase
   pub erased : 0 < size (decode bs) → Erased bs
   pub deepened : decode bs .finalized ≡ true → (child : Slice) → Deepened bs child
 
--- "For every list of the calls that write a graph ..., refused ones included, ... this holds after it."
+-- "For every list of the calls that write a graph ..., refused ones included, ... this holds after
+-- it."
 abbrev pub Demand3AfterEveryList : Type 0
 Demand3AfterEveryList = (bs : List ℕ) → Start bs → (cs : List Write) → Demand3 (steps cs bs)

@@ -1,10 +1,11 @@
--- That a function of the code makes a call of specs/Demand3.antt: whatever arguments of `Write` have these numbers and bytes, the arena
--- after it is the step; and of seeding, which fills a second arena, that it ends as `seeding` does.
+-- That a function of the code makes a call of specs/Demand3.antt: whatever arguments of `Write`
+-- have these numbers and bytes, the arena after it is the step; and of seeding, which fills a
+-- second arena, that it ends as `seeding` does.
 use mathlib.Core.Path.{_≡_}
 use mathlib.Core.List.{List}
 use Prim.Native.Nat.{ℕ}
 use Rattle.model.specs.ArenaCalls.{Finishes}
-use Rattle.model.specs.declared.Finished.{Finished}
+use Rattle.model.specs.declared.UnitResult.{UnitResult}
 use Rattle.nodes.specs.declared.description.NodeDesc.{NodeDesc}
 use Rattle.call_sequences.specs.Demand3.{U32, Slice, DescFits, starting, adding, ordering, culling, erasing, deepening, reading, step, seeding}
 
@@ -30,5 +31,5 @@ Deepens child before after = (c : Slice) → c .bytes ≡ child → after ≡ st
 abbrev pub Reads : List ℕ → List ℕ → List ℕ → Type 0
 Reads snapshot before after = (s : Slice) → s .bytes ≡ snapshot → after ≡ step (reading s) before
 
-abbrev pub Seeds : List ℕ → List ℕ → List ℕ → Finished → List ℕ → Type 0
+abbrev pub Seeds : List ℕ → List ℕ → List ℕ → UnitResult → List ℕ → Type 0
 Seeds child from before r after = (c : Slice) → c .bytes ≡ child → Finishes (seeding c from before) before r after

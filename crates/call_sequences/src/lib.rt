@@ -1,62 +1,64 @@
-// What the firm asked of every list of the calls that write a graph (demand 3), of the bytes. specs/Demand3.antt states it and proofs/Demand3Proof.antt proves it.
-// Each function here makes one of its calls and no more, to say by its contract that what the code leaves is the step of the list (specs/Steps.antt).
+// What the firm asked of every list of the calls that write a graph (demand 3), of the bytes.
+// specs/Demand3.antt states it and proofs/Demand3Proof.antt proves it. Each function here makes one
+// of its calls and no more, to say by its contract that what the code leaves is the step of the
+// list (specs/Steps.antt).
 
-use model::Finished;
-use model::Numbered;
+use model::NumberResult;
+use model::UnitResult;
 use nodes::NodeDesc;
 ghost use Rattle.call_sequences.specs.Steps.{Starts, Adds, Orders, Culls, Erases, Deepens, Reads, Seeds};
 
 // The call `starting`.
-pub fn start(arena: &mut [u8], stack: u32, layer: u32, path: &[u8]) -> Numbered
+pub fn start(arena: &mut [u8], stack: u32, layer: u32, path: &[u8]) -> NumberResult
     ensures { λ _. ⌜ Starts stack layer (now (path .entry)) (now (arena .entry)) (now (arena .exit)) ⌝ }
 {
     prim_graph::init_root(arena, stack, layer, path)
 }
 
 // The call `adding`.
-pub fn add(arena: &mut [u8], desc: NodeDesc, path: &[u8]) -> Numbered
+pub fn add(arena: &mut [u8], desc: NodeDesc, path: &[u8]) -> NumberResult
     ensures { λ _. ⌜ Adds desc (now (path .entry)) (now (arena .entry)) (now (arena .exit)) ⌝ }
 {
     prim_graph::add_child(arena, desc, path)
 }
 
 // The call `ordering`.
-pub fn order(arena: &mut [u8]) -> Finished
+pub fn order(arena: &mut [u8]) -> UnitResult
     ensures { λ _. ⌜ Orders (now (arena .entry)) (now (arena .exit)) ⌝ }
 {
     prim_graph::finalize_strength_order(arena)
 }
 
 // The call `culling`.
-pub fn cull(arena: &mut [u8]) -> Finished
+pub fn cull(arena: &mut [u8]) -> UnitResult
     ensures { λ _. ⌜ Culls (now (arena .entry)) (now (arena .exit)) ⌝ }
 {
     prim_graph::cull_subtrees_without_opinions(arena)
 }
 
 // The call `erasing`.
-pub fn erase(arena: &mut [u8], set: &[u8]) -> Numbered
+pub fn erase(arena: &mut [u8], set: &[u8]) -> NumberResult
     ensures { λ _. ⌜ Erases (now (set .entry)) (now (arena .entry)) (now (arena .exit)) ⌝ }
 {
     prim_graph::erase(arena, set)
 }
 
 // The call `deepening`.
-pub fn deepen(arena: &mut [u8], child: &[u8]) -> Finished
+pub fn deepen(arena: &mut [u8], child: &[u8]) -> UnitResult
     ensures { λ _. ⌜ Deepens (now (child .entry)) (now (arena .entry)) (now (arena .exit)) ⌝ }
 {
     prim_graph::append_child_name_to_all_sites(arena, child)
 }
 
 // The call `reading`.
-pub fn read(arena: &mut [u8], snapshot: &[u8]) -> Numbered
+pub fn read(arena: &mut [u8], snapshot: &[u8]) -> NumberResult
     ensures { λ _. ⌜ Reads (now (snapshot .entry)) (now (arena .entry)) (now (arena .exit)) ⌝ }
 {
     prim_graph::read_snapshot(arena, snapshot)
 }
 
 // Seeding, which fills a second arena: where it is done, that one is where a list may begin.
-pub fn seed(from: &[u8], into: &mut [u8], child: &[u8]) -> Finished
+pub fn seed(from: &[u8], into: &mut [u8], child: &[u8]) -> UnitResult
     ensures { λ r. ⌜ Seeds (now (child .entry)) (now (from .entry)) (now (into .entry)) r (now (into .exit)) ⌝ }
 {
     prim_graph::seed_child(from, into, child)

@@ -3,7 +3,8 @@ use crate::lines;
 use crate::lines::State;
 use libc::STDIN_FILENO;
 
-// What is left where a block ends: how many bytes there are of the line that goes on in the next one, and whether the arenas are swapped.
+// What is left where a block ends: how many bytes there are of the line that goes on in the next
+// one, and whether the arenas are swapped.
 struct Rest {
     held: usize,
     swapped: bool,
@@ -45,7 +46,8 @@ fn answer_line(
     }
 }
 
-// Answers each line that ends in `block`, the first of them begun by `held` bytes in `line`, and writes the answers.
+// Answers each line that ends in `block`, the first of them begun by `held` bytes in `line`, and
+// writes the answers.
 fn answer_block(
     block: &[u8],
     line: &mut [u8],
@@ -77,8 +79,9 @@ fn answer_block(
     }
 }
 
-// Answers each line that ends in a newline, block by block, until the input ends or a read fails. A proved loop has to end, and nothing says
-// that the input does: so it counts its turns down, from a number that no run uses up.
+// Answers each line that ends in a newline, block by block, until the input ends or a read fails. A
+// proved loop has to end, and nothing says that the input does: so it counts its turns down, from a
+// number that no run uses up.
 fn answer_blocks(
     block: &mut [u8],
     line: &mut [u8],
@@ -123,7 +126,8 @@ fn answer_rest(
     }
 }
 
-// Answers all of standard input. The buffer for a line is as long as an arena, since every further length of a large array is dear to check.
+// Answers all of standard input. The buffer for a line is as long as an arena, since every further
+// length of a large array is dear to check.
 pub(crate) fn answer_input() {
     let mut block = io::large_buffer();
     let mut line = command_io::zeros();

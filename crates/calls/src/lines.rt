@@ -1,14 +1,16 @@
-// The answer to any line, the two arenas that the lines work on, and a third where one of them is saved. The lines about more than one arena are here; the
-// others are answered by the crates `calls_make`, `calls_change`, `calls_look`, `calls_compare` and `calls_paths`.
+// The answer to any line, the two arenas that the lines work on, and a third where one of them is
+// saved. The lines about more than one arena are here; the others are answered by the crates
+// `calls_make`, `calls_change`, `calls_look`, `calls_compare` and `calls_paths`.
 use calls_text::Answered;
 use calls_text::bad_line;
 use calls_text::is_call;
 use calls_text::put;
 use calls_text::put_refusal;
 use calls_text::word;
-use model::Finished;
+use model::UnitResult;
 
-// What goes on from line to line: how many bytes of the output are used, and whether the second arena is the current one.
+// What goes on from line to line: how many bytes of the output are used, and whether the second
+// arena is the current one.
 pub(crate) struct State {
     pub(crate) used: usize,
     pub(crate) swapped: bool,
@@ -72,7 +74,8 @@ pub(crate) fn answer(
     }
 }
 
-// `seed PATH`: the other arena filled from the current one. It then is the current one, unless the call is refused.
+// `seed PATH`: the other arena filled from the current one. It then is the current one, unless the
+// call is refused.
 fn seed_line(
     line: &[u8],
     current: &[u8],
@@ -83,18 +86,19 @@ fn seed_line(
 ) -> State {
     let seeded = prim_graph::seed_child(current, other, word(line, 1));
     match seeded {
-        Finished::Done => State {
+        UnitResult::Done => State {
             used: put(out, used, b"ok"),
             swapped: !swapped,
         },
-        Finished::Refused(refusal) => State {
+        UnitResult::Refused(refusal) => State {
             used: put_refusal(out, used, refusal),
             swapped,
         },
     }
 }
 
-// `save` and `restore`: the arena copied to the saved one, and back. `rubbish`: bytes that hold no graph. Else the answer to a line on the arena alone.
+// `save` and `restore`: the arena copied to the saved one, and back. `rubbish`: bytes that hold no
+// graph. Else the answer to a line on the arena alone.
 fn answer_saving(
     line: &[u8],
     arena: &mut [u8],
@@ -117,7 +121,8 @@ fn answer_saving(
     answer_on(line, arena, out, used)
 }
 
-// The answer to a line on one arena: none to an empty one. A further kind of line is a row in the crate that answers its like.
+// The answer to a line on one arena: none to an empty one. A further kind of line is a row in the
+// crate that answers its like.
 fn answer_on(line: &[u8], arena: &mut [u8], out: &mut [u8], used: usize) -> usize {
     if line.len() == 0 {
         return used;

@@ -2,15 +2,15 @@
 use calls_text::put_between;
 use calls_text::put_number;
 use calls_text::put_refusal;
-use model::Numbered;
+use model::NumberResult;
 use prim_graph::NodeRead;
 
 // `chains`: each node's children in their order, joined by `,`, the nodes joined by `;`.
 pub(crate) fn chains_line(arena: &[u8], out: &mut [u8], used: usize) -> usize {
     let read = prim_graph::count(arena);
     match read {
-        Numbered::Number(count) => put_lists(arena, count, out, used),
-        Numbered::Refused(refusal) => put_refusal(out, used, refusal),
+        NumberResult::Number(count) => put_lists(arena, count, out, used),
+        NumberResult::Refused(refusal) => put_refusal(out, used, refusal),
     }
 }
 
@@ -59,7 +59,8 @@ fn put_each(first: &[usize], next: &[usize], count: usize, out: &mut [u8], used:
     end
 }
 
-// The list that starts with `first`. A number that is no place of `next` is no node and ends it; a list has no more nodes than `next` places.
+// The list that starts with `first`. A number that is no place of `next` is no node and ends it; a
+// list has no more nodes than `next` places.
 fn put_list(first: usize, next: &[usize], out: &mut [u8], used: usize) -> usize {
     let mut end = used;
     let mut child = first;

@@ -7,8 +7,8 @@ use calls_text::put;
 use calls_text::put_refusal;
 use calls_text::read_number;
 use calls_text::word;
-use model::Compared;
 use model::Ordering;
+use model::OrderingResult;
 
 // The two nodes of a line, or that a word is no number.
 pub(crate) enum Pair {
@@ -68,10 +68,10 @@ fn sibling_line(line: &[u8], arena: &[u8], out: &mut [u8], used: usize) -> usize
     }
 }
 
-fn put_compared(compared: Compared, out: &mut [u8], used: usize) -> usize {
+fn put_compared(compared: OrderingResult, out: &mut [u8], used: usize) -> usize {
     match compared {
-        Compared::As(order) => put_order(order, out, used),
-        Compared::Refused(refusal) => put_refusal(out, used, refusal),
+        OrderingResult::As(order) => put_order(order, out, used),
+        OrderingResult::Refused(refusal) => put_refusal(out, used, refusal),
     }
 }
 

@@ -11,7 +11,7 @@ use calls_text::put_numbered;
 use calls_text::put_refusal;
 use calls_text::read_number;
 use calls_text::word;
-use model::Numbered;
+use model::NumberResult;
 use prim_graph::GraphRead;
 
 // The answer to a line that looks at the whole graph, or at its nodes.
@@ -55,8 +55,8 @@ fn write_line(arena: &[u8], out: &mut [u8], used: usize) -> usize {
     let mut snapshot = io::large_buffer();
     let written = prim_graph::write_snapshot(arena, &mut snapshot);
     match written {
-        Numbered::Number(length) => put_bytes(out, used, front(&snapshot, length as usize)),
-        Numbered::Refused(refusal) => put_refusal(out, used, refusal),
+        NumberResult::Number(length) => put_bytes(out, used, front(&snapshot, length as usize)),
+        NumberResult::Refused(refusal) => put_refusal(out, used, refusal),
     }
 }
 

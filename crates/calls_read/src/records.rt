@@ -4,15 +4,16 @@ use calls_text::put;
 use calls_text::put_between;
 use calls_text::put_number;
 use calls_text::put_refusal;
-use model::Numbered;
+use model::NumberResult;
 use prim_graph::NodeRead;
 
-// `dump`: `arc,flags,stack,layer,parent,origin,depth,sibling,restriction,specfrom,hasspecs,path` of each node, joined by `;`.
+// `dump`: `arc,flags,stack,layer,parent,origin,depth,sibling,restriction,specfrom,hasspecs,path` of
+// each node, joined by `;`.
 pub(crate) fn dump_line(arena: &[u8], out: &mut [u8], used: usize) -> usize {
     let read = prim_graph::count(arena);
     match read {
-        Numbered::Number(count) => put_nodes(arena, count, out, used),
-        Numbered::Refused(refusal) => put_refusal(out, used, refusal),
+        NumberResult::Number(count) => put_nodes(arena, count, out, used),
+        NumberResult::Refused(refusal) => put_refusal(out, used, refusal),
     }
 }
 

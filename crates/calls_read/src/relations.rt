@@ -1,4 +1,5 @@
-// The lines on what the comparison asks of nodes. They are lines of our own: document 01 has no sentence for these calls of the Rust.
+// The lines on what the comparison asks of nodes. They are lines of our own: document 01 has no
+// sentence for these calls of the Rust.
 use crate::compare::Pair;
 use crate::compare::read_pair;
 use calls_text::Answered;
@@ -12,7 +13,7 @@ use calls_text::put_number;
 use calls_text::put_refusal;
 use calls_text::read_number;
 use calls_text::word;
-use model::Tested;
+use model::BoolResult;
 use strength::calls::HierarchyRead;
 
 // The answer to such a line.
@@ -95,9 +96,9 @@ fn class_line(line: &[u8], arena: &[u8], out: &mut [u8], used: usize) -> usize {
 }
 
 // 1 for yes and 0 for no.
-fn put_tested(tested: Tested, out: &mut [u8], used: usize) -> usize {
+fn put_tested(tested: BoolResult, out: &mut [u8], used: usize) -> usize {
     match tested {
-        Tested::Is(yes) => put_number(out, used, yes as u64),
-        Tested::Refused(refusal) => put_refusal(out, used, refusal),
+        BoolResult::Is(yes) => put_number(out, used, yes as u64),
+        BoolResult::Refused(refusal) => put_refusal(out, used, refusal),
     }
 }

@@ -1,12 +1,12 @@
 // The answers that every kind of line shares.
 use crate::output::put;
 use crate::output::put_number;
-use model::Finished;
-use model::Numbered;
+use model::NumberResult;
 use model::Refusal;
+use model::UnitResult;
 
-// What a crate that answers some kinds of lines says to any line: how many bytes of the output are used behind its answer, or that the line is
-// of no kind that it knows.
+// What a crate that answers some kinds of lines says to any line: how many bytes of the output are
+// used behind its answer, or that the line is of no kind that it knows.
 pub enum Answered {
     Used(usize),
     Unknown,
@@ -24,18 +24,18 @@ pub fn put_refusal(out: &mut [u8], used: usize, refusal: Refusal) -> usize {
 }
 
 // The answer to a call that gives nothing.
-pub fn put_finished(out: &mut [u8], used: usize, answer: Finished) -> usize {
+pub fn put_finished(out: &mut [u8], used: usize, answer: UnitResult) -> usize {
     match answer {
-        Finished::Done => put(out, used, b"ok"),
-        Finished::Refused(refusal) => put_refusal(out, used, refusal),
+        UnitResult::Done => put(out, used, b"ok"),
+        UnitResult::Refused(refusal) => put_refusal(out, used, refusal),
     }
 }
 
 // The answer to a call that gives a number.
-pub fn put_numbered(out: &mut [u8], used: usize, answer: Numbered) -> usize {
+pub fn put_numbered(out: &mut [u8], used: usize, answer: NumberResult) -> usize {
     match answer {
-        Numbered::Number(number) => put_number(out, used, number as u64),
-        Numbered::Refused(refusal) => put_refusal(out, used, refusal),
+        NumberResult::Number(number) => put_number(out, used, number as u64),
+        NumberResult::Refused(refusal) => put_refusal(out, used, refusal),
     }
 }
 
@@ -48,9 +48,9 @@ pub fn put_node(out: &mut [u8], used: usize, number: u32) -> usize {
 }
 
 // The answer to a call that gives a node's number, or none.
-pub fn put_found(out: &mut [u8], used: usize, answer: Numbered) -> usize {
+pub fn put_found(out: &mut [u8], used: usize, answer: NumberResult) -> usize {
     match answer {
-        Numbered::Number(number) => put_node(out, used, number),
-        Numbered::Refused(refusal) => put_refusal(out, used, refusal),
+        NumberResult::Number(number) => put_node(out, used, number),
+        NumberResult::Refused(refusal) => put_refusal(out, used, refusal),
     }
 }

@@ -40,8 +40,8 @@ fn pair(high: u8, low: u8) -> u16 {
     first * 16 + second
 }
 
-// Puts the bytes that the word spells at the front of `bytes`. What that holds after a bad word, or one of more bytes than it has, is left
-// free.
+// Puts the bytes that the word spells at the front of `bytes`. What that holds after a bad word, or
+// one of more bytes than it has, is left free.
 pub fn read_bytes(word: &[u8], bytes: &mut [u8]) -> Bytes {
     let mut at: usize = 0;
     let mut count: usize = 0;

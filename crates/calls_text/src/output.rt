@@ -1,5 +1,6 @@
-// The output. Bytes wait in a buffer, beside the number of them that are used, until they would pass its end or a block of input is
-// answered: so a file is answered in few writes, and a person at once. A write that fails goes unnoticed.
+// The output. Bytes wait in a buffer, beside the number of them that are used, until they would
+// pass its end or a block of input is answered: so a file is answered in few writes, and a person
+// at once. A write that fails goes unnoticed.
 use libc::STDOUT_FILENO;
 ghost use Prim.Native.Nat.{_≤_};
 ghost use lib.ListN.{length};
@@ -11,7 +12,8 @@ pub fn flush(out: &[u8], used: usize) {
     }
 }
 
-// Where `more` bytes are to go: after the first `used`, or where those leave too little room, at the front, once they are written.
+// Where `more` bytes are to go: after the first `used`, or where those leave too little room, at
+// the front, once they are written.
 fn place(out: &[u8], used: usize, more: usize) -> usize
     ensures { λ r. ⌜ r ≤ length (now (out .entry)) ⌝ }
 {
@@ -24,8 +26,8 @@ fn place(out: &[u8], used: usize, more: usize) -> usize
     0
 }
 
-// Puts `bytes` after the first `used` of `out`, and answers how many are then used. Bytes that the whole buffer cannot hold are written
-// at once.
+// Puts `bytes` after the first `used` of `out`, and answers how many are then used. Bytes that the
+// whole buffer cannot hold are written at once.
 pub fn put(out: &mut [u8], used: usize, bytes: &[u8]) -> usize {
     let start = place(out, used, bytes.len());
     if out.len() - start < bytes.len() {

@@ -32,7 +32,8 @@ fn begins(line: &[u8], name: &[u8]) -> bool {
     true
 }
 
-// How many words the line has, or 0 where one of them is empty: where the line begins or ends in a space, or has two in a row.
+// How many words the line has, or 0 where one of them is empty: where the line begins or ends in a
+// space, or has two in a row.
 fn count(line: &[u8]) -> usize {
     let mut words: usize = 0;
     let mut at: usize = 0;

@@ -4,16 +4,16 @@ use calls_text::put_number;
 use calls_text::put_numbered;
 use calls_text::put_refusal;
 use calls_text::word;
-use model::Finished;
-use model::Numbered;
+use model::NumberResult;
+use model::UnitResult;
 
 // `erasable`: a digit for each node, 1 for one that may go.
 pub(crate) fn erasable_line(arena: &[u8], out: &mut [u8], used: usize) -> usize {
     let mut set = [0u8; 1024];
     let found = prim_graph::erasable(arena, &mut set);
     match found {
-        Finished::Done => put_set(&set, prim_graph::count(arena), out, used),
-        Finished::Refused(refusal) => put_refusal(out, used, refusal),
+        UnitResult::Done => put_set(&set, prim_graph::count(arena), out, used),
+        UnitResult::Refused(refusal) => put_refusal(out, used, refusal),
     }
 }
 
@@ -22,8 +22,8 @@ fn put_byte(out: &mut [u8], used: usize, byte: u8) -> usize {
 }
 
 // The bytes of the first nodes, as many as were counted.
-fn put_set(set: &[u8], counted: Numbered, out: &mut [u8], used: usize) -> usize {
-    let Numbered::Number(count) = counted else {
+fn put_set(set: &[u8], counted: NumberResult, out: &mut [u8], used: usize) -> usize {
+    let NumberResult::Number(count) = counted else {
         return used;
     };
     let mut end = used;
@@ -38,7 +38,8 @@ fn put_set(set: &[u8], counted: Numbered, out: &mut [u8], used: usize) -> usize 
     end
 }
 
-// `erase BITS`: how many nodes are kept. A node that has no digit stays; any digit is taken as the byte that it is, so that a wrong one can be tried.
+// `erase BITS`: how many nodes are kept. A node that has no digit stays; any digit is taken as the
+// byte that it is, so that a wrong one can be tried.
 pub(crate) fn erase_line(line: &[u8], arena: &mut [u8], out: &mut [u8], used: usize) -> usize {
     let mut set = [0u8; 1024];
     if !read_set(word(line, 1), &mut set) {
@@ -48,7 +49,8 @@ pub(crate) fn erase_line(line: &[u8], arena: &mut [u8], out: &mut [u8], used: us
     put_numbered(out, used, erased)
 }
 
-// Reads a digit for each node, and answers whether there are digits only, and not more than the set has bytes.
+// Reads a digit for each node, and answers whether there are digits only, and not more than the set
+// has bytes.
 fn read_set(digits: &[u8], set: &mut [u8]) -> bool {
     let mut i: usize = 0;
     while i < digits.len() {

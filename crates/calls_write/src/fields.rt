@@ -1,5 +1,5 @@
-// The eleven numbers of an `add` line, in the order of the line: parent, arc, flags, stack, layer, origin, depth, sibling, restriction, spec_from,
-// has-specs.
+// The eleven numbers of an `add` line, in the order of the line: parent, arc, flags, stack, layer,
+// origin, depth, sibling, restriction, spec_from, has-specs.
 use calls_text::Number;
 use calls_text::read_number;
 use model::NodeId;
@@ -46,7 +46,8 @@ fn read_field(word: &[u8], k: usize) -> Number {
     Number::Value(number)
 }
 
-// Fills `numbers` from the words after the first, and answers whether each is a number of its field.
+// Fills `numbers` from the words after the first, and answers whether each is a number of its
+// field.
 pub(crate) fn read(line: &[u8], numbers: &mut [u32]) -> bool {
     let mut at = bytes::scan::find(line, 0, line.len(), b' ');
     let mut k: usize = 0;

@@ -2,15 +2,15 @@
 use calls_text::put_between;
 use calls_text::put_number;
 use calls_text::put_refusal;
-use model::Numbered;
+use model::NumberResult;
 
 // `list`: the order.
 pub(crate) fn list_line(arena: &[u8], out: &mut [u8], used: usize) -> usize {
     let mut order = io::buffer();
     let read = prim_graph::strength_order(arena, &mut order);
     match read {
-        Numbered::Number(count) => put_entries(&order, count, out, used),
-        Numbered::Refused(refusal) => put_refusal(out, used, refusal),
+        NumberResult::Number(count) => put_entries(&order, count, out, used),
+        NumberResult::Refused(refusal) => put_refusal(out, used, refusal),
     }
 }
 

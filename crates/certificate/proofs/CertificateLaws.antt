@@ -1,5 +1,7 @@
--- The certificate of all lists: the loop over a node's list whose branches have their places one after the other (`Fitting`), the loop over all nodes
--- (`Certifying`), each with its start, step and end; and why lists that pass are the graph's in its order (`certifying-ends`). Assumes nothing.
+-- The certificate of all lists: the loop over a node's list whose branches have their places one
+-- after the other (`Fitting`), the loop over all nodes (`Certifying`), each with its start, step
+-- and end; and why lists that pass are the graph's in its order (`certifying-ends`). Assumes
+-- nothing.
 use mathlib.Core.Path.{_≡_, refl, _∙_}
 use mathlib.Core.Logic.{_⊎_, inl, inr}
 use mathlib.Core.Bool.{true}
@@ -13,7 +15,7 @@ use lib.Seq.{slice, slice-cons}
 use Rattle.model.specs.Lists.{SameCounts}
 use Rattle.model.specs.Graph.{size, childrenOf}
 use Rattle.model.specs.Arena.{countIn, decode}
-use Rattle.model.specs.ArenaCalls.{Opened}
+use Rattle.model.specs.ArenaCalls.{ValidArena}
 use Rattle.model.specs.Places.{Fits, Certified}
 use Rattle.laws.proofs.Trees.{TreeOf}
 use Rattle.laws.proofs.OrderPlaces.{certified-permute, certified-order}
@@ -105,7 +107,7 @@ module _ {bs sorted ends places stops : List ℕ} {start parent : ℕ} (w : Cert
       lines-more p (inl e) = rw (e, ← w .started) lines
       lines-more p (inr h) = w .lines p h
 
-module _ {bs sorted ends places stops : List ℕ} (o : Opened bs) (tree : TreeOf (decode bs)) (long : length sorted ≡ 1024) {start parent : ℕ}
+module _ {bs sorted ends places stops : List ℕ} (o : ValidArena bs) (tree : TreeOf (decode bs)) (long : length sorted ≡ 1024) {start parent : ℕ}
     (w : Certifying bs sorted ends places stops start parent) (done : countIn bs ≤ parent) where
   part-at : (v : ℕ) → v < countIn bs → Part bs sorted v (startOf ends v) (getD ends v 0)
   part-at v h = w .fits v (omega arith) .part

@@ -1,6 +1,7 @@
--- The certificate's tests on a part of a list: what an entry says (`IsEntry`), one depth or rank (`Alike`), each child against the next
--- (`Neighbouring`), each against all later ones (`Pairing`, `Facing`), and one run of a rank after the other (`Ranking`), each loop with its start,
--- step and end. Assumes nothing.
+-- The certificate's tests on a part of a list: what an entry says (`IsEntry`), one depth or rank
+-- (`Alike`), each child against the next (`Neighbouring`), each against all later ones (`Pairing`,
+-- `Facing`), and one run of a rank after the other (`Ranking`), each loop with its start, step and
+-- end. Assumes nothing.
 use mathlib.Core.Path.{_≡_, refl, sym, ap, _∙_}
 use mathlib.Core.Logic.{_⊎_, inl, inr}
 use mathlib.Core.Bool.{Bool, true, false, not, _||_}
@@ -13,7 +14,7 @@ use lib.ListN.{length, getD}
 use lib.Seq.{slice}
 use Rattle.model.specs.declared.Ordering.{Ordering}
 use Rattle.model.specs.Arena.{countIn}
-use Rattle.model.specs.ArenaCalls.{Opened}
+use Rattle.model.specs.ArenaCalls.{ValidArena}
 use Rattle.model.specs.Lists.{bit}
 use Rattle.model.specs.Order.{isLess}
 use Rattle.model.specs.Places.{byPlace}
@@ -125,7 +126,7 @@ part-child {bs} {sorted} {v} {start} {end} long part =
     all-each sorted end (omega (arith, part .high)) (ChildOf bs v) start (part .low) (part .children)
 
 -- a graph's arcs rank low
-pub rank-low : {bs : List ℕ} (o : Opened bs) (c : ℕ) → c < countIn bs → viewIn bs .rank c ≤ 6
+pub rank-low : {bs : List ℕ} (o : ValidArena bs) (c : ℕ) → c < countIn bs → viewIn bs .rank c ≤ 6
 rank-low {bs} o c h =
     let all = held bs (o .holds) in
     let same = fresh-nodes bs all in
@@ -178,7 +179,7 @@ module _ {bs places sorted : List ℕ} {v start end : ℕ} where
       next = next-more sorted (KeyLess (viewIn bs) (placeIn places)) i (w .next) less;
     }
 
-    pub neighbouring-ends : Opened bs → length sorted ≡ 1024 → end ≤ 1024 → end ≤ i + 1 → ByLines bs places (slice start end sorted)
+    pub neighbouring-ends : ValidArena bs → length sorted ≡ 1024 → end ≤ 1024 → end ≤ i + 1 → ByLines bs places (slice start end sorted)
     neighbouring-ends o long high done =
         neighbours-sorted (legal bs o) v (placeIn places) (slice start end sorted)
         (each-all sorted end (omega arith) (Keyed (countIn bs) (viewIn bs) v) start (omega (arith, w .low, w .here))

@@ -1,5 +1,7 @@
--- The certificate's test by neighbours among copies: what the lines on two entries say (`root-follows` to `origin-follows`), the authored ones that
--- rise (`UpTo`), and the loop that tests each child against the one before it (`Copying`), with its start, step and end. Assumes nothing.
+-- The certificate's test by neighbours among copies: what the lines on two entries say
+-- (`root-follows` to `origin-follows`), the authored ones that rise (`UpTo`), and the loop that
+-- tests each child against the one before it (`Copying`), with its start, step and end. Assumes
+-- nothing.
 use mathlib.Core.Path.{_≡_, refl, sym, ap, _∙_}
 use mathlib.Core.Bool.{Bool, true, false, Bool·beq, not, _&&_, cond, false≢true}
 use mathlib.Core.List.{List}
@@ -11,7 +13,7 @@ use lib.Seq.{slice}
 use Rattle.model.specs.declared.Ordering.{Ordering}
 use Rattle.model.specs.declared.Ordering.the-variants.{Less, Equal}
 use Rattle.model.specs.Arena.{countIn}
-use Rattle.model.specs.ArenaCalls.{Opened}
+use Rattle.model.specs.ArenaCalls.{ValidArena}
 use Rattle.model.specs.Lists.{Pairs}
 use Rattle.model.specs.Order.{isLess}
 use Rattle.model.specs.Places.{byPlace}
@@ -214,7 +216,8 @@ module _ {u : View} {d : ℕ} {e : Entry} (entry : IsEntry u d e) where
 abbrev OfRoot : View → ℕ → ℕ → Type 0
 OfRoot u d c = originRootNode u c ≡ originRootNode u d
 
--- up to i all are HAS_SPECIALIZES, of one R where depths differ, each follows the one before it, and the authored ones rise; `last` is the one at i
+-- up to i all are HAS_SPECIALIZES, of one R where depths differ, each follows the one before it,
+-- and the authored ones rise; `last` is the one at i
 pub record Copying (bs places sorted : List ℕ) (start end : ℕ) (uneven : Bool) (last : Entry) (sibling node i : ℕ) : Type 0 where
   pub low : start ≤ i
   pub here : i < end
@@ -264,7 +267,7 @@ module _ {bs places sorted : List ℕ} {start end : ℕ} {uneven : Bool} where
             let e : j ≡ i + 1 = omega arith in
             rw e (up-to-rises entry over (w .up-to k a b))
 
-    pub copying-ends : {v : ℕ} → Opened bs → length sorted ≡ 1024 → Part bs sorted v start end → OneRank bs sorted start end
+    pub copying-ends : {v : ℕ} → ValidArena bs → length sorted ≡ 1024 → Part bs sorted v start end → OneRank bs sorted start end
         → (uneven ≡ false → OneDepth bs sorted start end) → end ≤ i + 1 → ByLines bs places (slice start end sorted)
     copying-ends {v} o long part one-rank one-depth done =
         copies-sorted (legal bs o) v (viewIn bs .rank (getD sorted start 0)) (placeIn places) (slice start end sorted)

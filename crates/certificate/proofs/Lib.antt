@@ -1,4 +1,5 @@
--- Parts of an array; the children of a node; lists that stand one after the other and are the graph's order; and the certificate's loops.
+-- Parts of an array; the children of a node; lists that stand one after the other and are the
+-- graph's order; and the certificate's loops.
 pub mod SliceLaws
 pub mod CertificateChildren
 pub mod SortsLaws

@@ -1,4 +1,5 @@
--- Parts of an array by their indices: what holds at each index, at each and the next, and at each and every later one. Assumes nothing.
+-- Parts of an array by their indices: what holds at each index, at each and the next, and at each
+-- and every later one. Assumes nothing.
 use mathlib.Core.Path.{_≡_, refl}
 use mathlib.Core.Logic.{_⊎_, inl, inr}
 use mathlib.Core.List.{List, [], _∷_}

@@ -1,5 +1,5 @@
--- What the certificate of an order reads, and what it shows: lists that stand in order by document 01's lines, node strength being read off places
--- (model/specs/Places.antt).
+-- What the certificate of an order reads, and what it shows: lists that stand in order by document
+-- 01's lines, node strength being read off places (model/specs/Places.antt).
 use mathlib.Core.Path.{_≡_}
 use mathlib.Core.Bool.{Bool, true}
 use mathlib.Core.List.{List}
@@ -7,7 +7,7 @@ use Prim.Native.Nat.{ℕ, suc, _≤_, _<_}
 use lib.ListN.{length, getD}
 use lib.Seq.{slice}
 use Rattle.model.specs.Arena.{countIn, decode}
-use Rattle.model.specs.ArenaCalls.{Opened}
+use Rattle.model.specs.ArenaCalls.{ValidArena}
 use Rattle.model.specs.Lists.{All}
 use Rattle.model.specs.Order.{isLess, Sorted}
 use Rattle.model.specs.Places.{byPlace, Fits}
@@ -33,7 +33,8 @@ abbrev pub IsBefore : List ℕ → Entry → Entry → Bool → Bool → Type 0
 IsBefore places a b nested r =
     (u : View) → EntryOf u a → EntryOf u b → NestedKnown a b nested u → r ≡ isLess (siblingLines u (byPlace (placeIn places)) (a .node) (b .node))
 
--- b follows a by the lines that pass on from neighbour to neighbour, wherever the entries are the view's
+-- b follows a by the lines that pass on from neighbour to neighbour, wherever the entries are the
+-- view's
 abbrev pub FollowsBy : List ℕ → Entry → Entry → Bool → Type 0
 FollowsBy places a b r = r ≡ true → (u : View) → EntryOf u a → EntryOf u b → Follows u (placeIn places) (a .node) (b .node)
 
@@ -56,7 +57,7 @@ RisesOver sibling node e = e .authored ≡ true → (sibling ≤ e .sibling) × 
 
 -- the arena holds a graph, and the table is of its nodes
 pub record Given (bs table sorted : List ℕ) : Type 0 where
-  pub opened : Opened bs
+  pub opened : ValidArena bs
   pub tabled : Tabled bs table
   pub long : length sorted ≡ 1024
 
@@ -93,7 +94,8 @@ pub record RunEnd (bs sorted : List ℕ) (start end r : ℕ) : Type 0 where
   pub within : r ≤ end
   pub one-rank : OneRank bs sorted start r
 
--- the list of v stands from `start` to `end`, and the branches of its children have their places after v's one by one
+-- the list of v stands from `start` to `end`, and the branches of its children have their places
+-- after v's one by one
 pub record FitsIn (bs sorted places stops : List ℕ) (v start end : ℕ) : Type 0 where
   pub part : Part bs sorted v start end
   pub fits : Fits (placeIn places) (placeIn stops) (suc (placeIn places v)) (placeIn stops v) (slice start end sorted)

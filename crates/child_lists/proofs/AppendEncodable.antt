@@ -1,5 +1,7 @@
--- A node more, accepted by the questions of a record and with numbers that fit, leaves a graph encodable (`append-encodable`), so the arena in which
--- it is encoded holds the graph with that node (`append-holds`). Most numbers fit because the questions passed (`accepted-fits`). Assumes nothing.
+-- A node more, accepted by the questions of a record and with numbers that fit, leaves a graph
+-- encodable (`append-encodable`), so the arena in which it is encoded holds the graph with that
+-- node (`append-holds`). Most numbers fit because the questions passed (`accepted-fits`). Assumes
+-- nothing.
 use mathlib.Core.Path.{_≡_, refl}
 use mathlib.Core.Bool.{true}
 use mathlib.Core.List.{List, [], _∷_, _++_}

@@ -1,5 +1,6 @@
--- The links of a graph with a node more, by those of the graph before: the new node is the last child of its parent, and its first where there was
--- none; it is the next sibling of the old last child; its own are none; and every other link is as it was. Assumes nothing.
+-- The links of a graph with a node more, by those of the graph before: the new node is the last
+-- child of its parent, and its first where there was none; it is the next sibling of the old last
+-- child; its own are none; and every other link is as it was. Assumes nothing.
 use mathlib.Core.Path.{_≡_, refl, sym, ap, _∙_}
 use mathlib.Core.Bool.{Bool, true, false, cond}
 use mathlib.Core.List.{List, [], _∷_, _++_}

@@ -1,5 +1,6 @@
--- In an arena that is the encoding of a graph, encoding the graph with a node more is a few stores: the header, the local root where the arc is Root,
--- the links of the parent and of its old last child, and the new slot (`append-stores`). Assumes nothing.
+-- In an arena that is the encoding of a graph, encoding the graph with a node more is a few stores:
+-- the header, the local root where the arc is Root, the links of the parent and of its old last
+-- child, and the new slot (`append-stores`). Assumes nothing.
 use mathlib.Core.Path.{_≡_, refl, sym, ap, subst, _∙_}
 use mathlib.Core.Logic.{inl, inr}
 use mathlib.Core.Bool.{Bool, true, false, cond, _||_, _&&_, and-false}

@@ -1,5 +1,6 @@
--- The steps of the walk of one child list, as `left_after` takes them: where it ends, where it goes on, and what makes the list wrong. The code reads
--- the parent alone, the definition the node's whole record: they agree below the count (`same-parent`). Assumes nothing.
+-- The steps of the walk of one child list, as `left_after` takes them: where it ends, where it goes
+-- on, and what makes the list wrong. The code reads the parent alone, the definition the node's
+-- whole record: they agree below the count (`same-parent`). Assumes nothing.
 use mathlib.Core.Path.{_≡_, _∙_}
 use mathlib.Core.Bool.{false, cond}
 use mathlib.Core.List.{List}

@@ -1,6 +1,8 @@
--- Counting decides. Each child list that is right has only children of its node and has nothing twice, so all of them together have no node twice;
--- they have each node but 0 once exactly where they are together as long as there are such nodes. `Walking` says what `are_right` has found after the
--- lists of the nodes below p: `walking-start`, `walking-on`, `walking-wrong` and `walking-ends` are the steps of its loop. Assumes nothing.
+-- Counting decides. Each child list that is right has only children of its node and has nothing
+-- twice, so all of them together have no node twice; they have each node but 0 once exactly where
+-- they are together as long as there are such nodes. `Walking` says what `are_valid` has found
+-- after the lists of the nodes below p: `walking-start`, `walking-on`, `walking-wrong` and
+-- `walking-ends` are the steps of its loop. Assumes nothing.
 use mathlib.Core.Path.{_≡_, refl, sym, ap, _∙_}
 use mathlib.Core.Logic.{_⊎_, inl, inr}
 use mathlib.Core.Bool.{Bool, true, false, and-eq-true-iff, and-false}
@@ -13,12 +15,12 @@ use lib.ListN.{length, length-append}
 use borrow.Author.Tests.{eq-eqb, ne-eqb, eqb-true, eqb-false}
 use Rattle.model.specs.Lists.{All, count}
 use Rattle.model.specs.Node.{invalid}
-use Rattle.model.specs.Arena.{countIn, nextSiblingIn, nodeIn, childrenIn, chainRight, inChainOnce}
+use Rattle.model.specs.Arena.{countIn, nextSiblingIn, nodeIn, childrenIn, chainValid, inChainOnce}
 use Rattle.laws.proofs.LengthLaws.{length-once, once-of-length}
 use Rattle.laws.proofs.ListLaws.{bit-ne, count-append, count-none, all-imp, all-append, all-below, all-below-fails}
 use Rattle.laws.proofs.SnapshotLaws.{and-first, and-second}
 use Rattle.child_lists.specs.declared.check.Walked.the-variants.{Left, Wrong}
-use Rattle.child_lists.specs.ChildLists.{Parented, listedRight, childListsRight, leftAfter}
+use Rattle.child_lists.specs.ChildLists.{Parented, listedValid, childListsValid, leftAfter}
 use Rattle.child_lists.proofs.ChildListWalk.{same-parent}
 use Rattle.child_lists.proofs.OnceLaws.{linked-once}
 use Rattle.child_lists.proofs.OneListLaws.{ListRead, walk-reads, right-chain, right-links, walk-suffices}
@@ -30,7 +32,7 @@ listsBelow bs (suc p) = listsBelow bs p ++ childrenIn bs p
 
 -- the child lists of the nodes below p end, each in the last child
 abbrev pub RightBelow : List ℕ → ℕ → Type 0
-RightBelow bs p = (v : ℕ) → v < p → chainRight bs v ≡ true
+RightBelow bs p = (v : ℕ) → v < p → chainValid bs v ≡ true
 
 -- the lists of the nodes below p are right, and `left` nodes more would make all but node 0
 pub record Walking (bs : List ℕ) (p left : ℕ) : Type 0 where
@@ -43,7 +45,7 @@ module _ (bs : List ℕ) (h : Parented bs) where
 
   -- ---- How often a node stands in the lists of the nodes below p: as often as in its parent's
 
-  elsewhere : (v a : ℕ) → chainRight bs v ≡ true → (nodeIn bs a .parent ≡ v → ⊥) → count a (childrenIn bs v) ≡ 0
+  elsewhere : (v a : ℕ) → chainValid bs v ≡ true → (nodeIn bs a .parent ≡ v → ⊥) → count a (childrenIn bs v) ≡ 0
   elsewhere v a e ne =
       count-none a (childrenIn bs v)
       (all-imp (λ c. (c < countIn bs) × (nodeIn bs c .parent ≡ v)) (λ c. a ≡ c → ⊥) (childrenIn bs v)
@@ -111,14 +113,14 @@ module _ (bs : List ℕ) (h : Parented bs) where
         )
 
     -- lists as long together as there are nodes but 0 have each of them once
-    right-of-length : length (listsBelow bs (countIn bs)) ≡ countIn bs - 1 → nextSiblingIn bs 0 ≡ invalid → childListsRight bs ≡ true
-    unfolding childListsRight
-    right-of-length l last = all-below (listedRight bs) (countIn bs) .1 each
+    right-of-length : length (listsBelow bs (countIn bs)) ≡ countIn bs - 1 → nextSiblingIn bs 0 ≡ invalid → childListsValid bs ≡ true
+    unfolding childListsValid
+    right-of-length l last = all-below (listedValid bs) (countIn bs) .1 each
       where
-        each : (n : ℕ) → n < countIn bs → listedRight bs n ≡ true
-        each zero b = and-eq-true-iff (chainRight bs 0) (inChainOnce bs 0) .1 (right 0 b, eq-eqb (nextSiblingIn bs 0) invalid last)
+        each : (n : ℕ) → n < countIn bs → listedValid bs n ≡ true
+        each zero b = and-eq-true-iff (chainValid bs 0) (inChainOnce bs 0) .1 (right 0 b, eq-eqb (nextSiblingIn bs 0) invalid last)
         each (suc n) b =
-            and-eq-true-iff (chainRight bs (suc n)) (inChainOnce bs (suc n)) .1 (
+            and-eq-true-iff (chainValid bs (suc n)) (inChainOnce bs (suc n)) .1 (
               right (suc n) b,
               in-parents n ∙ eq-eqb (count (suc n) (childrenIn bs (nodeIn bs (suc n) .parent))) 1
                   (sym (count-node (suc n) (omega arith) b)
@@ -136,13 +138,13 @@ module _ (bs : List ℕ) (h : Parented bs) where
       go earlier (inl e) = rw e (omega arith)
       go earlier (inr m) = omega (arith, earlier (omega arith), length-append (listsBelow bs q) (childrenIn bs q))
 
-  module _ (some : 0 < countIn bs) (e : childListsRight bs ≡ true) where
-    listed : (n : ℕ) → n < countIn bs → listedRight bs n ≡ true
-    unfolding childListsRight
-    listed = all-below (listedRight bs) (countIn bs) .0 e
+  module _ (some : 0 < countIn bs) (e : childListsValid bs ≡ true) where
+    listed : (n : ℕ) → n < countIn bs → listedValid bs n ≡ true
+    unfolding childListsValid
+    listed = all-below (listedValid bs) (countIn bs) .0 e
 
     right-below : RightBelow bs (countIn bs)
-    right-below v l = and-first (chainRight bs v) (inChainOnce bs v) (listed v l)
+    right-below v l = and-first (chainValid bs v) (inChainOnce bs v) (listed v l)
 
     length-of-right : length (listsBelow bs (countIn bs)) ≡ countIn bs - 1
     length-of-right = omega (arith, length-once (countIn bs) (0 ∷ listsBelow bs (countIn bs)) (all-nodes some right-below) once)
@@ -152,19 +154,19 @@ module _ (bs : List ℕ) (h : Parented bs) where
         once (suc a) l =
             count-node some right-below (suc a) (omega arith) l
             ∙ eqb-true (count (suc a) (childrenIn bs (nodeIn bs (suc a) .parent))) 1
-            (sym (in-parents a) ∙ and-second (chainRight bs (suc a)) (inChainOnce bs (suc a)) (listed (suc a) l))
+            (sym (in-parents a) ∙ and-second (chainValid bs (suc a)) (inChainOnce bs (suc a)) (listed (suc a) l))
 
   -- ---- The laws of the loop
 
-  pub right-empty : countIn bs ≡ 0 → childListsRight bs ≡ true
-  unfolding childListsRight
+  pub right-empty : countIn bs ≡ 0 → childListsValid bs ≡ true
+  unfolding childListsValid
   right-empty e = rw e
 
-  pub wrong-root : 0 < countIn bs → (nextSiblingIn bs 0 ≡ invalid → ⊥) → childListsRight bs ≡ false
-  unfolding childListsRight
+  pub wrong-root : 0 < countIn bs → (nextSiblingIn bs 0 ≡ invalid → ⊥) → childListsValid bs ≡ false
+  unfolding childListsValid
   wrong-root some ne =
-      all-below-fails (listedRight bs) (countIn bs) .1
-      (0, some, rw (ne-eqb (nextSiblingIn bs 0) invalid ne) (and-false (chainRight bs 0)))
+      all-below-fails (listedValid bs) (countIn bs) .1
+      (0, some, rw (ne-eqb (nextSiblingIn bs 0) invalid ne) (and-false (chainValid bs 0)))
 
   pub walking-start : (left : ℕ) → left ≡ countIn bs - 1 → Walking bs 0 left
   walking-start left e = record { right = λ v l. absurd (omega arith); total = omega arith }
@@ -179,14 +181,14 @@ module _ (bs : List ℕ) (h : Parented bs) where
         list : ListRead bs p left rest
         list = walk-reads bs h p left rest (omega (arith, w .total)) e
 
-        right : (v : ℕ) → (v ≡ p) ⊎ (v < p) → chainRight bs v ≡ true
+        right : (v : ℕ) → (v ≡ p) ⊎ (v < p) → chainValid bs v ≡ true
         right v (inl q) = rw q (list .right)
         right v (inr l) = w .right v l
 
-    pub walking-wrong : p < countIn bs → leftAfter bs p left ≡ Wrong → childListsRight bs ≡ false
-    walking-wrong l e = go (childListsRight bs) refl
+    pub walking-wrong : p < countIn bs → leftAfter bs p left ≡ Wrong → childListsValid bs ≡ false
+    walking-wrong l e = go (childListsValid bs) refl
       where
-        go : (t : Bool) → childListsRight bs ≡ t → t ≡ false
+        go : (t : Bool) → childListsValid bs ≡ t → t ≡ false
         go true q =
             let some : 0 < countIn bs = omega arith in
             let fits : length (childrenIn bs p) ≤ left = omega (
@@ -200,8 +202,8 @@ module _ (bs : List ℕ) (h : Parented bs) where
             let z : _≡_ {A = ℕ} 0 1 = cc in absurd (omega arith)
         go false q = refl
 
-    pub walking-ends : p ≡ countIn bs → 0 < countIn bs → nextSiblingIn bs 0 ≡ invalid → eqb left 0 ≡ childListsRight bs
-    walking-ends all some last = go (eqb left 0) refl (childListsRight bs) refl
+    pub walking-ends : p ≡ countIn bs → 0 < countIn bs → nextSiblingIn bs 0 ≡ invalid → eqb left 0 ≡ childListsValid bs
+    walking-ends all some last = go (eqb left 0) refl (childListsValid bs) refl
       where
         lists : RightBelow bs (countIn bs)
         lists v l = w .right v (omega arith)
@@ -209,7 +211,7 @@ module _ (bs : List ℕ) (h : Parented bs) where
         total : length (listsBelow bs (countIn bs)) + left ≡ countIn bs - 1
         total = rw all at (w .total)
 
-        go : (t : Bool) → eqb left 0 ≡ t → (u : Bool) → childListsRight bs ≡ u → t ≡ u
+        go : (t : Bool) → eqb left 0 ≡ t → (u : Bool) → childListsValid bs ≡ u → t ≡ u
         go true e true q = refl
         go true e false q = sym (right-of-length some lists (omega (arith, total, eqb-true left 0 e)) last) ∙ q
         go false e true q = absurd (eqb-false left 0 e (omega (arith, total, length-of-right some q)))

@@ -1,5 +1,6 @@
--- The empty graph in an arena: encoding it stores the count 0 and clears the marks (`empty-encode`), and the arena then holds a graph whatever its
--- other bytes are (`empty-holds`). Assumes nothing.
+-- The empty graph in an arena: encoding it stores the count 0 and clears the marks
+-- (`empty-encode`), and the arena then holds a graph whatever its other bytes are (`empty-holds`).
+-- Assumes nothing.
 use mathlib.Core.Path.{_≡_, sym}
 use mathlib.Core.Bool.{true, false}
 use mathlib.Core.List.{List, [], _∷_}

@@ -1,5 +1,6 @@
--- In an arena that holds a graph, encoding the graph with a node more, where `CanAppend` says that it may come, is the stores that `append_node` makes:
--- `encode-append`; and what each of them asks. Assumes nothing.
+-- In an arena that holds a graph, encoding the graph with a node more, where `CanAppend` says that
+-- it may come, is the stores that `append_node` makes: `encode-append`; and what each of them asks.
+-- Assumes nothing.
 use mathlib.Core.Path.{_≡_, sym, subst, _∙_}
 use mathlib.Core.List.{List, _∷_}
 use Prim.Native.Nat.{ℕ, _+_, _≤_, _<_}

@@ -1,6 +1,7 @@
--- What an encoding leaves depends on the bytes before it only where the graph uses none: a store within the used parts is lost in the encoding
--- (`absorbed`). So encoding a graph over the same graph with one node less is encoding it alone: `encode-over`, and for a loop `encode-next`. Assumes
--- nothing.
+-- What an encoding leaves depends on the bytes before it only where the graph uses none: a store
+-- within the used parts is lost in the encoding (`absorbed`). So encoding a graph over the same
+-- graph with one node less is encoding it alone: `encode-over`, and for a loop `encode-next`.
+-- Assumes nothing.
 use mathlib.Core.Path.{_≡_, refl, sym, ap, subst, _∙_}
 use mathlib.Core.Bool.{Bool, true, false, cond}
 use mathlib.Core.List.{List, [], _∷_}

@@ -1,6 +1,7 @@
--- Encoding a graph without an order by stages: the header and the root, then a slot's links or site at a time, in any order. Each store is of a part of
--- the encoding, so it is lost in the encoding (EncodeOver.antt); and once every part stands, stored or found, the arena is the encoding: `stages-end`.
--- Assumes nothing.
+-- Encoding a graph without an order by stages: the header and the root, then a slot's links or site
+-- at a time, in any order. Each store is of a part of the encoding, so it is lost in the encoding
+-- (EncodeOver.antt); and once every part stands, stored or found, the arena is the encoding:
+-- `stages-end`. Assumes nothing.
 use mathlib.Core.Path.{_≡_, refl, sym, ap, _∙_}
 use mathlib.Core.Logic.{inl, inr}
 use mathlib.Core.Bool.{Bool, true, false, cond}
@@ -19,7 +20,8 @@ use Rattle.arena.proofs.Encodable.{Encodable}
 use Rattle.arena.proofs.ArenaParts.{apart-kept, apart-slots, site-short}
 use Rattle.child_lists.proofs.EncodeOver.{links-covered, site-covered, Lost, stored-lost, unordered-encode}
 
--- what was stored in s is lost in the encoding of g; its header and root stand there, the links of the nodes that P names and the sites that Q names
+-- what was stored in s is lost in the encoding of g; its header and root stand there, the links of
+-- the nodes that P names and the sites that Q names
 pub record Stage (g : Graph) (bs : List ℕ) (P Q : ℕ → Type 0) (s : List ℕ) : Type 0 where
   pub lost : Lost g s bs
   pub header : take 7 (drop 0 s) ≡ headerBytes g

@@ -1,4 +1,5 @@
--- The check: the steps of one walk; that nothing stands twice in a list; what a walk shows of its list; and that counting decides.
+-- The check: the steps of one walk; that nothing stands twice in a list; what a walk shows of its
+-- list; and that counting decides.
 mod ChildListWalk
 mod OnceLaws
 mod OneListLaws
@@ -11,7 +12,8 @@ pub mod EncodeStages
 pub mod AppendLinks
 pub mod AppendStores
 pub mod EncodeAppend
--- Links of lists in arrays; the lists of all parents; storing an order; what storing the links leaves; and storing them list by list.
+-- Links of lists in arrays; the lists of all parents; storing an order; what storing the links
+-- leaves; and storing them list by list.
 pub mod LinkLaws
 pub mod SegmentLaws
 mod StoredEntries

@@ -1,5 +1,5 @@
--- The links of a child list that stands in a part of an array: `last_of`'s answer, the state of `link_list`'s loop, and what stands in `next` once a
--- list is linked. Assumes nothing.
+-- The links of a child list that stands in a part of an array: `last_of`'s answer, the state of
+-- `link_list`'s loop, and what stands in `next` once a list is linked. Assumes nothing.
 use mathlib.Core.Path.{_≡_, refl, sym, ap, _∙_}
 use mathlib.Core.Logic.{_⊎_, inl, inr}
 use mathlib.Core.Bool.{Bool, true, false, cond}

@@ -1,4 +1,5 @@
--- The links that `link_lists` makes of a graph's child lists, stored, are the graph's links: `links-right`. Assumes nothing.
+-- The links that `link_lists` makes of a graph's child lists, stored, are the graph's links:
+-- `links-right`. Assumes nothing.
 use mathlib.Core.Path.{_≡_, refl, sym, ap, _∙_}
 use mathlib.Core.Logic.{inr}
 use mathlib.Core.List.{List, [], _++_}

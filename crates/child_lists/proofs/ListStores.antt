@@ -1,5 +1,6 @@
--- Child lists stored list by list leave the graph's links: `lists-right`. Each store is one more entry of the arrays of links that `link_lists` would
--- make, stored whole (`set-next`, `set-ends`). Assumes nothing.
+-- Child lists stored list by list leave the graph's links: `lists-right`. Each store is one more
+-- entry of the arrays of links that `link_lists` would make, stored whole (`set-next`, `set-ends`).
+-- Assumes nothing.
 use mathlib.Core.Path.{_≡_, refl, sym, ap, subst, _∙_}
 use mathlib.Core.Logic.{_⊎_, inl, inr}
 use mathlib.Core.List.{List, [], _∷_, _++_}

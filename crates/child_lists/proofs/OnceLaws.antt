@@ -1,4 +1,5 @@
--- Nothing stands twice in a list that the links of an arena lead through to the end (`linked-once`). Assumes nothing.
+-- Nothing stands twice in a list that the links of an arena lead through to the end
+-- (`linked-once`). Assumes nothing.
 use mathlib.Core.Path.{_≡_, refl, sym, ap, _∙_}
 use mathlib.Core.Bool.{Bool, true, false}
 use mathlib.Core.List.{List, [], _∷_}

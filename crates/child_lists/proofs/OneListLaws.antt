@@ -1,6 +1,7 @@
--- One child list, whatever the budget of its walk: a walk that succeeds has read a list that is right (`walk-reads`), and the walk of a right list
--- succeeds where the budget suffices (`walk-suffices`). The definition reads a list with the count as its budget; where links end, each budget that
--- suffices reads the same (`within`). Assumes nothing.
+-- One child list, whatever the budget of its walk: a walk that succeeds has read a list that is
+-- right (`walk-reads`), and the walk of a right list succeeds where the budget suffices
+-- (`walk-suffices`). The definition reads a list with the count as its budget; where links end,
+-- each budget that suffices reads the same (`within`). Assumes nothing.
 use mathlib.Core.Path.{_≡_, refl, sym, ap, _∙_}
 use mathlib.Core.Bool.{Bool, true, false, cond, and-eq-true-iff}
 use mathlib.Core.List.{List, [], _∷_}
@@ -10,7 +11,7 @@ use lib.Dec.{eqb}
 use lib.ListN.{length}
 use borrow.Author.Tests.{eq-eqb, eqb-true}
 use Rattle.model.specs.Node.{invalid}
-use Rattle.model.specs.Arena.{countIn, firstChildIn, lastChildIn, nodeIn, chainIn, childrenIn, lastOf, chainEnds, chainRight}
+use Rattle.model.specs.Arena.{countIn, firstChildIn, lastChildIn, nodeIn, chainIn, childrenIn, lastOf, chainEnds, chainValid}
 use Rattle.laws.proofs.ListLaws.{all-imp}
 use Rattle.laws.proofs.SnapshotLaws.{and-first, and-second}
 use Rattle.arena.proofs.ChainLaws.{Chain, chain-length, chain-held, chain-linked, chain-ends-linked}
@@ -25,7 +26,7 @@ record Within (bs : List ℕ) (v k : ℕ) (cs : List ℕ) : Type 0 where
 
 -- v's child list is right, and leaves `rest` of the budget k
 pub record ListRead (bs : List ℕ) (v k rest : ℕ) : Type 0 where
-  pub right : chainRight bs v ≡ true
+  pub right : chainValid bs v ≡ true
   pub size : length (childrenIn bs v) + rest ≡ k
 
 last-after-none : (cs : List ℕ) → lastOf (invalid ∷ cs) ≡ lastOf cs
@@ -67,7 +68,7 @@ module _ (bs : List ℕ) (h : Parented bs) (v : ℕ) where
           }
       go false q e = let z : _≡_ {A = ℕ} 0 1 = cc in absurd (omega arith)
 
-  module _ (e : chainRight bs v ≡ true) where
+  module _ (e : chainValid bs v ≡ true) where
     pub right-chain : Chain bs v (firstChildIn bs v) (childrenIn bs v)
     right-chain = chain-held bs v (countIn bs) (firstChildIn bs v) (h .few) (search and-first)
 

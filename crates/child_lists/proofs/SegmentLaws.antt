@@ -1,6 +1,7 @@
--- Lists that stand in an array one after the other (`Segments`) are its parts (`part-right`), and the links that `link_lists` makes of a tree's lists are
--- theirs: `first-right`, `last-right`, `next-right`, `next-of-root`. All lists of a tree are no longer than there are nodes (`flat-within`). Assumes
--- nothing.
+-- Lists that stand in an array one after the other (`Segments`) are its parts (`part-right`), and
+-- the links that `link_lists` makes of a tree's lists are theirs: `first-right`, `last-right`,
+-- `next-right`, `next-of-root`. All lists of a tree are no longer than there are nodes
+-- (`flat-within`). Assumes nothing.
 use mathlib.Core.Path.{_≡_, refl, sym, ap, subst, _∙_}
 use mathlib.Core.Logic.{_⊎_, inl, inr}
 use mathlib.Core.Bool.{Bool, true, false}

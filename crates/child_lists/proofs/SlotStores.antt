@@ -1,5 +1,6 @@
--- Storing some links of one slot: what a store of all three leaves where the others are there already (`next-alone`, `ends-alone`), and over links that
--- were stored before (`next-over`, `ends-over`). Assumes nothing.
+-- Storing some links of one slot: what a store of all three leaves where the others are there
+-- already (`next-alone`, `ends-alone`), and over links that were stored before (`next-over`,
+-- `ends-over`). Assumes nothing.
 use mathlib.Core.Path.{_≡_, sym, ap, _∙_}
 use mathlib.Core.List.{List, _++_}
 use Prim.Native.Nat.{ℕ, _+_, _≤_, _<_}

@@ -1,4 +1,5 @@
--- Storing the order's entries one after the other: the state of `write_entries`' loop. Assumes nothing.
+-- Storing the order's entries one after the other: the state of `write_entries`' loop. Assumes
+-- nothing.
 use mathlib.Core.Path.{_≡_, sym, ap, _∙_}
 use mathlib.Core.List.{List}
 use Prim.Native.Nat.{ℕ, suc, _+_, _≤_, _<_}

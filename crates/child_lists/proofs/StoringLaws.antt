@@ -1,4 +1,5 @@
--- Storing the links of lists: the states of `store_nexts`' and `store_lists`' loops. Assumes nothing.
+-- Storing the links of lists: the states of `store_nexts`' and `store_lists`' loops. Assumes
+-- nothing.
 use mathlib.Core.Path.{_≡_, refl, sym, ap, _∙_}
 use mathlib.Core.List.{List, _∷_}
 use Prim.Native.Nat.{ℕ, suc, _+_, _-_, _≤_, _<_}

@@ -1,4 +1,5 @@
--- What `append_node` asks, and what each of its parts leaves in the arena. The graph with a node more is model/specs/Graph.antt's `withNode`.
+-- What `append_node` asks, and what each of its parts leaves in the arena. The graph with a node
+-- more is model/specs/Graph.antt's `withNode`.
 use mathlib.Core.Path.{_≡_}
 use mathlib.Core.Bool.{Bool, false, _||_, _&&_, cond}
 use mathlib.Core.List.{List, _++_}
@@ -6,7 +7,7 @@ use Prim.Native.Nat.{ℕ, _+_, _<_}
 use lib.Dec.{eqb, ltb}
 use lib.ListN.{length}
 use Rattle.model.specs.Arena.{arenaBytes, slotAt, countIn, shallowIn, firstChildIn, lastChildIn, nextSiblingIn, primCountIn, decode}
-use Rattle.model.specs.ArenaCalls.{Opened}
+use Rattle.model.specs.ArenaCalls.{ValidArena}
 use Rattle.model.specs.Bytes.{stored}
 use Rattle.model.specs.Node.{invalid, rootArc}
 use Rattle.model.specs.Path.{primCount}
@@ -18,7 +19,7 @@ use Rattle.arena.specs.declared.Node.{Node}
 
 -- a node that may come next: x with this path is what the questions of a record accept
 pub record CanAppend (bs : List ℕ) (count : ℕ) (x : Node) (path : List ℕ) : Type 0 where
-  pub opened : Opened bs
+  pub opened : ValidArena bs
   pub counted : count ≡ countIn bs
   pub accepted : refusal (recordQuestions (decode bs) (nodeOf x path)) ≡ 0
   pub named : x .«prim_count» ≡ primCount path
@@ -30,7 +31,8 @@ pub record CanAppend (bs : List ℕ) (count : ℕ) (x : Node) (path : List ℕ) 
 abbrev pub shallowWith : ℕ → ℕ → ℕ → List ℕ → Bool
 shallowWith n parent depth bs = eqb (shallowIn bs) 1 || (ltb 0 n && ltb (primCountIn bs parent) depth)
 
--- one node more, not ordered and not finalized; a node of arc Root is the local root, and node 0 is none
+-- one node more, not ordered and not finalized; a node of arc Root is the local root, and node 0 is
+-- none
 abbrev pub headerStored : ℕ → ℕ → Bool → List ℕ → List ℕ
 headerStored n arc shallow bs =
     let marked = marksStored false false shallow (countStored (n + 1) bs) in

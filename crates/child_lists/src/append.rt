@@ -1,5 +1,6 @@
-// One node more at the end of an arena that holds a graph: the node's own slot, its place at the end of its parent's child list, and the header.
-// It decides nothing: its callers have put the questions, and `CanAppend` says that they passed. What it leaves is model/specs/Graph.antt's
+// One node more at the end of an arena that holds a graph: the node's own slot, its place at the
+// end of its parent's child list, and the header. It decides nothing: its callers have put the
+// questions, and `CanAppend` says that they passed. What it leaves is model/specs/Graph.antt's
 // `withNode`; specs/Append.antt says what each part stores.
 use arena::Node;
 use model::NodeId;
@@ -15,7 +16,8 @@ ghost use Rattle.child_lists.specs.Append.{CanAppend, shallowWith, heade
 // The arc of node 0 and of the local root.
 const ROOT: u8 = 0;
 
-// Whether the graph is shallow with this node as number n: where it was, or where the node's depth passes its parent's prim count.
+// Whether the graph is shallow with this node as number n: where it was, or where the node's depth
+// passes its parent's prim count.
 fn is_shallow(arena: &[u8], n: u32, parent: u32, depth: u16) -> bool
     requires { ⌜ length (now arena) ≡ arenaBytes ⌝ }
     requires { ⌜ (0 < n → parent < 1024) ⌝ }
@@ -37,14 +39,14 @@ fn store_header(arena: &mut [u8], n: u32, arc: u8, shallow: bool)
     ensures { λ _. ⌜ now (arena .exit) ≡ headerStored n arc shallow (now (arena .entry)) ⌝ }
 {
     arena::write_count(arena, n + 1);
-    arena::write_marks(arena, false, false, shallow);
+    arena::write_state(arena, false, false, shallow);
     if arc == ROOT {
         arena::write_local_root(arena, n);
     }
 }
 
-// Puts node n at the end of the parent's child list: the parent's last child, and its first where there was none, else the next sibling of the
-// old last child. Node 0 has no parent.
+// Puts node n at the end of the parent's child list: the parent's last child, and its first where
+// there was none, else the next sibling of the old last child. Node 0 has no parent.
 fn link_child(arena: &mut [u8], parent: u32, n: u32)
     requires { ⌜ CanLink (now arena) parent n ⌝ }
     ensures { λ _. ⌜ now (arena .exit) ≡ childLinked parent n (now (arena .entry)) ⌝ }

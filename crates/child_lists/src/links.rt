@@ -1,5 +1,6 @@
-// The links that child lists make, in three arrays that are then stored in the arena, as an order is, a loop each. It decides nothing and asks nothing of the
-// graph. specs/Links.antt says what stands in the arrays, and what is stored.
+// The links that child lists make, in three arrays that are then stored in the arena, as an order
+// is, a loop each. It decides nothing and asks nothing of the graph. specs/Links.antt says what
+// stands in the arrays, and what is stored.
 use model::NodeId;
 ghost use mathlib.Core.Path.{_≡_};
 ghost use Prim.Native.Nat.{ℕ, _<_, _≤_};
@@ -19,7 +20,8 @@ pub(crate) fn last_of(sorted: &[u32], start: usize, end: usize) -> u32
     4294967295
 }
 
-// Links the children of that list, the last one first, and answers its first child, 4,294,967,295 for none.
+// Links the children of that list, the last one first, and answers its first child, 4,294,967,295
+// for none.
 fn link_list(sorted: &[u32], start: usize, end: usize, next: &mut [u32]) -> u32
     requires { ⌜ (start ≤ end) × (end ≤ length (now sorted)) × (length (now next) ≡ 1024) ⌝ }
     requires { ⌜ ((k : ℕ) → k < end → getD (now sorted) k 0 < 1024) ⌝ }
@@ -36,7 +38,8 @@ fn link_list(sorted: &[u32], start: usize, end: usize, next: &mut [u32]) -> u32
     head
 }
 
-// The first and the last child of each of `count` nodes and the sibling after it, 4,294,967,295 for none.
+// The first and the last child of each of `count` nodes and the sibling after it, 4,294,967,295 for
+// none.
 pub fn link_lists(
     sorted: &[u32],
     ends: &[u32],

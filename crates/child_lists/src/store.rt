@@ -1,5 +1,5 @@
-// Child lists that stand in an array stored as links in the arena, list by list: no array of links is made. Each link is stored through its node's
-// record, of which the other links stay.
+// Child lists that stand in an array stored as links in the arena, list by list: no array of links
+// is made. Each link is stored through its node's record, of which the other links stay.
 use model::NodeId;
 ghost use mathlib.Core.Path.{_≡_};
 ghost use Prim.Native.Nat.{ℕ, _<_, _≤_};
@@ -30,8 +30,8 @@ fn store_ends(arena: &mut [u8], n: u32, first: u32, last: u32)
     arena::store_links(arena, n, linked);
 }
 
-// Stores the siblings after the children of the list that stands in `sorted` from `start` to `end`, the last one first, and answers its first child,
-// 4,294,967,295 for none.
+// Stores the siblings after the children of the list that stands in `sorted` from `start` to `end`,
+// the last one first, and answers its first child, 4,294,967,295 for none.
 fn store_nexts(arena: &mut [u8], sorted: &[u32], start: usize, end: usize) -> u32
     requires { ⌜ (length (now arena) ≡ arenaBytes) × (start ≤ end) × (end ≤ length (now sorted)) ⌝ }
     requires { ⌜ ((k : ℕ) → k < end → getD (now sorted) k 0 < 1024) ⌝ }

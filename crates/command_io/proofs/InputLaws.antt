@@ -1,4 +1,5 @@
--- What was read lies within every larger buffer (`held-more`), and its length within the buffer (`held-within`). Assumes nothing.
+-- What was read lies within every larger buffer (`held-more`), and its length within the buffer
+-- (`held-within`). Assumes nothing.
 use mathlib.Core.Path.{_≡_}
 use Prim.Native.Nat.{ℕ, _≤_}
 use native.Mathlib.Omega.{arith}

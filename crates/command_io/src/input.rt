@@ -1,9 +1,11 @@
-// Standard input, read to its end into a lent buffer: short reads are followed by others, and a part of the input is never taken for the whole.
+// Standard input, read to its end into a lent buffer: short reads are followed by others, and a
+// part of the input is never taken for the whole.
 use libc::STDIN_FILENO;
 ghost use lib.ListN.{length};
 ghost use Rattle.command_io.specs.Inputs.{HeldIn};
 
-// The input: how many bytes of the buffer hold all of it, that it is longer than the buffer, or that a read failed.
+// The input: how many bytes of the buffer hold all of it, that it is longer than the buffer, or
+// that a read failed.
 pub enum Input {
     Held(usize),
     Long,

@@ -1,4 +1,5 @@
-// What a command prints. Where standard output cannot be written it says so on standard error, after its own name: the kit's libraries set no exit status.
+// What a command prints. Where standard output cannot be written it says so on standard error,
+// after its own name: the kit's libraries set no exit status.
 use libc::STDERR_FILENO;
 use libc::STDOUT_FILENO;
 use model::Refusal;

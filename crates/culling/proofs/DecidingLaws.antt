@@ -1,5 +1,7 @@
--- The loop that decides the flags from the highest node down (`Deciding`), with its start, its two steps and its end. When node n is reached each child of
--- it is decided, since children are higher; so the mark of n says whether one is unculled, and that is what `culling-decides` asks. Assumes nothing.
+-- The loop that decides the flags from the highest node down (`Deciding`), with its start, its two
+-- steps and its end. When node n is reached each child of it is decided, since children are higher;
+-- so the mark of n says whether one is unculled, and that is what `culling-decides` asks. Assumes
+-- nothing.
 use mathlib.Core.Path.{_≡_, refl, sym, ap, _∙_}
 use mathlib.Core.Bool.{Bool, true, false, not, _||_, _&&_, cond, true≢false}
 use mathlib.Core.List.{List, [], _∷_}
@@ -20,7 +22,7 @@ use Rattle.laws.proofs.CullingLaws.{canCullWith, Decided, culling-decides}
 use Rattle.arena.proofs.HeldArenas.{held}
 use Rattle.arena.proofs.HeldEncodable.{held-encodable}
 use Rattle.arena.proofs.ReadNodes.{sizes, root-found, root-held}
-use Rattle.view.specs.View.{viewIn, Standing}
+use Rattle.view.specs.View.{viewIn, ValidNodeAndRoot}
 use Rattle.culling.specs.Culled.{Rooted, isKept, canCullUnder, withCulled, flagsLeft, HasFlagsFrom, Clear}
 
 -- ---- Tests
@@ -57,11 +59,11 @@ tests-together false false false false true false false = refl
 tests-together false false false false false i true = refl
 tests-together false false false false false i false = refl
 
-under-with : (busy : Bool) (ns : List Node) (n : ℕ) → canCullUnder busy ns n ≡ canCullWith (not busy) ns n
+under-with : (unculled : Bool) (ns : List Node) (n : ℕ) → canCullUnder unculled ns n ≡ canCullWith (not unculled) ns n
 unfolding canCullUnder isKept
-under-with busy ns n =
+under-with unculled ns n =
     tests-together (isCulled (nodeAt ns n)) (eqb (nodeAt ns n .arc) rootArc) (eqb (depthBelowIntroduction ns n) 0) (keepsInherit ns n)
-    (eqb (nodeAt ns n .hasSpecs) 1) (isInert (nodeAt ns n)) busy
+    (eqb (nodeAt ns n .hasSpecs) 1) (isInert (nodeAt ns n)) unculled
 
 -- ---- One node
 
@@ -93,14 +95,14 @@ ChildrenCulled bs n v =
     (c : ℕ) → n ≤ c → c < countIn bs → viewIn bs .parent c ≡ v → isCulled (nodeAt (cullSubtreesWithoutOpinions (decode bs) .nodes) c) ≡ true
 
 -- the nodes from n on are decided
-pub record Deciding (bs busy flags : List ℕ) (n : ℕ) : Type 0 where
+pub record Deciding (bs unculled flags : List ℕ) (n : ℕ) : Type 0 where
   pub some : 0 < n
   pub within : n ≤ countIn bs
-  pub busy-long : length busy ≡ 1024
+  pub unculled-long : length unculled ≡ 1024
   pub flags-long : length flags ≡ 1024
   pub found : HasFlagsFrom bs n flags
-  pub clear : (v : ℕ) → getD busy v 0 ≡ 0 → ChildrenCulled bs n v
-  pub unset : (v : ℕ) → ChildrenCulled bs n v → getD busy v 0 ≡ 0
+  pub clear : (v : ℕ) → getD unculled v 0 ≡ 0 → ChildrenCulled bs n v
+  pub unset : (v : ℕ) → ChildrenCulled bs n v → getD unculled v 0 ≡ 0
 
 pub zeros-clear : (n : ℕ) → Clear (replicate n 0)
 zeros-clear zero k = refl
@@ -132,24 +134,24 @@ module _ (bs : List ℕ) (bytes : Bytes bs) (nodes root : ℕ) (r : Rooted bs no
   decides : Decided (g .children) (g .nodes) after
   decides = culling-decides g higher has-root
 
-  pub stands : (n : ℕ) → n < countIn bs → Standing bs root n
+  pub stands : (n : ℕ) → n < countIn bs → ValidNodeAndRoot bs root n
   stands n h = record { readable = record { opened = r .opened; below = h }; root-read = r .root-read }
 
   node-0-kept : nodeAt (g .nodes) 0 .flags ≡ flagsLeft bs 0
   node-0-kept = ap (λ (x : Node). x .flags) (sym (decides .node-0))
 
-  pub deciding-start : (busy flags : List ℕ) → length busy ≡ 1024 → length flags ≡ 1024 → Clear busy → Deciding bs busy flags nodes
-  deciding-start busy flags long also-long clear = record {
+  pub deciding-start : (unculled flags : List ℕ) → length unculled ≡ 1024 → length flags ≡ 1024 → Clear unculled → Deciding bs unculled flags nodes
+  deciding-start unculled flags long also-long clear = record {
     some = r .some-node;
     within = omega (arith, r .counted);
-    busy-long = long;
+    unculled-long = long;
     flags-long = also-long;
     found = λ k l h. absurd (omega (arith, r .counted));
     clear = λ v e c l h p. absurd (omega (arith, r .counted));
     unset = λ v all. clear v;
   }
 
-  module _ (busy flags : List ℕ) (n : ℕ) (d : Deciding bs busy flags n) (more : 1 < n) where
+  module _ (unculled flags : List ℕ) (n : ℕ) (d : Deciding bs unculled flags n) (more : 1 < n) where
     abbrev here : ℕ
     here = n - 1
 
@@ -163,7 +165,7 @@ module _ (bs : List ℕ) (bytes : Bytes bs) (nodes root : ℕ) (r : Rooted bs no
     below-culled = every (λ c. isCulled (nodeAt after c)) (childrenOf g here)
 
     -- the mark says whether a child is unculled
-    mark-right : below-culled ≡ eqb (getD busy here 0) 0
+    mark-right : below-culled ≡ eqb (getD unculled here 0) 0
     mark-right = go below-culled refl
       where
         all-of-them : below-culled ≡ true → ChildrenCulled bs n here
@@ -177,17 +179,17 @@ module _ (bs : List ℕ) (bytes : Bytes bs) (nodes root : ℕ) (r : Rooted bs no
             (λ c m. let child = tree .only here c m in
             all c (omega (arith, higher here c m)) (omega (arith, child .1, sizes bs (r .opened))) (child .2))
 
-        go : (t : Bool) → below-culled ≡ t → t ≡ eqb (getD busy here 0) 0
-        go true e = sym (eq-eqb (getD busy here 0) 0 (d .unset here (all-of-them e)))
-        go false e = sym (ne-eqb (getD busy here 0) 0 (λ z. true≢false (sym (all-listed (d .clear here z)) ∙ e)))
+        go : (t : Bool) → below-culled ≡ t → t ≡ eqb (getD unculled here 0) 0
+        go true e = sym (eq-eqb (getD unculled here 0) 0 (d .unset here (all-of-them e)))
+        go false e = sym (ne-eqb (getD unculled here 0) 0 (λ z. true≢false (sym (all-listed (d .clear here z)) ∙ e)))
 
     abbrev decision : Bool
-    decision = canCullUnder (not (eqb (getD busy here 0) 0)) (g .nodes) here
+    decision = canCullUnder (not (eqb (getD unculled here 0) 0)) (g .nodes) here
 
     decided-right : canCullWith below-culled (g .nodes) here ≡ decision
     decided-right =
-        ap (λ (t : Bool). canCullWith t (g .nodes) here) (mark-right ∙ sym (not-not (eqb (getD busy here 0) 0)))
-        ∙ sym (under-with (not (eqb (getD busy here 0) 0)) (g .nodes) here)
+        ap (λ (t : Bool). canCullWith t (g .nodes) here) (mark-right ∙ sym (not-not (eqb (getD unculled here 0) 0)))
+        ∙ sym (under-with (not (eqb (getD unculled here 0) 0)) (g .nodes) here)
 
     node-after : nodeAt after here ≡ cond decision (culled (nodeAt (g .nodes) here)) (nodeAt (g .nodes) here)
     node-after =
@@ -215,39 +217,39 @@ module _ (bs : List ℕ) (bytes : Bytes bs) (nodes root : ℕ) (r : Rooted bs no
         go false q =
             let other = eqb-false k here q in getD-set-other flags here k f 0 other ∙ d .found k (omega arith) h
 
-    pub step-culled : decision ≡ true → (f : ℕ) → f ≡ withCulled (nodeAt (g .nodes) here .flags) → Deciding bs busy (set flags here f) here
+    pub step-culled : decision ≡ true → (f : ℕ) → f ≡ withCulled (nodeAt (g .nodes) here .flags) → Deciding bs unculled (set flags here f) here
     step-culled e f q = record {
       some = omega arith;
       within = omega (arith, here-below);
-      busy-long = d .busy-long;
+      unculled-long = d .unculled-long;
       flags-long = length-set flags here f ∙ d .flags-long;
       found = found-more f (q ∙ flags-as true e);
       clear = λ v z c l h p. go v z c l h p (eqb c here) refl;
       unset = λ v all. d .unset v (λ c l h p. all c (omega arith) h p);
     }
       where
-        go : (v : ℕ) → getD busy v 0 ≡ 0 → (c : ℕ) → here ≤ c → c < countIn bs → viewIn bs .parent c ≡ v → (t : Bool) → eqb c here ≡ t
+        go : (v : ℕ) → getD unculled v 0 ≡ 0 → (c : ℕ) → here ≤ c → c < countIn bs → viewIn bs .parent c ≡ v → (t : Bool) → eqb c here ≡ t
             → isCulled (nodeAt after c) ≡ true
         go v z c l h p true q = rw (eqb-true c here q) (culled-after ∙ e)
         go v z c l h p false q = let other = eqb-false c here q in d .clear v z c (omega arith) h p
 
     pub step-left : decision ≡ false → (f : ℕ) → f ≡ nodeAt (g .nodes) here .flags → (p : ℕ) → p ≡ viewIn bs .parent here
-        → Deciding bs (set busy p 1) (set flags here f) here
+        → Deciding bs (set unculled p 1) (set flags here f) here
     step-left e f q p is-parent = record {
       some = omega arith;
       within = omega (arith, here-below);
-      busy-long = length-set busy p 1 ∙ d .busy-long;
+      unculled-long = length-set unculled p 1 ∙ d .unculled-long;
       flags-long = length-set flags here f ∙ d .flags-long;
       found = found-more f (q ∙ flags-as false e);
       clear = λ v z. cleared v z (eqb v p) refl;
       unset = λ v all. still v all (eqb v p) refl;
     }
       where
-        marked : getD (set busy p 1) p 0 ≡ 1
-        marked = getD-set-same busy p 1 0 (omega (arith, d .busy-long, few, here-below, parent-below))
+        marked : getD (set unculled p 1) p 0 ≡ 1
+        marked = getD-set-same unculled p 1 0 (omega (arith, d .unculled-long, few, here-below, parent-below))
 
-        cleared : (v : ℕ) → getD (set busy p 1) v 0 ≡ 0 → (t : Bool) → eqb v p ≡ t → ChildrenCulled bs here v
-        cleared v z true s = absurd (omega (arith, marked, ap (λ (k : ℕ). getD (set busy p 1) k 0) (eqb-true v p s)))
+        cleared : (v : ℕ) → getD (set unculled p 1) v 0 ≡ 0 → (t : Bool) → eqb v p ≡ t → ChildrenCulled bs here v
+        cleared v z true s = absurd (omega (arith, marked, ap (λ (k : ℕ). getD (set unculled p 1) k 0) (eqb-true v p s)))
         cleared v z false s = λ c l h par. go c l h par (eqb c here) refl
           where
             go : (c : ℕ) → here ≤ c → c < countIn bs → viewIn bs .parent c ≡ v → (t : Bool) → eqb c here ≡ t → isCulled (nodeAt after c) ≡ true
@@ -255,18 +257,18 @@ module _ (bs : List ℕ) (bytes : Bytes bs) (nodes root : ℕ) (r : Rooted bs no
                 absurd (eqb-false v p s (sym par ∙ ap (λ (k : ℕ). viewIn bs .parent k) (eqb-true c here w) ∙ sym is-parent))
             go c l h par false w =
                 let other = eqb-false c here w in
-                d .clear v (sym (getD-set-other busy p v 1 0 (eqb-false v p s)) ∙ z) c (omega arith) h par
+                d .clear v (sym (getD-set-other unculled p v 1 0 (eqb-false v p s)) ∙ z) c (omega arith) h par
 
-        still : (v : ℕ) → ChildrenCulled bs here v → (t : Bool) → eqb v p ≡ t → getD (set busy p 1) v 0 ≡ 0
+        still : (v : ℕ) → ChildrenCulled bs here v → (t : Bool) → eqb v p ≡ t → getD (set unculled p 1) v 0 ≡ 0
         still v all true s =
             absurd (true≢false (sym (all here (omega arith) here-below (sym is-parent ∙ sym (eqb-true v p s))) ∙ culled-after ∙ e))
         still v all false s =
-            getD-set-other busy p v 1 0 (eqb-false v p s) ∙ d .unset v (λ c l h par. all c (omega arith) h par)
+            getD-set-other unculled p v 1 0 (eqb-false v p s) ∙ d .unset v (λ c l h par. all c (omega arith) h par)
 
   -- node 0 keeps its flags
-  pub deciding-end : (busy flags : List ℕ) (n f : ℕ) → Deciding bs busy flags n → n ≤ 1 → f ≡ nodeAt (g .nodes) 0 .flags
+  pub deciding-end : (unculled flags : List ℕ) (n f : ℕ) → Deciding bs unculled flags n → n ≤ 1 → f ≡ nodeAt (g .nodes) 0 .flags
       → HasFlagsFrom bs 0 (set flags 0 f)
-  deciding-end busy flags n f d end e k l h = go (eqb k 0) refl
+  deciding-end unculled flags n f d end e k l h = go (eqb k 0) refl
     where
       go : (t : Bool) → eqb k 0 ≡ t → getD (set flags 0 f) k 0 ≡ flagsLeft bs k
       go true q = rw (eqb-true k 0 q) (getD-set-same flags 0 f 0 (omega (arith, d .flags-long)) ∙ e ∙ node-0-kept)

@@ -1,5 +1,6 @@
--- In an arena that holds a graph, encoding the culled graph is to store the flags of each node, since all else is there: `encode-culled`; and with no
--- local root nothing is to be stored: `encode-empty`, `encode-unrooted`. Assumes nothing.
+-- In an arena that holds a graph, encoding the culled graph is to store the flags of each node,
+-- since all else is there: `encode-culled`; and with no local root nothing is to be stored:
+-- `encode-empty`, `encode-unrooted`. Assumes nothing.
 use mathlib.Core.Path.{_≡_, refl, sym, ap, _∙_}
 use mathlib.Core.Logic.{inl, inr}
 use mathlib.Core.Bool.{Bool, true, false, not, cond}
@@ -19,7 +20,7 @@ use Rattle.model.specs.Graph.{Graph, size, nodeAt, childrenOf, isLocalRoot, has
 use Rattle.model.specs.Strength.{View}
 use Rattle.model.specs.Snapshot.{bigEndian, recordBody}
 use Rattle.model.specs.Arena.{arenaBytes, slotAt, countIn, firstOf, lastOf, afterIn, linkBytes, siteBytes, slotStored, slotsStored, orderStored, headerBytes, rootStored, localRootIn, localRootBelow, localRootOf, decode, encode}
-use Rattle.model.specs.ArenaCalls.{Opened}
+use Rattle.model.specs.ArenaCalls.{ValidArena}
 use Rattle.model.specs.Culling.{cullSubtreesWithoutOpinions}
 use Rattle.laws.proofs.BigEndianLaws.{Bytes}
 use Rattle.laws.proofs.StoredLaws.{length-stored, part-after-stored, stored-next, stored-there}
@@ -93,7 +94,7 @@ root-below-kept : (ns ms : List Node) (k : ℕ) → ((n : ℕ) → isLocalRoot m
 root-below-kept ns ms zero same = refl
 root-below-kept ns ms (suc k) same = λ i. cond (same k i) k (root-below-kept ns ms k same i)
 
-module _ (bs : List ℕ) (bytes : Bytes bs) (o : Opened bs) where
+module _ (bs : List ℕ) (bytes : Bytes bs) (o : ValidArena bs) where
   abbrev g : Graph
   g = decode bs
 

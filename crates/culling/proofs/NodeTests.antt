@@ -1,5 +1,6 @@
--- The tests on one node of an arena by what is read: t is no higher than the node (`introducer-le`), and its introduction path has one prim where its own
--- has one more than its depth below introduction (`one-prim`). Assumes nothing.
+-- The tests on one node of an arena by what is read: t is no higher than the node
+-- (`introducer-le`), and its introduction path has one prim where its own has one more than its
+-- depth below introduction (`one-prim`). Assumes nothing.
 use mathlib.Core.Path.{_≡_, refl, sym, ap, _∙_}
 use mathlib.Core.Bool.{Bool, true, false, cond}
 use mathlib.Core.List.{List}
@@ -13,7 +14,7 @@ use Rattle.model.specs.Node.{Node}
 use Rattle.model.specs.Graph.{nodeAt, depthBelowIntroduction, pathAtIntroduction}
 use Rattle.model.specs.Strength.{isAuthored, originRootNode}
 use Rattle.model.specs.Arena.{primCountIn, decode}
-use Rattle.model.specs.ArenaCalls.{Readable}
+use Rattle.model.specs.ArenaCalls.{ValidNode}
 use Rattle.model.specs.Culling.{introducer}
 use Rattle.laws.proofs.PathGrammar.{well-formed-may-end}
 use Rattle.laws.proofs.PathLaws.{intro-prim-count}
@@ -32,7 +33,7 @@ eqb-less a b = go (eqb a (b + 1)) refl
     go true e = let same = eqb-true a (b + 1) e in eq-eqb (a - b) 1 (omega arith)
     go false e = let other = eqb-false a (b + 1) e in ne-eqb (a - b) 1 (λ q. omega arith)
 
-module _ (bs : List ℕ) (n : ℕ) (r : Readable bs n) where
+module _ (bs : List ℕ) (n : ℕ) (r : ValidNode bs n) where
   pub introducer-le : introducer (decode bs .nodes) n ≤ n
   introducer-le = go (isAuthored (viewIn bs) n)
     where

@@ -8,7 +8,7 @@ use lib.ListN.{getD}
 use Rattle.model.specs.Node.{Node, rootArc, culledFlag, hasFlag, isInert, isCulled}
 use Rattle.model.specs.Graph.{nodeAt, depthBelowIntroduction}
 use Rattle.model.specs.Arena.{countIn, localRootIn, decode, encode}
-use Rattle.model.specs.ArenaCalls.{Opened}
+use Rattle.model.specs.ArenaCalls.{ValidArena}
 use Rattle.model.specs.Culling.{keepsInherit, cullSubtreesWithoutOpinions}
 use Rattle.arena.specs.Slot.{flagsStored}
 
@@ -18,7 +18,7 @@ CulledArena before after = after ≡ encode (cullSubtreesWithoutOpinions (decode
 
 -- the arena holds a graph with `count` nodes, one or more, whose local root is `root`
 pub record Rooted (bs : List ℕ) (count root : ℕ) : Type 0 where
-  pub opened : Opened bs
+  pub opened : ValidArena bs
   pub counted : count ≡ countIn bs
   pub some-node : 0 < count
   pub root-read : root ≡ localRootIn bs
@@ -34,7 +34,7 @@ isKept ns n =
 
 -- `canCull`, where it is known whether a child is unculled
 unfoldable pub canCullUnder : Bool → List Node → ℕ → Bool
-canCullUnder busy ns n = isCulled (nodeAt ns n) || (not (isKept ns n) && not busy)
+canCullUnder unculled ns n = isCulled (nodeAt ns n) || (not (isKept ns n) && not unculled)
 
 -- the flags with CULLED set
 unfoldable pub withCulled : ℕ → ℕ

@@ -2,14 +2,14 @@
 ghost use mathlib.Core.Path.{_≡_};
 ghost use Prim.Native.Nat.{_≤_};
 ghost use Rattle.model.specs.Arena.{decode};
-ghost use Rattle.model.specs.ArenaCalls.{Readable};
+ghost use Rattle.model.specs.ArenaCalls.{ValidNode};
 ghost use Rattle.model.specs.Culling.{introducer, keepsInherit};
-ghost use Rattle.view.specs.View.{Standing};
+ghost use Rattle.view.specs.View.{ValidNodeAndRoot};
 ghost use Rattle.culling.specs.Culled.{isKept, canCullUnder, withCulled};
 
 // t of document 01: node n if it is authored, else where its origins begin.
 fn introducer(arena: &[u8], n: u32) -> u32
-    requires { ⌜ Readable (now arena) n ⌝ }
+    requires { ⌜ ValidNode (now arena) n ⌝ }
     ensures { λ r. ⌜ (r ≡ introducer (decode (now (arena .entry)) .nodes) n) × (r ≤ n) ⌝ }
 {
     if view::is_authored(arena, n) {
@@ -19,10 +19,10 @@ fn introducer(arena: &[u8], n: u32) -> u32
     found.node
 }
 
-// Whether node n is an Inherit in the local root's stack that stays: t's introduction path has not one prim. It has as many as t's path, less t's depth
-// below introduction.
+// Whether node n is an Inherit in the local root's stack that stays: t's introduction path has not
+// one prim. It has as many as t's path, less t's depth below introduction.
 fn keeps_inherit(arena: &[u8], root: u32, n: u32) -> bool
-    requires { ⌜ Standing (now arena) root n ⌝ }
+    requires { ⌜ ValidNodeAndRoot (now arena) root n ⌝ }
     ensures { λ r. ⌜ r ≡ keepsInherit (decode (now (arena .entry)) .nodes) n ⌝ }
 {
     if view::arc(arena, n) != 1 {
@@ -38,7 +38,7 @@ fn keeps_inherit(arena: &[u8], root: u32, n: u32) -> bool
 
 // Whether node n stays whatever its children do.
 fn is_kept(arena: &[u8], root: u32, n: u32) -> bool
-    requires { ⌜ Standing (now arena) root n ⌝ }
+    requires { ⌜ ValidNodeAndRoot (now arena) root n ⌝ }
     ensures { λ r. ⌜ r ≡ isKept (decode (now (arena .entry)) .nodes) n ⌝ }
 {
     if view::arc(arena, n) == 0 {
@@ -56,10 +56,10 @@ fn is_kept(arena: &[u8], root: u32, n: u32) -> bool
     !validate::is_inert(arena::flags(arena, n))
 }
 
-// Whether node n is culled, where `busy` says whether a child of it is not.
-pub(crate) fn can_cull(arena: &[u8], root: u32, n: u32, busy: bool) -> bool
-    requires { ⌜ Standing (now arena) root n ⌝ }
-    ensures { λ r. ⌜ r ≡ canCullUnder busy (decode (now (arena .entry)) .nodes) n ⌝ }
+// Whether node n is culled, where `unculled` says whether a child of it is not.
+pub(crate) fn can_cull(arena: &[u8], root: u32, n: u32, unculled: bool) -> bool
+    requires { ⌜ ValidNodeAndRoot (now arena) root n ⌝ }
+    ensures { λ r. ⌜ r ≡ canCullUnder unculled (decode (now (arena .entry)) .nodes) n ⌝ }
 {
     if validate::is_culled(arena::flags(arena, n)) {
         return true;
@@ -67,7 +67,7 @@ pub(crate) fn can_cull(arena: &[u8], root: u32, n: u32, busy: bool) -> bool
     if is_kept(arena, root, n) {
         return false;
     }
-    !busy
+    !unculled
 }
 
 // The flags with CULLED set.

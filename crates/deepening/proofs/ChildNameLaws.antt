@@ -1,6 +1,7 @@
--- The questions of the calls that append a child's name: which is the first to refuse (`refused-no-node` to `refused-no-room`, or `refused-none`),
--- what is known where none does (`can-deepen`), and the ways that the calls end (`deepen-refused`, `deepen-done`; `seed-refused`, `seed-done`). Assumes
--- nothing.
+-- The questions of the calls that append a child's name: which is the first to refuse
+-- (`refused-no-node` to `refused-no-room`, or `refused-none`), what is known where none does
+-- (`can-deepen`), and the ways that the calls end (`deepen-refused`, `deepen-done`; `seed-refused`,
+-- `seed-done`). Assumes nothing.
 use mathlib.Core.Path.{_≡_, refl, sym, _∙_}
 use mathlib.Core.Bool.{Bool, true, false, cond, and-eq-true-iff}
 use mathlib.Core.List.{List, _∷_}
@@ -14,10 +15,10 @@ use Rattle.model.specs.Deepening.{deepen}
 use Rattle.model.specs.Refusals.{refusalNumber, Question, ask, refusal}
 use Rattle.model.specs.Calls.{unchanged, decided, pathsFit, deepenQuestions, appendChildName, seedChild}
 use Rattle.model.specs.Arena.{arenaBytes, countIn, decode, encode, holdsGraph}
-use Rattle.model.specs.ArenaCalls.{isArena, Opened, onArena, intoArena, askArena, Finishes}
+use Rattle.model.specs.ArenaCalls.{isArena, ValidArena, onArena, intoArena, askArena, Finishes}
 use Rattle.model.specs.declared.Refusal.{Refusal}
 use Rattle.model.specs.declared.Refusal.the-variants.{Size}
-use Rattle.model.specs.declared.Finished.the-variants.{Done, Refused}
+use Rattle.model.specs.declared.UnitResult.the-variants.{Done, Refused}
 use Rattle.laws.proofs.AcceptedQuestions.{Accepted, none-refused-accepted}
 use Rattle.laws.proofs.ArenaCallLaws.{wrote-decided-refused, wrote-decided}
 use Rattle.arena.proofs.ReadNodes.{sizes, node-zero, no-node}
@@ -26,7 +27,7 @@ use Rattle.deepening.specs.ChildNames.{Deepened, seedFrom, Seeded}
 
 -- ---- The questions of an arena that holds a graph
 
-module _ (child bs : List ℕ) (o : Opened bs) where
+module _ (child bs : List ℕ) (o : ValidArena bs) where
   abbrev ownRefusal : ℕ
   ownRefusal = refusal (deepenQuestions child (decode bs))
 
@@ -68,7 +69,7 @@ module _ (child bs : List ℕ) where
     where
       given : Accepted asked → CanDeepen bs (lastName child)
       given a =
-          let o : Opened bs = record { whole = eqb-true (length bs) arenaBytes (a 1); holds = a 2 } in
+          let o : ValidArena bs = record { whole = eqb-true (length bs) arenaBytes (a 1); holds = a 2 } in
           let path = and-eq-true-iff (wellFormed child) (endsInName child) .0 (a 5) in
           record {
             opened = o;

@@ -1,5 +1,5 @@
--- Question 7, one node after the other: the sum so far and the paths from node n on (`fitFrom`), with its start, its step, a path that is too long, and its
--- end. Assumes nothing.
+-- Question 7, one node after the other: the sum so far and the paths from node n on (`fitFrom`),
+-- with its start, its step, a path that is too long, and its end. Assumes nothing.
 use mathlib.Core.Path.{_≡_, sym, ap, _∙_}
 use mathlib.Core.Bool.{Bool, false, _&&_}
 use mathlib.Core.List.{List, map}

@@ -1,6 +1,7 @@
--- One site with the name appended (`CanJoin`): its prim count, that the record loaded becomes the deepened node's, and that it is stored as such
--- (`record-joined`). Then the sites of the first nodes stored one after the other: what lies behind them is as it was (`sites-kept`), so the next node can
--- still be joined (`join-next`, `sites-next`). Assumes nothing.
+-- One site with the name appended (`CanJoin`): its prim count, that the record loaded becomes the
+-- deepened node's, and that it is stored as such (`record-joined`). Then the sites of the first
+-- nodes stored one after the other: what lies behind them is as it was (`sites-kept`), so the next
+-- node can still be joined (`join-next`, `sites-next`). Assumes nothing.
 use mathlib.Core.Path.{_≡_, refl, sym, ap, subst, _∙_}
 use mathlib.Core.Logic.{inr}
 use mathlib.Core.List.{List, _∷_, _++_}

@@ -1,5 +1,7 @@
--- The deepened graph of an arena by its parts: its links and its local root are those that are there, each node is the old one with the name appended
--- (`node-there`). So in the arena that holds the graph, encoding the deepened one is to store its marks and its sites: `encode-deepened`. Assumes nothing.
+-- The deepened graph of an arena by its parts: its links and its local root are those that are
+-- there, each node is the old one with the name appended (`node-there`). So in the arena that holds
+-- the graph, encoding the deepened one is to store its marks and its sites: `encode-deepened`.
+-- Assumes nothing.
 use mathlib.Core.Path.{_≡_, refl, sym, ap, _∙_}
 use mathlib.Core.Logic.{inl, inr}
 use mathlib.Core.Bool.{Bool, true, false, cond, and-eq-true-iff}
@@ -19,7 +21,7 @@ use Rattle.model.specs.Path.{primCount, appendName}
 use Rattle.model.specs.Refusals.{mostPathBytes, pathBytes}
 use Rattle.model.specs.Snapshot.{bigEndian, recordBytes}
 use Rattle.model.specs.Arena.{arenaBytes, slotAt, countIn, finalizedIn, shallowIn, nodeIn, firstOf, lastOf, afterIn, localRootBelow, localRootOf, linkBytes, siteBytes, slotStored, slotsStored, orderStored, headerBytes, rootStored, decode, encode}
-use Rattle.model.specs.ArenaCalls.{Readable}
+use Rattle.model.specs.ArenaCalls.{ValidNode}
 use Rattle.laws.proofs.BigEndianLaws.{Bytes}
 use Rattle.laws.proofs.DeepenLaws.{size-deepened, node-deepened}
 use Rattle.laws.proofs.LegalAlike.{short-paths}
@@ -57,7 +59,7 @@ module _ (bs name : List ℕ) (bytes : Bytes bs) (can : CanDeepen bs name) where
   -- ---- The nodes
 
   module _ (n : ℕ) (here : n < countIn bs) where
-    readable : Readable bs n
+    readable : ValidNode bs n
     readable = record { opened = can .opened; below = here }
 
     pub node-there : nodeAt (h .nodes) n ≡ deepened name (nodeIn bs n)

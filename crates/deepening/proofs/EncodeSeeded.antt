@@ -1,5 +1,6 @@
--- The stores that seeding makes are those of `encode` in its order: the header, the slots and, where the graph is finalized, the order (`encode-seeded`). And
--- the loop that copies an order (`Copying`). Assumes nothing.
+-- The stores that seeding makes are those of `encode` in its order: the header, the slots and,
+-- where the graph is finalized, the order (`encode-seeded`). And the loop that copies an order
+-- (`Copying`). Assumes nothing.
 use mathlib.Core.Path.{_≡_, refl, sym, ap, _∙_}
 use mathlib.Core.Bool.{Bool, cond}
 use mathlib.Core.List.{List, [], _∷_, _++_}

@@ -1,5 +1,5 @@
--- What deepening asks of an arena and a name, of the graph and of one node, and what its parts leave in an arena. The deepened graph is
--- model/specs/Deepening.antt's `deepen`.
+-- What deepening asks of an arena and a name, of the graph and of one node, and what its parts
+-- leave in an arena. The deepened graph is model/specs/Deepening.antt's `deepen`.
 use mathlib.Core.Path.{_≡_}
 use mathlib.Core.Bool.{Bool, true, _&&_}
 use mathlib.Core.List.{List, _∷_, _++_}
@@ -7,7 +7,7 @@ use Prim.Native.Nat.{ℕ, zero, suc, _+_, _-_, _≤_, _<_}
 use lib.Dec.{eqb}
 use lib.ListN.{length, take}
 use Rattle.model.specs.Arena.{arenaBytes, slotAt, countIn, orderedIn, finalizedIn, shallowIn, localRootIn, firstChildIn, lastChildIn, nextSiblingIn, primCountIn, nodeIn, decode}
-use Rattle.model.specs.ArenaCalls.{Opened}
+use Rattle.model.specs.ArenaCalls.{ValidArena}
 use Rattle.model.specs.Bytes.{stored}
 use Rattle.model.specs.Calls.{pathsFit}
 use Rattle.model.specs.Deepening.{deepened, deepen}
@@ -29,7 +29,7 @@ pub record ChildName (name : List ℕ) : Type 0 where
 
 -- the questions of the call passed
 pub record CanDeepen (bs name : List ℕ) : Type 0 where
-  pub opened : Opened bs
+  pub opened : ValidArena bs
   pub some-node : 0 < countIn bs
   pub named : ChildName name
   pub fits : pathsFit (deepen name (decode bs)) ≡ true

@@ -1,78 +1,81 @@
-// The calls that append a child's name to every site: in place, and into a second arena. None has a `requires`: each puts its questions, the
-// size of each buffer and whether the arena that is read holds a graph first, and is refused by the first whose answer is no; then every lent byte is as it
-// was. specs/ChildNames.antt says what each answers and leaves.
-use model::Finished;
-use model::Numbered;
+// The calls that append a child's name to every site: in place, and into a second arena. None has a
+// `requires`: each puts its questions, the size of each buffer and whether the arena that is read
+// holds a graph first, and is refused by the first whose answer is no; then every lent byte is as
+// it was. specs/ChildNames.antt says what each answers and leaves.
+use model::NumberResult;
 use model::Refusal;
+use model::UnitResult;
 ghost use mathlib.Core.Path.{_≡_};
-ghost use Rattle.model.specs.Answers.{finishedRefusal};
+ghost use Rattle.model.specs.Answers.{unitRefusal};
 ghost use Rattle.model.specs.Arena.{countIn, decode};
-ghost use Rattle.model.specs.ArenaCalls.{Opened, askArena};
+ghost use Rattle.model.specs.ArenaCalls.{ValidArena, askArena};
 ghost use Rattle.model.specs.Calls.{deepenQuestions};
 ghost use Rattle.model.specs.Refusals.{refusal};
 ghost use Rattle.deepening.specs.ChildNames.{Deepened, Seeded};
 
 // Questions 1, 2, 3, 5 and 7 of the arena that is read.
-fn ask(arena: &[u8], child: &[u8]) -> Finished
-    ensures { λ r. ⌜ finishedRefusal r ≡ refusal (askArena (now (arena .entry)) (deepenQuestions (now (child .entry)) (decode (now (arena .entry))))) ⌝ }
+fn ask(arena: &[u8], child: &[u8]) -> UnitResult
+    ensures { λ r. ⌜ unitRefusal r ≡ refusal (askArena (now (arena .entry)) (deepenQuestions (now (child .entry)) (decode (now (arena .entry))))) ⌝ }
 {
     let counted = validate::count(arena);
     match counted {
-        Numbered::Number(nodes) => ask_opened(arena, nodes, child),
-        Numbered::Refused(refusal) => Finished::Refused(refusal),
+        NumberResult::Number(nodes) => ask_opened(arena, nodes, child),
+        NumberResult::Refused(refusal) => UnitResult::Refused(refusal),
     }
 }
 
 // Questions 3, 5 and 7 of an arena that holds a graph.
-fn ask_opened(arena: &[u8], count: u32, child: &[u8]) -> Finished
-    requires { ⌜ Opened (now arena) × (count ≡ countIn (now arena)) ⌝ }
-    ensures { λ r. ⌜ finishedRefusal r ≡ refusal (deepenQuestions (now (child .entry)) (decode (now (arena .entry)))) ⌝ }
+fn ask_opened(arena: &[u8], count: u32, child: &[u8]) -> UnitResult
+    requires { ⌜ ValidArena (now arena) × (count ≡ countIn (now arena)) ⌝ }
+    ensures { λ r. ⌜ unitRefusal r ≡ refusal (deepenQuestions (now (child .entry)) (decode (now (arena .entry)))) ⌝ }
 {
     if count == 0 {
-        return Finished::Refused(Refusal::NodeZero);
+        return UnitResult::Refused(Refusal::NodeZero);
     }
     if !path::is_well_formed(child) {
-        return Finished::Refused(Refusal::Path);
+        return UnitResult::Refused(Refusal::Path);
     }
     let name = path::last_name(child);
     if name.len() == 0 {
-        return Finished::Refused(Refusal::Path);
+        return UnitResult::Refused(Refusal::Path);
     }
     if !crate::appending::paths_fit(arena, name) {
-        return Finished::Refused(Refusal::Capacity);
+        return UnitResult::Refused(Refusal::Capacity);
     }
-    Finished::Done
+    UnitResult::Done
 }
 
-// Appends the last name of the child's path to the path of every node. Refused 1, 2, 3, 5 where the child's path is none or ends in no name, and 7 where a
-// path would pass 255 bytes or all of them 32,768.
-pub fn append_child_name_to_all_sites(arena: &mut [u8], child: &[u8]) -> Finished
+// Appends the last name of the child's path to the path of every node. Refused 1, 2, 3, 5 where the
+// child's path is none or ends in no name, and 7 where a path would pass 255 bytes or all of them
+// 32,768.
+pub fn append_child_name_to_all_sites(arena: &mut [u8], child: &[u8]) -> UnitResult
     ensures { λ r. ⌜ Deepened (now (child .entry)) (now (arena .entry)) r (now (arena .exit)) ⌝ }
 {
     let asked = ask(arena, child);
     match asked {
-        Finished::Done => {
+        UnitResult::Done => {
             crate::appending::append_name_to_all_sites(arena, path::last_name(child));
-            Finished::Done
+            UnitResult::Done
         }
-        Finished::Refused(refusal) => Finished::Refused(refusal),
+        UnitResult::Refused(refusal) => UnitResult::Refused(refusal),
     }
 }
 
-// Fills the arena `into`, whatever it held, with the graph of `from`, the last name of the child's path appended to the path of every node. Refused as
-// `append_child_name_to_all_sites` is, the size being asked of both.
-pub fn seed_child(from: &[u8], into: &mut [u8], child: &[u8]) -> Finished
+// Fills the arena `into`, whatever it held, with the graph of `from`, the last name of the child's
+// path appended to the path of every node. Refused as `append_child_name_to_all_sites` is, the size
+// being asked of both.
+pub fn seed_child(from: &[u8], into: &mut [u8], child: &[u8]) -> UnitResult
     ensures { λ r. ⌜ Seeded (now (child .entry)) (now (from .entry)) (now (into .entry)) r (now (into .exit)) ⌝ }
 {
     if into.len() != 327744 {
-        return Finished::Refused(Refusal::Size);
+        return UnitResult::Refused(Refusal::Size);
     }
     let asked = ask(from, child);
     match asked {
-        Finished::Done => {
+        UnitResult::Done => {
             crate::appending::seed(from, into, path::last_name(child));
-            Finished::Done
+            UnitResult::Done
         }
-        Finished::Refused(refusal) => Finished::Refused(refusal),
+        UnitResult::Refused(refusal) => UnitResult::Refused(refusal),
     }
 }

@@ -6,7 +6,8 @@ ghost use Rattle.model.specs.Arena.{arenaBytes, orderEntryIn, tabulate, orderSt
 ghost use Rattle.arena.specs.Slot.{HasSlot};
 ghost use Rattle.deepening.specs.Deepened.{CanJoin, AllJoin, headerSeeded, slotSeeded, slotsSeeded};
 
-// Stores the count, the marks and the local root. Where the graph is not finalized the mark "ordered" is cleared.
+// Stores the count, the marks and the local root. Where the graph is not finalized the mark
+// "ordered" is cleared.
 pub(crate) fn seed_header(from: &[u8], into: &mut [u8], count: u32)
     requires { ⌜ (length (now from) ≡ arenaBytes) × (length (now into) ≡ arenaBytes) ⌝ }
     ensures { λ _. ⌜ now (into .exit) ≡ headerSeeded (now (from .entry)) count (now (into .entry)) ⌝ }
@@ -16,7 +17,7 @@ pub(crate) fn seed_header(from: &[u8], into: &mut [u8], count: u32)
     let shallow = arena::shallow(from) == 1;
     let root = arena::local_root(from);
     arena::write_count(into, count);
-    arena::write_marks(into, ordered, finalized, shallow);
+    arena::write_state(into, ordered, finalized, shallow);
     arena::write_local_root(into, root);
 }
 

@@ -6,7 +6,8 @@ ghost use Rattle.model.specs.Arena.{nodeIn};
 ghost use Rattle.model.specs.Deepening.{deepened};
 ghost use Rattle.deepening.specs.Deepened.{CanJoin, AllJoin, Joined, siteStored, sitesDeepened};
 
-// The record of node n with the name appended to its path: one prim more, and as long as its new path, which is written to `path`.
+// The record of node n with the name appended to its path: one prim more, and as long as its new
+// path, which is written to `path`.
 pub(crate) fn deepen_record(arena: &[u8], n: u32, name: &[u8], path: &mut [u8]) -> Node
     requires { ⌜ CanJoin (now arena) (now name) n × (length (now path) ≡ 255) ⌝ }
     ensures { λ r. ⌜ Joined (now (arena .entry)) (now (name .entry)) n r (now (path .exit)) ⌝ }

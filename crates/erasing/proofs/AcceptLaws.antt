@@ -1,5 +1,6 @@
--- Question 11 of one node, by the bytes that are read (`accepts-node-0` to `accepts-gone`), and of all, one after the other (`accepting-start`,
--- `accepting-step`, `accepting-fails`, `accepting-ends`). Assumes nothing.
+-- Question 11 of one node, by the bytes that are read (`accepts-node-0` to `accepts-gone`), and of
+-- all, one after the other (`accepting-start`, `accepting-step`, `accepting-fails`,
+-- `accepting-ends`). Assumes nothing.
 use mathlib.Core.Path.{_≡_, sym}
 use mathlib.Core.Bool.{true, false, not, and-true}
 use mathlib.Core.List.{List}

@@ -1,5 +1,6 @@
--- What erasing stores is the encoding of the erased graph: `erased-encoded`. Stores that share no byte may come in any order, so records first, then
--- links, order and header leave what `encode` leaves; the marks are there. Assumes nothing.
+-- What erasing stores is the encoding of the erased graph: `erased-encoded`. Stores that share no
+-- byte may come in any order, so records first, then links, order and header leave what `encode`
+-- leaves; the marks are there. Assumes nothing.
 use mathlib.Core.Path.{_≡_, refl, sym, ap, subst, _∙_}
 use mathlib.Core.Logic.{inl, inr}
 use mathlib.Core.List.{List, [], _∷_}
@@ -21,7 +22,7 @@ use Rattle.arena.proofs.ArenaParts.{Apart, header-part}
 use Rattle.arena.proofs.ArenaBack.{encode-decode}
 use Rattle.child_lists.specs.Links.{Segments, Linked, linksWritten}
 use Rattle.child_lists.proofs.LinkStores.{linksOf, links-length, links-right}
-use Rattle.erasing.specs.EraseRecords.{Numbered, newLinkIn, sitesStored}
+use Rattle.erasing.specs.EraseRecords.{NumberResult, newLinkIn, sitesStored}
 use Rattle.erasing.proofs.ErasedRecords.{ok, size-kept, few, site-short}
 use Rattle.erasing.proofs.MoveLaws.{sites-length}
 use Rattle.erasing.specs.EraseNodes.{LinksFound}
@@ -89,7 +90,7 @@ module _ (h : Graph) (few : size h ≤ 1024) (short : (k : ℕ) → k < size h �
 
 -- ---- The erased graph
 
-module _ (bs set : List ℕ) (count : ℕ) (numbers : List ℕ) (bytes : Bytes bs) (ready : Numbered bs set count numbers) where
+module _ (bs set : List ℕ) (count : ℕ) (numbers : List ℕ) (bytes : Bytes bs) (ready : NumberResult bs set count numbers) where
   abbrev g : Graph
   g = decode bs
 

@@ -1,5 +1,6 @@
--- The ways that the calls that cull and erase end: culling (`cull-refused`, `cull-done`), writing the erasable set (`set-refused`, `set-done`) and
--- erasing (`erase-refused`, `erase-done`). Assumes nothing.
+-- The ways that the calls that cull and erase end: culling (`cull-refused`, `cull-done`), writing
+-- the erasable set (`set-refused`, `set-done`) and erasing (`erase-refused`, `erase-done`). Assumes
+-- nothing.
 use mathlib.Core.Path.{_≡_, refl, sym, ap, _∙_}
 use mathlib.Core.Bool.{Bool, true, false, _&&_, cond}
 use mathlib.Core.List.{List, [], _∷_}
@@ -13,11 +14,11 @@ use Rattle.model.specs.Erasing.{stays, erasable, canErase, newNumber, erase}
 use Rattle.model.specs.Refusals.{refusalNumber, Question, ask, refusal}
 use Rattle.model.specs.Calls.{unchanged, decided, hasNodeZero, cull, eraseSet}
 use Rattle.model.specs.Arena.{countIn, decode, encode, holdsGraph}
-use Rattle.model.specs.ArenaCalls.{isArena, Opened, onArena, askArena}
+use Rattle.model.specs.ArenaCalls.{isArena, ValidArena, onArena, askArena}
 use Rattle.model.specs.declared.Refusal.{Refusal}
 use Rattle.model.specs.declared.Refusal.the-variants.{Size, NodeZero, EraseSet}
-use Rattle.model.specs.declared.Finished.the-variants.{Done, Refused as FinishRefused}
-use Rattle.model.specs.declared.Numbered.the-variants.{Number, Refused as NumberRefused}
+use Rattle.model.specs.declared.UnitResult.the-variants.{Done, Refused as FinishRefused}
+use Rattle.model.specs.declared.NumberResult.the-variants.{Number, Refused as NumberRefused}
 use Rattle.laws.proofs.ArenaCallLaws.{refusal-some, asked-on, wrote-decided-refused, wrote-decided}
 use Rattle.arena.proofs.ReadNodes.{sizes, node-zero, no-node}
 use Rattle.erasing.specs.EraseNodes.{ErasedArena}
@@ -45,7 +46,7 @@ module _ (bs set : List ℕ) (questions : List Question) where
       go true = refl
       go false = refl
 
-  pub asks-own : length set ≡ 1024 → Opened bs → refusal (askBoth bs set questions) ≡ refusal questions
+  pub asks-own : length set ≡ 1024 → ValidArena bs → refusal (askBoth bs set questions) ≡ refusal questions
   asks-own large o = whole-set large ∙ asked-on bs questions o
 
 -- the own questions of culling and of the erasable set, and of erasing
@@ -77,10 +78,10 @@ module _ (bs : List ℕ) where
       let wrote = wrote-decided-refused (askArena bs (needsNode (decode bs))) (decode bs) 0 culledGraph bs r e in
       rw cull-asks (record { refused = wrote .refused; arena = wrote .arena })
 
-  pub cull-no-node : Opened bs → countIn bs ≡ 0 → Culled bs (FinishRefused NodeZero) bs
+  pub cull-no-node : ValidArena bs → countIn bs ≡ 0 → Culled bs (FinishRefused NodeZero) bs
   cull-no-node o none = cull-refused NodeZero (sym (asked-on bs (needsNode (decode bs)) o ∙ rw (no-node bs o none)))
 
-  pub cull-done : Opened bs → 0 < countIn bs → (after : List ℕ) → after ≡ encode culledGraph bs → Culled bs Done after
+  pub cull-done : ValidArena bs → 0 < countIn bs → (after : List ℕ) → after ≡ encode culledGraph bs → Culled bs Done after
   cull-done o some after a =
       let passes : refusal (askArena bs (needsNode (decode bs))) ≡ 0 = asked-on bs (needsNode (decode bs)) o ∙ rw (node-zero bs o some) in
       let wrote = wrote-decided (askArena bs (needsNode (decode bs))) (decode bs) 0 culledGraph bs after 0 passes refl a in
@@ -98,7 +99,7 @@ module _ (bs set : List ℕ) where
   pub set-not-whole : (length set ≡ 1024 → ⊥) → ErasableWritten bs set (FinishRefused Size) set
   set-not-whole h = set-refused Size (not-set bs set (needsNode (decode bs)) h)
 
-  module _ (large : length set ≡ 1024) (o : Opened bs) where
+  module _ (large : length set ≡ 1024) (o : ValidArena bs) where
     set-own : setRefusal ≡ refusal (needsNode (decode bs))
     set-own = asks-own bs set (needsNode (decode bs)) large o
 
@@ -141,7 +142,7 @@ module _ (set bs : List ℕ) where
   pub erase-not-whole : (length set ≡ 1024 → ⊥) → Erased set bs (NumberRefused Size) bs
   erase-not-whole h = erase-refused Size (not-set bs set (eraseQuestions set (decode bs)) h)
 
-  module _ (large : length set ≡ 1024) (o : Opened bs) where
+  module _ (large : length set ≡ 1024) (o : ValidArena bs) where
     erase-own : refusal eraseAll ≡ refusal (eraseQuestions set (decode bs))
     erase-own = asks-own bs set (eraseQuestions set (decode bs)) large o
 

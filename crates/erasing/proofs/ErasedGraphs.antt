@@ -1,5 +1,5 @@
--- The graph that erasing leaves of what an arena holds: that its child lists in arrays can be linked (`parted`, `linkable`), and its local root
--- (`root-erased`). Assumes nothing.
+-- The graph that erasing leaves of what an arena holds: that its child lists in arrays can be
+-- linked (`parted`, `linkable`), and its local root (`root-erased`). Assumes nothing.
 use mathlib.Core.Path.{_≡_, refl, sym, ap, subst, _∙_}
 use mathlib.Core.Bool.{Bool, true, false, cond, false≢true, and-false}
 use mathlib.Core.List.{List}
@@ -24,7 +24,7 @@ use Rattle.arena.proofs.ReadNodes.{sizes, root-held}
 use Rattle.child_lists.specs.Links.{Segments, Parted}
 use Rattle.child_lists.proofs.SegmentLaws.{tree-parted}
 use Rattle.child_lists.proofs.LinkStores.{Linkable}
-use Rattle.erasing.specs.EraseRecords.{Numbered, newLinkIn}
+use Rattle.erasing.specs.EraseRecords.{NumberResult, newLinkIn}
 use Rattle.erasing.proofs.ErasedRecords as records
 
 root-below : (ns : List Node) (m n : ℕ) → 0 < m → n ≤ m → localRootBelow ns n < m
@@ -35,7 +35,7 @@ root-below ns m (suc n) some l = go (isLocalRoot ns n) (root-below ns m n some (
     go true later = omega arith
     go false later = later
 
-module _ (bs set : List ℕ) (count : ℕ) (numbers : List ℕ) (bytes : Bytes bs) (ready : Numbered bs set count numbers) where
+module _ (bs set : List ℕ) (count : ℕ) (numbers : List ℕ) (bytes : Bytes bs) (ready : NumberResult bs set count numbers) where
   abbrev g : Graph
   g = decode bs
 

@@ -1,5 +1,6 @@
--- The records of the graph that erasing leaves of what an arena holds: how many there are (`size-kept`, `few`), their lengths (`site-short`), and each
--- by its node's old number (`site-erased`). Assumes nothing.
+-- The records of the graph that erasing leaves of what an arena holds: how many there are
+-- (`size-kept`, `few`), their lengths (`site-short`), and each by its node's old number
+-- (`site-erased`). Assumes nothing.
 use mathlib.Core.Path.{_≡_, refl, sym, ap, _∙_}
 use mathlib.Core.Bool.{Bool, true, false, cond}
 use mathlib.Core.List.{List, _∷_}
@@ -13,7 +14,7 @@ use Rattle.model.specs.Graph.{Graph, size, nodeAt}
 use Rattle.model.specs.Path.{primCount}
 use Rattle.model.specs.Snapshot.{value, readRecord, recordBytes}
 use Rattle.model.specs.Arena.{slotAt, primCountIn, nodeIn, siteBytes, decode}
-use Rattle.model.specs.ArenaCalls.{Readable}
+use Rattle.model.specs.ArenaCalls.{ValidNode}
 use Rattle.model.specs.Erasing.{stays, newNumber, newLink, erase}
 use Rattle.laws.proofs.BigEndianLaws.{Bytes}
 use Rattle.laws.proofs.SnapshotLaws.{record-length}
@@ -22,9 +23,9 @@ use Rattle.laws.proofs.EraseLaws.{size-erased, node-erased}
 use Rattle.arena.proofs.Encodable.{Encodable, fit-at}
 use Rattle.arena.proofs.HeldEncodable.{held-encodable}
 use Rattle.arena.proofs.ReadNodes.{sizes, all, node-read}
-use Rattle.erasing.specs.EraseRecords.{Numbered, newLinkIn, nodeRenumbered}
+use Rattle.erasing.specs.EraseRecords.{NumberResult, newLinkIn, nodeRenumbered}
 
-module _ (bs set : List ℕ) (count : ℕ) (numbers : List ℕ) (bytes : Bytes bs) (ready : Numbered bs set count numbers) where
+module _ (bs set : List ℕ) (count : ℕ) (numbers : List ℕ) (bytes : Bytes bs) (ready : NumberResult bs set count numbers) where
   abbrev g : Graph
   g = decode bs
 
@@ -68,7 +69,7 @@ module _ (bs set : List ℕ) (count : ℕ) (numbers : List ℕ) (bytes : Bytes b
       go false e = refl
 
   module _ (n : ℕ) (here : n < count) (k : kept n ≡ true) (arena : List ℕ) (same : (a : ℕ) → slotAt n ≤ a → drop a arena ≡ drop a bs) where
-    readable : Readable bs n
+    readable : ValidNode bs n
     readable = record { opened = ready .opened; below = omega (arith, ready .counted) }
 
     node-same : nodeIn arena n ≡ nodeAt (g .nodes) n

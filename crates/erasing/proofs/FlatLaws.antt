@@ -1,4 +1,5 @@
--- The loop that gathers the child lists of all kept nodes, one after the other: `Listing`, with its two steps and its end. Assumes nothing.
+-- The loop that gathers the child lists of all kept nodes, one after the other: `Listing`, with its
+-- two steps and its end. Assumes nothing.
 use mathlib.Core.Path.{_≡_, refl, sym, ap, _∙_}
 use mathlib.Core.Bool.{Bool, true, false}
 use mathlib.Core.List.{List, [], _∷_, _++_}
@@ -12,7 +13,7 @@ use Rattle.model.specs.Lists.{pick, filter}
 use Rattle.model.specs.Graph.{size, childrenOf}
 use Rattle.model.specs.Strength.{view}
 use Rattle.model.specs.Arena.{countIn, decode}
-use Rattle.model.specs.ArenaCalls.{Opened}
+use Rattle.model.specs.ArenaCalls.{ValidArena}
 use Rattle.model.specs.Erasing.{stays, newNumber, erase}
 use Rattle.laws.proofs.EraseLists.{new-number-no-larger}
 use Rattle.laws.proofs.EraseLaws.{children-erased}
@@ -40,7 +41,8 @@ kept-length bytes xs = omega (arith, length-map (filter (stays bytes) xs) (newNu
 abbrev lists : List ℕ → List ℕ → ℕ → List ℕ
 lists bs bytes = childrenOf (erase bytes (decode bs))
 
--- the lists of the kept nodes below n stand up to `start`: no more than all lists of the nodes below n
+-- the lists of the kept nodes below n stand up to `start`: no more than all lists of the nodes
+-- below n
 pub record Listing (bs bytes : List ℕ) (start n : ℕ) (array ends : List ℕ) : Type 0 where
   pub high : n ≤ countIn bs
   pub long : length array ≡ 1024
@@ -61,7 +63,7 @@ listing-start long as-long = record {
   ended = λ p h. absurd (omega arith);
 }
 
-module _ {bs : List ℕ} (o : Opened bs) {bytes : List ℕ} {start n : ℕ} {array ends : List ℕ} (w : Listing bs bytes start n array ends) where
+module _ {bs : List ℕ} (o : ValidArena bs) {bytes : List ℕ} {start n : ℕ} {array ends : List ℕ} (w : Listing bs bytes start n array ends) where
   module _ (here : n < countIn bs) where
     abbrev children : List ℕ
     children = childrenOf (decode bs) n

@@ -1,5 +1,5 @@
--- The loop that puts what is kept of a list into an array, by new numbers: `Keeping`, with its two steps and its end. A child list and the order are
--- kept alike. Assumes nothing.
+-- The loop that puts what is kept of a list into an array, by new numbers: `Keeping`, with its two
+-- steps and its end. A child list and the order are kept alike. Assumes nothing.
 use mathlib.Core.Path.{_≡_, refl, sym, ap, _∙_}
 use mathlib.Core.List.{List, [], _∷_, _++_, append-nil}
 use Prim.Native.Nat.{ℕ, _+_, _≤_, _<_}

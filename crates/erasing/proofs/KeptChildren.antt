@@ -1,5 +1,5 @@
--- The loop that gathers the kept children of a node: `Walking`, with its two steps and its end, and that each step leaves fewer (`walking-less`).
--- Assumes nothing.
+-- The loop that gathers the kept children of a node: `Walking`, with its two steps and its end, and
+-- that each step leaves fewer (`walking-less`). Assumes nothing.
 use mathlib.Core.Path.{_≡_, sym, ap, _∙_}
 use mathlib.Core.List.{List, [], _∷_}
 use Prim.Native.Nat.{ℕ, _+_, _≤_, _<_}
@@ -8,7 +8,7 @@ use lib.ListN.{length, getD, set}
 use Rattle.model.specs.Node.{invalid}
 use Rattle.model.specs.Graph.{childrenOf}
 use Rattle.model.specs.Arena.{countIn, firstChildIn, nextSiblingIn, nodeIn, chainIn, decode}
-use Rattle.model.specs.ArenaCalls.{Opened, Readable}
+use Rattle.model.specs.ArenaCalls.{ValidArena, ValidNode}
 use Rattle.model.specs.Erasing.{stays, newNumber}
 use Rattle.laws.proofs.ListLaws.{all-imp}
 use Rattle.arena.proofs.ChainLaws.{Chain, chain-length, chain-linked}
@@ -23,7 +23,7 @@ use Rattle.erasing.proofs.KeepLaws.{Keeping, keeping-start, keeping-roo
 abbrev pub left : List ℕ → ℕ → ℕ
 left bs child = length (chainIn bs (countIn bs) child)
 
-left-read : {bs : List ℕ} {v n : ℕ} {cs : List ℕ} → Opened bs → Chain bs v n cs → length cs ≤ countIn bs → left bs n ≡ length cs
+left-read : {bs : List ℕ} {v n : ℕ} {cs : List ℕ} → ValidArena bs → Chain bs v n cs → length cs ≤ countIn bs → left bs n ≡ length cs
 left-read {bs} {v} {n} {cs} o chain short =
     let few = held bs (o .holds) .few in
     ap (left bs) (sym (chain .first))
@@ -39,7 +39,7 @@ pub record Walking (bs bytes : List ℕ) (v start : ℕ) (before : List ℕ) (ch
   pub short : length rest ≤ countIn bs
   pub keeping : Keeping bytes (childrenOf (decode bs) v) start before rest end array
 
-module _ {bs : List ℕ} (o : Opened bs) {bytes : List ℕ} {v start : ℕ} {before : List ℕ} where
+module _ {bs : List ℕ} (o : ValidArena bs) {bytes : List ℕ} {v start : ℕ} {before : List ℕ} where
   pub walking-start : {child : ℕ} → v < countIn bs → start + length (childrenOf (decode bs) v) ≤ length before → child ≡ firstChildIn bs v
       → Walking bs bytes v start before child start before
   walking-start h fits e =
@@ -71,7 +71,7 @@ module _ {bs : List ℕ} (o : Opened bs) {bytes : List ℕ} {v start : ℕ} {bef
               let same : c ≡ child = chain .first in
               record { later = rest; chain = rw same at chain; short = short; keeping = rw same at keeping }
 
-      pub walking-readable : Readable bs child
+      pub walking-readable : ValidNode bs child
       walking-readable = record { opened = o; below = here .chain .children .0 .0 }
 
       pub walking-room : end < length array

@@ -1,5 +1,5 @@
--- The loop that filters the order: `Filtering`, with its two steps and its end; and that a graph without an order has none (`filtered-none`). Assumes
--- nothing.
+-- The loop that filters the order: `Filtering`, with its two steps and its end; and that a graph
+-- without an order has none (`filtered-none`). Assumes nothing.
 use mathlib.Core.Path.{_≡_, sym, ap, _∙_}
 use mathlib.Core.Bool.{true}
 use mathlib.Core.List.{List, [], _∷_}
@@ -11,7 +11,7 @@ use lib.Seq.{slice, drop-cons}
 use borrow.Author.Tests.{eq-eqb, ne-eqb}
 use Rattle.model.specs.Graph.{size}
 use Rattle.model.specs.Arena.{countIn, orderedIn, orderEntryIn, tabulate, decode}
-use Rattle.model.specs.ArenaCalls.{Opened, Readable}
+use Rattle.model.specs.ArenaCalls.{ValidArena, ValidNode}
 use Rattle.model.specs.Erasing.{stays, newNumber, erase}
 use Rattle.laws.proofs.EraseLaws.{order-erased}
 use Rattle.arena.proofs.TabulateLaws.{tabulate-length, tabulate-at}
@@ -34,7 +34,7 @@ filtered-none bs bytes e = sym (order-erased (stays bytes) (decode bs) ∙ ap (k
     none : decode bs .order ≡ []
     none = rw (ne-eqb (orderedIn bs) 1 e)
 
-module _ {bs : List ℕ} (o : Opened bs) (ordered : orderedIn bs ≡ 1) where
+module _ {bs : List ℕ} (o : ValidArena bs) (ordered : orderedIn bs ≡ 1) where
   order-read : decode bs .order ≡ tabulate (orderEntryIn bs) 0 (countIn bs)
   unfolding decode
   order-read = rw (eq-eqb (orderedIn bs) 1 ordered)
@@ -50,7 +50,7 @@ module _ {bs : List ℕ} (o : Opened bs) (ordered : orderedIn bs ≡ 1) where
   entry-read n h = ap (λ (l : List ℕ). getD l n 0) order-read ∙ tabulate-at (orderEntryIn bs) 0 (countIn bs) n h
 
   -- a marked order has each node once, and so nothing but nodes
-  pub entry-readable : {n c : ℕ} → n < countIn bs → c ≡ orderEntryIn bs n → Readable bs c
+  pub entry-readable : {n c : ℕ} → n < countIn bs → c ≡ orderEntryIn bs n → ValidNode bs c
   entry-readable {n} {c} h e = record {
     opened = o;
     below =

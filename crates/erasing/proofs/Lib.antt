@@ -1,8 +1,10 @@
--- Erase sets: the mark of one node and the marked set; the pass that spares links; and question 11, node by node.
+-- Erase sets: the mark of one node and the marked set; the pass that spares links; and question 11,
+-- node by node.
 mod MarkLaws
 mod SpareLaws
 mod AcceptLaws
--- New numbers; what is kept of a list, put into an array; a child list; all child lists; and the order.
+-- New numbers; what is kept of a list, put into an array; a child list; all child lists; and the
+-- order.
 mod KeptNumbers
 mod KeepLaws
 mod KeptChildren

@@ -1,5 +1,5 @@
--- The byte of one node by the fields that are read of it (`mark-unculled` to `mark-set`), and a set filled with these bytes from the front
--- (`marked-start`, `marked-step`). Assumes nothing.
+-- The byte of one node by the fields that are read of it (`mark-unculled` to `mark-set`), and a set
+-- filled with these bytes from the front (`marked-start`, `marked-step`). Assumes nothing.
 use mathlib.Core.Path.{_≡_, ap, _∙_}
 use mathlib.Core.Bool.{true, false, not, _&&_}
 use mathlib.Core.List.{List}
@@ -14,7 +14,7 @@ use Rattle.model.specs.Lists.{bit}
 use Rattle.model.specs.Node.{culledFlag, hasFlag, Node}
 use Rattle.model.specs.Graph.{Graph, size, depthBelowIntroduction}
 use Rattle.model.specs.Arena.{countIn, decode}
-use Rattle.model.specs.ArenaCalls.{Opened, Readable}
+use Rattle.model.specs.ArenaCalls.{ValidArena, ValidNode}
 use Rattle.model.specs.Culling.{isMarked}
 use Rattle.arena.specs.Slot.{flagsIn, hasSpecsIn}
 use Rattle.arena.proofs.ReadNodes.{sizes, node-read, fields-read}
@@ -23,10 +23,10 @@ use Rattle.erasing.specs.MarkedSet.{marks, MarkedBelow}
 
 -- ---- One byte
 
-pub mark-beyond : (bs : List ℕ) (n : ℕ) → Opened bs → countIn bs ≤ n → 0 ≡ bit (marks (decode bs) n)
+pub mark-beyond : (bs : List ℕ) (n : ℕ) → ValidArena bs → countIn bs ≤ n → 0 ≡ bit (marks (decode bs) n)
 mark-beyond bs n o h = rw (le-ltb n (size (decode bs)) (omega (arith, sizes bs o)))
 
-module _ (bs : List ℕ) (n : ℕ) (r : Readable bs n) where
+module _ (bs : List ℕ) (n : ℕ) (r : ValidNode bs n) where
   mark-read : marks (decode bs) n
       ≡ (hasFlag culledFlag (flagsIn bs n) && (not (eqb (hasSpecsIn bs n) 1) && not (eqb (depthBelowIntroduction (decode bs .nodes) n) 0)))
   unfolding isMarked

@@ -1,5 +1,6 @@
--- Moving the records: one record, loaded, renumbered and stored with its path, which was copied aside (`path-copied`, `record-moved`); and the state of
--- `move_records`' loop. Since a new number is not above the old one, no store meets a record that has still to move. Assumes nothing.
+-- Moving the records: one record, loaded, renumbered and stored with its path, which was copied
+-- aside (`path-copied`, `record-moved`); and the state of `move_records`' loop. Since a new number
+-- is not above the old one, no store meets a record that has still to move. Assumes nothing.
 use mathlib.Core.Path.{_≡_, refl, ap, _∙_}
 use mathlib.Core.Bool.{Bool, true}
 use mathlib.Core.List.{List, _∷_}
@@ -21,7 +22,7 @@ use Rattle.arena.specs.declared.Node.{Node}
 use Rattle.arena.specs.Slot.{HasSlot, HasPath, Loaded, recordStored}
 use Rattle.arena.proofs.SlotLaws.{loaded-node, path-length}
 use Rattle.arena.proofs.ReadNodes.{has-path}
-use Rattle.erasing.specs.EraseRecords.{Numbered, renumberedIn, nodeRenumbered, recordMoved, sitesStored}
+use Rattle.erasing.specs.EraseRecords.{NumberResult, renumberedIn, nodeRenumbered, recordMoved, sitesStored}
 use Rattle.erasing.proofs.ErasedRecords.{size-kept, few, site-short, site-erased}
 
 -- ---- One record
@@ -70,7 +71,7 @@ pub record Moving (bs set : List ℕ) (count : ℕ) (arena : List ℕ) (n : ℕ)
   pub long : length arena ≡ length bs
   pub moved : arena ≡ sitesStored (erase set (decode bs)) (newNumber (stays set) n) bs
 
-module _ (bs set : List ℕ) (count : ℕ) (numbers : List ℕ) (bytes : Bytes bs) (ready : Numbered bs set count numbers) where
+module _ (bs set : List ℕ) (count : ℕ) (numbers : List ℕ) (bytes : Bytes bs) (ready : NumberResult bs set count numbers) where
   abbrev h : Graph
   h = erase set (decode bs)
 

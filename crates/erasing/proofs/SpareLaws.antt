@@ -1,5 +1,6 @@
--- The pass over a set's bytes: it starts from the marked set (`sparing-start`), a node that stays has its links stay (`sparing-kept`), one that goes
--- changes nothing (`sparing-gone`), and what is left is the erasable set (`sparing-ends`). Assumes nothing.
+-- The pass over a set's bytes: it starts from the marked set (`sparing-start`), a node that stays
+-- has its links stay (`sparing-kept`), one that goes changes nothing (`sparing-gone`), and what is
+-- left is the erasable set (`sparing-ends`). Assumes nothing.
 use mathlib.Core.Path.{_≡_, refl, sym, ap, _∙_, fun-ext}
 use mathlib.Core.Bool.{Bool, true, false, not, _||_, _&&_, or-true, or-false, or-assoc}
 use mathlib.Core.List.{List}
@@ -19,7 +20,8 @@ use Rattle.laws.proofs.ErasableLaws.{unmarked-not-erasable}
 use Rattle.laws.proofs.EraseSets.{erasable-length, erasable-byte}
 use Rattle.erasing.specs.MarkedSet.{marks, MarkedBelow}
 
--- the nodes from n on are done: the rest of the pass comes from these bytes to what the whole pass keeps
+-- the nodes from n on are done: the rest of the pass comes from these bytes to what the whole pass
+-- keeps
 pub record Sparing (ns : List Node) (n : ℕ) (bytes : List ℕ) : Type 0 where
   pub long : length bytes ≡ 1024
   pub bits : (k : ℕ) → getD bytes k 0 ≤ 1

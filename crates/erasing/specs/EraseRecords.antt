@@ -10,14 +10,14 @@ use Rattle.model.specs.Node as model
 use Rattle.model.specs.Graph.{Graph}
 use Rattle.model.specs.Snapshot.{recordBytes}
 use Rattle.model.specs.Arena.{slotAt, countIn, primCountIn, nodeIn, siteBytes, decode}
-use Rattle.model.specs.ArenaCalls.{Opened}
+use Rattle.model.specs.ArenaCalls.{ValidArena}
 use Rattle.model.specs.Erasing.{canErase}
 use Rattle.arena.specs.declared.Node.{Node}
 use Rattle.erasing.specs.KeptLists.{Numbers}
 
 -- an arena of `count` nodes, a set that question 11 accepts, and the new numbers
-pub record Numbered (bs set : List ℕ) (count : ℕ) (numbers : List ℕ) : Type 0 where
-  pub opened : Opened bs
+pub record NumberResult (bs set : List ℕ) (count : ℕ) (numbers : List ℕ) : Type 0 where
+  pub opened : ValidArena bs
   pub some-node : 0 < countIn bs
   pub long : length set ≡ 1024
   pub accepted : canErase (decode bs) set ≡ true

@@ -1,4 +1,5 @@
--- What stands in a set before the pass over the links. What the functions answer is in model/specs/Culling.antt and Erasing.antt.
+-- What stands in a set before the pass over the links. What the functions answer is in
+-- model/specs/Culling.antt and Erasing.antt.
 use mathlib.Core.Path.{_≡_}
 use mathlib.Core.Bool.{Bool, _&&_}
 use mathlib.Core.List.{List}

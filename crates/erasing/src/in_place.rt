@@ -1,15 +1,17 @@
-// Erasing nodes of an arena, in place. New numbers, child lists, links and order are found first, in local arrays over the unchanged arena (lists.rt,
-// crates/child_lists); then each kept record moves to its new slot (records.rt), and links, order and header are stored. It never refuses: that the arena
-// holds a graph and that the set passes question 11 its callers prove. specs/EraseNodes.antt says what is found and what is left.
+// Erasing nodes of an arena, in place. New numbers, child lists, links and order are found first,
+// in local arrays over the unchanged arena (lists.rt, crates/child_lists); then each kept record
+// moves to its new slot (records.rt), and links, order and header are stored. It never refuses:
+// that the arena holds a graph and that the set passes question 11 its callers prove.
+// specs/EraseNodes.antt says what is found and what is left.
 ghost use mathlib.Core.Path.{_≡_};
 ghost use mathlib.Core.Bool.{true};
 ghost use Prim.Native.Nat.{_<_};
 ghost use lib.ListN.{length};
 ghost use Rattle.model.specs.Arena.{arenaBytes, countIn, decode, encode};
-ghost use Rattle.model.specs.ArenaCalls.{Opened};
+ghost use Rattle.model.specs.ArenaCalls.{ValidArena};
 ghost use Rattle.model.specs.Erasing.{stays, canErase, newNumber, erase as erased};
 ghost use Rattle.arena.specs.Header.{countStored, localRootStored};
-ghost use Rattle.erasing.specs.EraseRecords.{Numbered};
+ghost use Rattle.erasing.specs.EraseRecords.{NumberResult};
 ghost use Rattle.erasing.specs.EraseNodes.{ErasedArena, LinksFound};
 
 // The links of the kept nodes, by new numbers.
@@ -23,7 +25,7 @@ fn find_links(
     last: &mut [u32],
     next: &mut [u32],
 )
-    requires { ⌜ Numbered (now arena) (now set) count (now numbers) × (kept ≡ newNumber (stays (now set)) count) ⌝ }
+    requires { ⌜ NumberResult (now arena) (now set) count (now numbers) × (kept ≡ newNumber (stays (now set)) count) ⌝ }
     requires { ⌜ (length (now first) ≡ 1024) × (length (now last) ≡ 1024) × (length (now next) ≡ 1024) ⌝ }
     ensures { λ _. ⌜ LinksFound (erased (now (set .entry)) (decode (now (arena .entry)))) kept (now (first .exit)) (now (last .exit)) (now (next .entry)) (now (next .exit)) ⌝ }
 {
@@ -44,7 +46,7 @@ fn write_header(arena: &mut [u8], kept: u32, root: u32)
 
 // Erases by new numbers: links and order are found, then all is stored.
 fn write_erased(arena: &mut [u8], set: &[u8], numbers: &[u32], count: u32, kept: u32)
-    requires { ⌜ Numbered (now arena) (now set) count (now numbers) × (kept ≡ newNumber (stays (now set)) count) ⌝ }
+    requires { ⌜ NumberResult (now arena) (now set) count (now numbers) × (kept ≡ newNumber (stays (now set)) count) ⌝ }
     ensures { λ _. ⌜ now (arena .exit) ≡ encode (erased (now (set .entry)) (decode (now (arena .entry)))) (now (arena .entry)) ⌝ }
 {
     let mut first: [u32; 1024] = [0; 1024];
@@ -71,7 +73,7 @@ fn write_erased(arena: &mut [u8], set: &[u8], numbers: &[u32], count: u32, kept:
 
 // Erases the nodes that the set names, and answers how many are kept.
 pub fn erase(arena: &mut [u8], set: &[u8]) -> u32
-    requires { ⌜ Opened (now arena) × (0 < countIn (now arena)) ⌝ }
+    requires { ⌜ ValidArena (now arena) × (0 < countIn (now arena)) ⌝ }
     requires { ⌜ (length (now set) ≡ 1024) × (canErase (decode (now arena)) (now set) ≡ true) ⌝ }
     ensures { λ r. ⌜ ErasedArena (now (set .entry)) (now (arena .entry)) r (now (arena .exit)) ⌝ }
 {

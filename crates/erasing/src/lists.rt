@@ -1,12 +1,13 @@
-// What erasing leaves of numbers, child lists and order, found in lent arrays over the unchanged arena: the new number of each node, the child lists of
-// the kept nodes one after the other, and the order without what goes. It never refuses and never writes the arena: the arena holds a graph, which its
-// callers prove. specs/KeptLists.antt says what stands in the arrays.
+// What erasing leaves of numbers, child lists and order, found in lent arrays over the unchanged
+// arena: the new number of each node, the child lists of the kept nodes one after the other, and
+// the order without what goes. It never refuses and never writes the arena: the arena holds a
+// graph, which its callers prove. specs/KeptLists.antt says what stands in the arrays.
 ghost use mathlib.Core.Path.{_≡_};
 ghost use Prim.Native.Nat.{_+_, _≤_, _<_};
 ghost use lib.ListN.{length};
 ghost use lib.Seq.{slice};
 ghost use Rattle.model.specs.Arena.{countIn, decode};
-ghost use Rattle.model.specs.ArenaCalls.{Opened};
+ghost use Rattle.model.specs.ArenaCalls.{ValidArena};
 ghost use Rattle.model.specs.Erasing.{stays, newNumber, erase};
 ghost use Rattle.model.specs.Graph.{childrenOf};
 ghost use Rattle.child_lists.specs.Links.{Segments};
@@ -30,7 +31,8 @@ pub fn number(set: &[u8], count: u32, numbers: &mut [u32]) -> u32
     kept
 }
 
-// Puts the new numbers of the kept children of a node into `lists` from `start` on, and answers where they end.
+// Puts the new numbers of the kept children of a node into `lists` from `start` on, and answers
+// where they end.
 fn gather_list(
     arena: &[u8],
     set: &[u8],
@@ -39,7 +41,7 @@ fn gather_list(
     lists: &mut [u32],
     start: usize,
 ) -> usize
-    requires { ⌜ Opened (now arena) × (parent < countIn (now arena)) × Numbers (now set) (countIn (now arena)) (now numbers) ⌝ }
+    requires { ⌜ ValidArena (now arena) × (parent < countIn (now arena)) × Numbers (now set) (countIn (now arena)) (now numbers) ⌝ }
     requires { ⌜ (length (now set) ≡ 1024) × (length (now lists) ≡ 1024) × (start + length (childrenOf (decode (now arena)) parent) ≤ 1024) ⌝ }
     ensures { λ r. ⌜ Gathered (keptList (now (set .entry)) (childrenOf (decode (now (arena .entry))) parent)) start r (now (lists .entry)) (now (lists .exit)) ⌝ }
 {
@@ -56,7 +58,8 @@ fn gather_list(
     end
 }
 
-// The child lists of the kept nodes by new numbers, one after the other in `lists`; `ends` has where each ends.
+// The child lists of the kept nodes by new numbers, one after the other in `lists`; `ends` has
+// where each ends.
 pub fn gather_lists(
     arena: &[u8],
     set: &[u8],
@@ -65,7 +68,7 @@ pub fn gather_lists(
     lists: &mut [u32],
     ends: &mut [u32],
 )
-    requires { ⌜ Opened (now arena) × (count ≡ countIn (now arena)) × Numbers (now set) count (now numbers) ⌝ }
+    requires { ⌜ ValidArena (now arena) × (count ≡ countIn (now arena)) × Numbers (now set) count (now numbers) ⌝ }
     requires { ⌜ (length (now set) ≡ 1024) × (length (now lists) ≡ 1024) × (length (now ends) ≡ 1024) ⌝ }
     ensures { λ _. ⌜ Segments (childrenOf (erase (now (set .entry)) (decode (now (arena .entry))))) (newNumber (stays (now (set .entry))) count) (now (lists .exit)) (now (ends .exit)) ⌝ }
 {
@@ -82,9 +85,10 @@ pub fn gather_lists(
     }
 }
 
-// The order without what goes, by new numbers, at the front of `order`; answers how many entries it has: none where the graph is not ordered.
+// The order without what goes, by new numbers, at the front of `order`; answers how many entries it
+// has: none where the graph is not ordered.
 pub fn filter_order(arena: &[u8], set: &[u8], numbers: &[u32], count: u32, order: &mut [u32]) -> u32
-    requires { ⌜ Opened (now arena) × (count ≡ countIn (now arena)) × Numbers (now set) count (now numbers) ⌝ }
+    requires { ⌜ ValidArena (now arena) × (count ≡ countIn (now arena)) × Numbers (now set) count (now numbers) ⌝ }
     requires { ⌜ (length (now set) ≡ 1024) × (length (now order) ≡ 1024) ⌝ }
     ensures { λ r. ⌜ (r ≤ 1024) × (slice 0 r (now (order .exit)) ≡ erase (now (set .entry)) (decode (now (arena .entry))) .order) ⌝ }
 {

@@ -1,6 +1,8 @@
-// Moving the records of the nodes that erasing keeps, in place: each, with the new numbers of its parent and its origin, to its new slot, which is not
-// higher. New numbers are found before (lists.rt). It never refuses and stores no link, order or header: that the arena holds a graph and that
-// the set passes question 11 its callers prove. specs/EraseRecords.antt says what is stored.
+// Moving the records of the nodes that erasing keeps, in place: each, with the new numbers of its
+// parent and its origin, to its new slot, which is not higher. New numbers are found before
+// (lists.rt). It never refuses and stores no link, order or header: that the arena holds a graph
+// and that the set passes question 11 its callers prove. specs/EraseRecords.antt says what is
+// stored.
 use arena::Node;
 use model::NodeId;
 ghost use mathlib.Core.Path.{_≡_};
@@ -9,9 +11,10 @@ ghost use lib.ListN.{length};
 ghost use Rattle.model.specs.Arena.{decode};
 ghost use Rattle.model.specs.Erasing.{stays, newNumber, erase as erased};
 ghost use Rattle.arena.specs.Slot.{HasSlot, HasPath};
-ghost use Rattle.erasing.specs.EraseRecords.{Numbered, newLinkIn, renumberedIn, recordMoved, sitesStored};
+ghost use Rattle.erasing.specs.EraseRecords.{NumberResult, newLinkIn, renumberedIn, recordMoved, sitesStored};
 
-// The new number of a parent, an origin or the local root; what is no node's number, as node 0's parent, stays.
+// The new number of a parent, an origin or the local root; what is no node's number, as node 0's
+// parent, stays.
 pub fn new_link(numbers: &[u32], count: u32, link: u32) -> u32
     requires { ⌜ (length (now numbers) ≡ 1024) × (count ≤ 1024) ⌝ }
     ensures { λ r. ⌜ r ≡ newLinkIn (now (numbers .entry)) count link ⌝ }
@@ -48,7 +51,7 @@ fn move_record(arena: &mut [u8], numbers: &[u32], count: u32, from: u32, to: u32
 
 // Moves the record of each kept node to its new slot, which is not higher.
 pub fn move_records(arena: &mut [u8], set: &[u8], numbers: &[u32], count: u32)
-    requires { ⌜ Numbered (now arena) (now set) count (now numbers) ⌝ }
+    requires { ⌜ NumberResult (now arena) (now set) count (now numbers) ⌝ }
     ensures { λ _. ⌜ now (arena .exit) ≡ sitesStored (erased (now (set .entry)) (decode (now (arena .entry)))) (newNumber (stays (now (set .entry))) count) (now (arena .entry)) ⌝ }
 {
     let mut path: [u8; 255] = [0; 255];

@@ -1,17 +1,18 @@
-// Erase sets: 1,024 bytes, one a node, 1 for what goes and 0 for what stays. The erasable set of a graph in one pass from the highest node down, and
-// question 11, whether a set may be erased. It never refuses and never writes the arena: the arena holds a graph, which its callers prove.
+// Erase sets: 1,024 bytes, one a node, 1 for what goes and 0 for what stays. The erasable set of a
+// graph in one pass from the highest node down, and question 11, whether a set may be erased. It
+// never refuses and never writes the arena: the arena holds a graph, which its callers prove.
 // specs/MarkedSet.antt says what stands in the set before the pass.
 ghost use mathlib.Core.Path.{_≡_};
 ghost use lib.ListN.{length};
 ghost use Rattle.model.specs.Arena.{countIn, decode};
-ghost use Rattle.model.specs.ArenaCalls.{Opened, Readable};
+ghost use Rattle.model.specs.ArenaCalls.{ValidArena, ValidNode};
 ghost use Rattle.model.specs.Erasing.{erasable, sparesOne, canErase};
 ghost use Rattle.model.specs.Lists.{bit};
 ghost use Rattle.erasing.specs.MarkedSet.{marks, MarkedBelow};
 
 // 1 where node n is marked; 0 where it is not, and from the count on.
 fn mark(arena: &[u8], count: u32, n: u32) -> u8
-    requires { ⌜ Opened (now arena) × (count ≡ countIn (now arena)) ⌝ }
+    requires { ⌜ ValidArena (now arena) × (count ≡ countIn (now arena)) ⌝ }
     ensures { λ r. ⌜ r ≡ bit (marks (decode (now (arena .entry))) n) ⌝ }
 {
     if n >= count {
@@ -31,7 +32,7 @@ fn mark(arena: &[u8], count: u32, n: u32) -> u8
 
 // Writes each byte of the set by its mark.
 fn mark_all(arena: &[u8], count: u32, set: &mut [u8])
-    requires { ⌜ Opened (now arena) × (count ≡ countIn (now arena)) ⌝ }
+    requires { ⌜ ValidArena (now arena) × (count ≡ countIn (now arena)) ⌝ }
     requires { ⌜ length (now set) ≡ 1024 ⌝ }
     ensures { λ _. ⌜ MarkedBelow (decode (now (arena .entry))) 1024 (now (set .exit)) ⌝ }
 {
@@ -42,9 +43,10 @@ fn mark_all(arena: &[u8], count: u32, set: &mut [u8])
     }
 }
 
-// Spares the parent and the origin of each node that stays: both are lower, so one pass from the highest node down finds every one.
+// Spares the parent and the origin of each node that stays: both are lower, so one pass from the
+// highest node down finds every one.
 fn spare(arena: &[u8], count: u32, set: &mut [u8])
-    requires { ⌜ Opened (now arena) × (count ≡ countIn (now arena)) ⌝ }
+    requires { ⌜ ValidArena (now arena) × (count ≡ countIn (now arena)) ⌝ }
     requires { ⌜ MarkedBelow (decode (now arena)) 1024 (now set) ⌝ }
     ensures { λ _. ⌜ now (set .exit) ≡ erasable (decode (now (arena .entry))) ⌝ }
 {
@@ -62,7 +64,7 @@ fn spare(arena: &[u8], count: u32, set: &mut [u8])
 
 // Writes the erasable set.
 pub fn erasable(arena: &[u8], set: &mut [u8])
-    requires { ⌜ Opened (now arena) ⌝ }
+    requires { ⌜ ValidArena (now arena) ⌝ }
     requires { ⌜ length (now set) ≡ 1024 ⌝ }
     ensures { λ _. ⌜ now (set .exit) ≡ erasable (decode (now (arena .entry))) ⌝ }
 {
@@ -71,10 +73,10 @@ pub fn erasable(arena: &[u8], set: &mut [u8])
     spare(arena, count, set);
 }
 
-// Whether the set's byte of node n is right: 0, and the node's parent and origin stay, or 1, and its arc is not Root. Node 0 has no parent and no
-// origin.
+// Whether the set's byte of node n is right: 0, and the node's parent and origin stay, or 1, and
+// its arc is not Root. Node 0 has no parent and no origin.
 fn spares_one(arena: &[u8], set: &[u8], n: u32) -> bool
-    requires { ⌜ Readable (now arena) n ⌝ }
+    requires { ⌜ ValidNode (now arena) n ⌝ }
     requires { ⌜ length (now set) ≡ 1024 ⌝ }
     ensures { λ r. ⌜ r ≡ sparesOne (decode (now (arena .entry))) (now (set .entry)) n ⌝ }
 {
@@ -98,7 +100,7 @@ fn spares_one(arena: &[u8], set: &[u8], n: u32) -> bool
 
 // Whether the set may be erased: question 11.
 pub fn can_erase(arena: &[u8], set: &[u8]) -> bool
-    requires { ⌜ Opened (now arena) ⌝ }
+    requires { ⌜ ValidArena (now arena) ⌝ }
     requires { ⌜ length (now set) ≡ 1024 ⌝ }
     ensures { λ r. ⌜ r ≡ canErase (decode (now (arena .entry))) (now (set .entry)) ⌝ }
 {

@@ -1,2 +1,3 @@
--- An element put into a list; the rest of the guess has no laws, since nothing is proved of what it finds.
+-- An element put into a list; the rest of the guess has no laws, since nothing is proved of what it
+-- finds.
 pub mod PutInLaws

@@ -1,5 +1,6 @@
--- A call that is put questions (document 01, "The twelve questions"): not refused, every question passes; refused, it leaves the graph. So what holds
--- of the old graph, and of the new one where every question passes, holds after the call: one law for all calls. Assumes nothing.
+-- A call that is put questions (document 01, "The twelve questions"): not refused, every question
+-- passes; refused, it leaves the graph. So what holds of the old graph, and of the new one where
+-- every question passes, holds after the call: one law for all calls. Assumes nothing.
 use mathlib.Core.Path.{_≡_, refl}
 use mathlib.Core.Bool.{Bool, true, false, _&&_, cond, and-eq-true-iff}
 use mathlib.Core.List.{List, [], _∷_}

@@ -1,6 +1,7 @@
--- Adding a node: links stay lower, and unless it is a local root a comparison of the nodes before it cannot tell (`add-looks-like`): a late
--- addition moves nobody. What is then read of each node, and its child lists, are in Trees.antt (`node-old`, `node-new`, `children-here`).
--- Assumes nothing.
+-- Adding a node: links stay lower, and unless it is a local root a comparison of the nodes before
+-- it cannot tell (`add-looks-like`): a late addition moves nobody. What is then read of each node,
+-- and its child lists, are in Trees.antt (`node-old`, `node-new`, `children-here`). Assumes
+-- nothing.
 use mathlib.Core.Path.{_≡_, refl, ap₂}
 use mathlib.Core.Logic.{_≢_}
 use mathlib.Core.Bool.{Bool, true, false, and-false}

@@ -1,5 +1,5 @@
--- What questions 1 and 2 leave of a call's questions, and the answers that are right: one law for each way a call can end, whatever its questions are.
--- Assumes nothing.
+-- What questions 1 and 2 leave of a call's questions, and the answers that are right: one law for
+-- each way a call can end, whatever its questions are. Assumes nothing.
 use mathlib.Core.Path.{_≡_, refl, sym, ap, _∙_}
 use mathlib.Core.Bool.{Bool, true, false}
 use mathlib.Core.List.{List, [], _∷_}
@@ -11,10 +11,10 @@ use Rattle.model.specs.Graph.{Graph}
 use Rattle.model.specs.Refusals.{refusalNumber, Question, ask, refusal}
 use Rattle.model.specs.Calls.{Outcome, unchanged, settled, decided}
 use Rattle.model.specs.Arena.{arenaBytes, decode, encode, holdsGraph}
-use Rattle.model.specs.ArenaCalls.{isArena, Opened, onArena, Wrote, askArena, valueUnless, Answers, Answered}
+use Rattle.model.specs.ArenaCalls.{isArena, ValidArena, onArena, Wrote, askArena, valueUnless, Answers, Answered}
 use Rattle.model.specs.declared.Refusal.{Refusal}
 use Rattle.model.specs.declared.Refusal.the-variants.{Size, NotAGraph, NodeZero, Node as NodeNumber, Path, Kind, Capacity, NotSiblings, NoOrder, NotOrdered, EraseSet, Snapshot}
-use Rattle.model.specs.declared.Numbered.the-variants.{Number, Refused as NumberRefused}
+use Rattle.model.specs.declared.NumberResult.the-variants.{Number, Refused as NumberRefused}
 
 -- ---- Refusals
 
@@ -53,15 +53,15 @@ module _ (bs : List ℕ) where
   pub not-graph : (qs : List Question) → isArena bs ≡ true → holdsGraph bs ≡ false → refusal (askArena bs qs) ≡ 2
   not-graph qs e f = rw (e, f)
 
-  pub asked-on : (qs : List Question) → Opened bs → refusal (askArena bs qs) ≡ refusal qs
+  pub asked-on : (qs : List Question) → ValidArena bs → refusal (askArena bs qs) ≡ refusal qs
   asked-on qs o = rw (eq-eqb (length bs) arenaBytes (o .whole), o .holds)
 
   -- what the count's answer says of every call's questions
-  pub count-number : (value n : ℕ) → Answered (askArena bs []) value (Number n) → Opened bs × (n ≡ value)
+  pub count-number : (value n : ℕ) → Answered (askArena bs []) value (Number n) → ValidArena bs × (n ≡ value)
   count-number value n a = go (isArena bs) refl (holdsGraph bs) refl (a .refused) (a .value)
     where
       go : (s : Bool) → isArena bs ≡ s → (h : Bool) → holdsGraph bs ≡ h → 0 ≡ refusal (ask 1 s ∷ ask 2 h ∷ [])
-          → n ≡ valueUnless (refusal (ask 1 s ∷ ask 2 h ∷ [])) value → Opened bs × (n ≡ value)
+          → n ≡ valueUnless (refusal (ask 1 s ∷ ask 2 h ∷ [])) value → ValidArena bs × (n ≡ value)
       go true s true h e v = (record { whole = eqb-true (length bs) arenaBytes s; holds = h }, v)
       go true s false h e v = absurd (omega arith)
       go false s h q e v = absurd (omega arith)
@@ -76,7 +76,7 @@ module _ (bs : List ℕ) where
       go false h e = e
 
 -- a call that puts its own questions to an arena that holds a graph puts them all
-pub answered-more : (bs : List ℕ) (qs : List Question) (value : ℕ) {number given : ℕ} → Opened bs → Answers qs value number given
+pub answered-more : (bs : List ℕ) (qs : List Question) (value : ℕ) {number given : ℕ} → ValidArena bs → Answers qs value number given
     → Answers (askArena bs qs) value number given
 answered-more bs qs value o a =
     record {
@@ -102,7 +102,7 @@ module _ (bs : List ℕ) (f : Graph → Outcome) where
   unfolding onArena
   wrote-not-graph e h = wrote-refused bs (onArena f bs) NotAGraph (rw (e, h)) (rw (e, h))
 
-  pub on-opened : Opened bs → onArena f bs ≡ f (decode bs)
+  pub on-opened : ValidArena bs → onArena f bs ≡ f (decode bs)
   unfolding onArena
   on-opened o = rw (eq-eqb (length bs) arenaBytes (o .whole), o .holds)
 

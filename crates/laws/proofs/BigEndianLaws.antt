@@ -1,5 +1,6 @@
--- The laws of big-endian numbers, each at any width: `bigEndian w` writes w bytes, `value` reads them, and the two are inverse, for a number below
--- 256 ^ w and for bytes each below 256. Assumes nothing.
+-- The laws of big-endian numbers, each at any width: `bigEndian w` writes w bytes, `value` reads
+-- them, and the two are inverse, for a number below 256 ^ w and for bytes each below 256. Assumes
+-- nothing.
 use mathlib.Core.Path.{_≡_, refl, ap}
 use mathlib.Core.List.{List, [], _∷_}
 use Prim.Native.Nat.{ℕ, zero, suc, _+_, _*_, _/_, _%_, _^_, _≤_, _<_}

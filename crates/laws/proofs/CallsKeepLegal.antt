@@ -1,5 +1,6 @@
--- Every call keeps a graph legal, and so does every list of calls from every start of demand 3: `every-list-legal`. A call that is refused leaves the
--- graph; one that reads leaves a legal graph whatever was there. Assumes nothing.
+-- Every call keeps a graph legal, and so does every list of calls from every start of demand 3:
+-- `every-list-legal`. A call that is refused leaves the graph; one that reads leaves a legal graph
+-- whatever was there. Assumes nothing.
 use mathlib.Core.Path.{_≡_}
 use mathlib.Core.Logic.{inl, inr}
 use mathlib.Core.List.{List, [], _∷_}

@@ -1,5 +1,6 @@
--- A graph that is grown, culled and asked for its erasable set, by computation and by the laws: so their hypotheses can be met. Among them document
--- 01's "a marked origin of an unmarked node stays". Assumes nothing.
+-- A graph that is grown, culled and asked for its erasable set, by computation and by the laws: so
+-- their hypotheses can be met. Among them document 01's "a marked origin of an unmarked node
+-- stays". Assumes nothing.
 use mathlib.Core.Path.{_≡_, refl}
 use mathlib.Core.Bool.{Bool, true, false, not, _||_, _&&_, cond, and-eq-true-iff}
 use mathlib.Core.Option.{none, some}

@@ -1,5 +1,6 @@
--- Culling changes no more than the flag CULLED, so the comparison cannot tell; and document 01's sentence, "a node is culled if", holds of what
--- every sequence that puts children first leaves, so each leaves what `cullDown` does. Assumes nothing.
+-- Culling changes no more than the flag CULLED, so the comparison cannot tell; and document 01's
+-- sentence, "a node is culled if", holds of what every sequence that puts children first leaves, so
+-- each leaves what `cullDown` does. Assumes nothing.
 use mathlib.Core.Path.{_≡_, refl, sym, ap, _∙_}
 use mathlib.Core.Bool.{Bool, true, false, not, _||_, _&&_, cond}
 use mathlib.Core.List.{List, [], _∷_}
@@ -305,7 +306,8 @@ module _ (children : List (List ℕ)) where
       cull-along-elsewhere xs (cullOne children x ns) m (omega arith)
       ∙ cull-one-elsewhere x ns m (λ e. omega (arith, h, ap bit (eq-eqb m x e)))
 
-  -- a decision reads of what comes afterwards the children only, and of what was before the node itself and what culling keeps
+  -- a decision reads of what comes afterwards the children only, and of what was before the node
+  -- itself and what culling keeps
   decision-after : (ns ms ks : List Node) (n : ℕ) → ((c : ℕ) → 0 < count c (getD children n []) → nodeAt ms c ≡ nodeAt ks c)
       → decision children ns ms n ≡ decision children ns ks n
   decision-after ns ms ks n h =

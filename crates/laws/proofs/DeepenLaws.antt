@@ -1,6 +1,7 @@
--- Deepening by a name: every path is the old one with the name appended, so all prim counts grow by one, and with them every depth below
--- introduction that was not cut off at 0 (`depth-below-deepened`). Where none was, a comparison cannot tell the deepened graph from the old
--- one (`deepen-looks-like`).
+-- Deepening by a name: every path is the old one with the name appended, so all prim counts grow by
+-- one, and with them every depth below introduction that was not cut off at 0
+-- (`depth-below-deepened`). Where none was, a comparison cannot tell the deepened graph from the
+-- old one (`deepen-looks-like`).
 -- Assumes nothing.
 use mathlib.Core.Path.{_≡_, refl, sym, ap, ap₂, _∙_}
 use mathlib.Core.Bool.{Bool, true, false, _&&_}
@@ -23,7 +24,8 @@ use Rattle.laws.proofs.Trees.{TreeOf}
 use Rattle.laws.proofs.ListLaws.{any-below-cong}
 use Rattle.laws.proofs.EraseLists.{map-place, behind-tests}
 
--- Each path may end, and each node's depth is reached by its parent's path: what a graph without the shallow mark has.
+-- Each path may end, and each node's depth is reached by its parent's path: what a graph without
+-- the shallow mark has.
 pub record Reached (g : Graph) : Type 0 where
   pub may-end : (n : ℕ) → n < size g → mayEnd (run start (nodeAt (g .nodes) n .path)) ≡ true
   pub reached : (c : ℕ) → 0 < c → c < size g → nodeAt (g .nodes) c .depth ≤ primCount (nodeAt (g .nodes) (nodeAt (g .nodes) c .parent) .path)

@@ -1,5 +1,5 @@
--- The erasable set in document 01's own words, and demand 3's: it is marked, spares the parent and the origin of what stays, and every set that
--- does lies within it. Assumes nothing.
+-- The erasable set in document 01's own words, and demand 3's: it is marked, spares the parent and
+-- the origin of what stays, and every set that does lies within it. Assumes nothing.
 use mathlib.Core.Path.{_≡_, refl, sym, _∙_}
 use mathlib.Core.Logic.{_↔_}
 use mathlib.Core.Bool.{Bool, true, false, not, _||_, _&&_, true≢false, false≢true, and-false}
@@ -181,7 +181,8 @@ module _ (ns : List Node) (legal : LegalView (length ns) (view ns)) where
   spared-not-reached goes s n (as-parent c q r) = s .no-parent c q (reached-below c r) (spared-not-reached goes s c r)
   spared-not-reached goes s n (as-origin c q r) = s .no-origin c q (reached-below c r) (spared-not-reached goes s c r)
 
-  -- every set of marked nodes that no node outside it has as parent or origin lies within the erasable set
+  -- every set of marked nodes that no node outside it has as parent or origin lies within the
+  -- erasable set
   pub erasable-largest : 0 < length ns → (goes : ℕ → Bool) → Spared ns goes → (n : ℕ) → n < length ns → goes n ≡ true → isErasable ns n ≡ true
   erasable-largest z goes s n p e =
       erasable-not-reached z n p .1 (s .all-marked n p e, λ r. true≢false (sym e ∙ spared-not-reached goes s n r))

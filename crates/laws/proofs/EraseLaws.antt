@@ -1,5 +1,6 @@
--- Erasing: the nodes that stay, by their new numbers, are as before but for the renumbering of parent and origin (`node-erased`), child lists
--- and the walk lose only what went (`children-erased`, `walk-erased`), the graph is again a tree with lower links (`tree-erased`,
+-- Erasing: the nodes that stay, by their new numbers, are as before but for the renumbering of
+-- parent and origin (`node-erased`), child lists and the walk lose only what went
+-- (`children-erased`, `walk-erased`), the graph is again a tree with lower links (`tree-erased`,
 -- `legal-erased`), and a comparison cannot tell it from the old one (`erase-looks-like`).
 -- Assumes nothing.
 use mathlib.Core.Path.{_≡_, refl, sym, ap, ap₂, _∙_, subst}

@@ -1,5 +1,6 @@
--- What the laws of erasing rest on. `newNumber kept` grows on the kept, reaches every number below how many are kept, and is never above the
--- old number; and of lists, what is kept of them, renumbered. The laws of deepening and adding use the last two sections.
+-- What the laws of erasing rest on. `newNumber kept` grows on the kept, reaches every number below
+-- how many are kept, and is never above the old number; and of lists, what is kept of them,
+-- renumbered. The laws of deepening and adding use the last two sections.
 -- Assumes nothing.
 use mathlib.Core.Path.{_≡_, refl, sym, ap, ap₂, _∙_, subst}
 use mathlib.Core.Bool.{Bool, true, false, not, _||_, _&&_, true≢false}
@@ -126,8 +127,8 @@ module _ (kept : ℕ → Bool) where
       go true k false e ih h = further (ih (omega (arith, ap bit e)))
       go false k d e ih h = further (ih h)
 
-  -- Lists that are joined, one for each number: with nothing kept in any, nothing is kept; and the lists of the kept, renumbered, where those of the
-  -- others lose all.
+  -- Lists that are joined, one for each number: with nothing kept in any, nothing is kept; and the
+  -- lists of the kept, renumbered, where those of the others lose all.
   pub concat-goes : (f : ℕ → List ℕ) (cs : List ℕ) → All (λ c. filter kept (f c) ≡ []) cs → filter kept (concatMap f cs) ≡ []
   concat-goes f [] h = refl
   concat-goes f (c ∷ cs) h = filter-append kept (f c) (concatMap f cs) ∙ ap₂ _++_ (h .0) (concat-goes f cs (h .1))

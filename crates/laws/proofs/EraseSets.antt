@@ -1,4 +1,5 @@
--- Question 11: which erase sets are accepted, and that the erasable set, as it is written, is one. Assumes nothing.
+-- Question 11: which erase sets are accepted, and that the erasable set, as it is written, is one.
+-- Assumes nothing.
 use mathlib.Core.Path.{_≡_, refl, sym, ap, _∙_}
 use mathlib.Core.Logic.{_↔_}
 use mathlib.Core.Bool.{Bool, true, false, not, _||_, _&&_, true≢false, false≢true, and-eq-true-iff}
@@ -29,7 +30,8 @@ record SparesAt (g : Graph) (bytes : List ℕ) (n : ℕ) : Type 0 where
   pub parent : 0 < n → stays bytes n ≡ true → stays bytes (nodeAt (g .nodes) n .parent) ≡ true
   pub origin : 0 < n → stays bytes n ≡ true → stays bytes (nodeAt (g .nodes) n .origin) ≡ true
 
--- the test of one node, over what it reads: the byte, that the node stays, is 0, has both links among what stays, and is a Root arc
+-- the test of one node, over what it reads: the byte, that the node stays, is 0, has both links
+-- among what stays, and is a Root arc
 test-there : (byte here zeroth links root : Bool) → (byte && (not here || (zeroth || links)) && (here || not root)) ≡ true
     → (byte ≡ true) × (zeroth ≡ false → here ≡ true → links ≡ true) × (root ≡ true → here ≡ true)
 test-there false here zeroth links root e = absurd (false≢true e)
@@ -99,7 +101,8 @@ module _ (g : Graph) (bytes : List ℕ) where
       (λ n p. spares-one-back g bytes n
       (record { byte = small n p; root = s .roots n p; parent = λ q. s .parent n q p; origin = λ q. s .origin n q p }))
 
-  -- question 11 is yes exactly where each byte below the count is 0 or 1 and what must stay does; node 0 has arc Root
+  -- question 11 is yes exactly where each byte below the count is 0 or 1 and what must stay does;
+  -- node 0 has arc Root
   pub can-erase-iff : nodeAt (g .nodes) 0 .arc ≡ rootArc
       → canErase g bytes ≡ true ↔ (((n : ℕ) → n < size g → getD bytes n 0 ≤ 1) × Spares g (stays bytes))
   can-erase-iff root = (accepted-spares root, λ h. spares-accepted (h .0) (h .1))

@@ -1,6 +1,8 @@
--- Walks by `next` to lower nodes: `follow`, `steps` and `chain` of specs/Strength.antt and `leftUpTo` of specs/Hierarchy.antt, each as one
--- `foldUpTo`. `fold-alike`: a walk whose steps look the same under new numbers comes to the same, with any fuel that is enough on either side. One
--- walk and its own numbers: fuel does not matter, so a walk stops, or takes its step and goes on from there, with no fuel in the law. Assumes nothing.
+-- Walks by `next` to lower nodes: `follow`, `steps` and `chain` of specs/Strength.antt and
+-- `leftUpTo` of specs/Hierarchy.antt, each as one `foldUpTo`. `fold-alike`: a walk whose steps look
+-- the same under new numbers comes to the same, with any fuel that is enough on either side. One
+-- walk and its own numbers: fuel does not matter, so a walk stops, or takes its step and goes on
+-- from there, with no fuel in the law. Assumes nothing.
 use mathlib.Core.Path.{_≡_, refl, sym}
 use mathlib.Core.Bool.{Bool, true, false, _||_, cond, or-true, or-false}
 use mathlib.Core.List.{[], _∷_, _++_, map, map-append}
@@ -14,7 +16,8 @@ use Rattle.model.specs.Hierarchy.{laterOr, leftUpTo}
 
 -- ---- One walk for the four
 
--- `last` is made of the node where it ends, `more` of each node that it leaves and of what comes after
+-- `last` is made of the node where it ends, `more` of each node that it leaves and of what comes
+-- after
 abbrev foldUpTo : {A : Type 0} → (ℕ → Bool) → (ℕ → ℕ) → (ℕ → A) → (ℕ → A → A) → ℕ → ℕ → A
 foldUpTo stop next last more zero m = last m
 foldUpTo stop next last more (suc k) m = cond (eqb m 0 || stop m) (last m) (more m (foldUpTo stop next last more k (next m)))

@@ -1,5 +1,6 @@
--- Demand 3, over the definitions: one claim about every list of the calls that write a graph, refused ones included. The demand's words stand
--- beside each clause. The theorem is `demand3` in GraphDemand3Proof.antt. Assumes nothing.
+-- Demand 3, over the definitions: one claim about every list of the calls that write a graph,
+-- refused ones included. The demand's words stand beside each clause. The theorem is `demand3` in
+-- GraphDemand3Proof.antt. Assumes nothing.
 use mathlib.Core.Path.{_≡_}
 use mathlib.Core.Bool.{Bool, true, false}
 use mathlib.Core.List.{List, map}
@@ -51,9 +52,11 @@ pub record Erased (g : Graph) : Type 0 where
   -- "none was parent or origin of a kept one"
   pub parents-kept : (n : ℕ) → 0 < n → n < size g → kept g n ≡ true → kept g (nodeAt (g .nodes) n .parent) ≡ true
   pub origins-kept : (n : ℕ) → 0 < n → n < size g → kept g n ≡ true → kept g (nodeAt (g .nodes) n .origin) ≡ true
-  -- "and every set of marked nodes that no node outside it had as parent or origin lies within what went"
+  -- "and every set of marked nodes that no node outside it had as parent or origin lies within what
+  -- went"
   pub largest : (goes : ℕ → Bool) → Free g goes → (n : ℕ) → n < size g → goes n ≡ true → kept g n ≡ false
-  -- "the rest stand as before": the fields a snapshot holds are unchanged but for the renumbering of parent and origin; chains lose only what went
+  -- "the rest stand as before": the fields a snapshot holds are unchanged but for the renumbering
+  -- of parent and origin; chains lose only what went
   pub fields-stand : (n : ℕ) → n < size g → kept g n ≡ true → nodeAt (rest g .nodes) (new g n) ≡ renumbered (kept g) (size g) (nodeAt (g .nodes) n)
   pub chains-stand : (n : ℕ) → n < size g → kept g n ≡ true → childrenOf (rest g) (new g n) ≡ map (new g) (filter (kept g) (childrenOf g n))
   -- "any two of them compare as before"
@@ -78,13 +81,15 @@ pub record Demand3 (g : Graph) : Type 0 where
   pub erased : 0 < size g → Erased g
   pub deepened : g .finalized ≡ true → (child : List ℕ) → Deepened g child
 
--- "from an empty room or one just filled by reading or seeding"; "Seeding fills from a graph that such a list left"
+-- "from an empty room or one just filled by reading or seeding"; "Seeding fills from a graph that
+-- such a list left"
 pub data Start : Graph → Type 0 where
   empty : {g : Graph} → g ≡ emptyGraph → Start g
   read : {g : Graph} (bytes : List ℕ) (old : Graph) → readInto bytes old .refused ≡ 0 → g ≡ readInto bytes old .graph → Start g
   seeded : {g : Graph} (from into : Graph) (cs : List Call) (child : List ℕ) → Start from → seedChild child (calls cs from) into .refused ≡ 0
       → g ≡ seedChild child (calls cs from) into .graph → Start g
 
--- "For every list of the calls that write a graph ..., refused ones included, ... this holds after it."
+-- "For every list of the calls that write a graph ..., refused ones included, ... this holds after
+-- it."
 abbrev pub Demand3AfterEveryList : Type 0
 Demand3AfterEveryList = (g : Graph) → Start g → (cs : List Call) → Demand3 (calls cs g)

@@ -1,5 +1,5 @@
--- A list of calls whose graph meets every hypothesis of demand 3, by computation: it is ordered, finalized, and has a node to erase. Then a start by
--- reading and one by seeding. Assumes nothing.
+-- A list of calls whose graph meets every hypothesis of demand 3, by computation: it is ordered,
+-- finalized, and has a node to erase. Then a start by reading and one by seeding. Assumes nothing.
 use mathlib.Core.Path.{_≡_, refl}
 use mathlib.Core.Bool.{true, false}
 use mathlib.Core.Option.{Option, none, some}
@@ -26,7 +26,8 @@ use Rattle.laws.proofs.GraphDemand3Proof.{demand3}
 abbrev add : ℕ → ℕ → ℕ → Option ℕ → String → Call
 add parent arc hasSpecs depth path = adding (record { fields = sampleNode parent arc 0 0 invalid 0 0 hasSpecs (bytes path); depth = depth })
 
--- Nodes 0 and 1 `/M/a`; under 1 the References 2 and 3, of which 2 has no specs, and an Inherit. The second start is refused. Culling marks 2.
+-- Nodes 0 and 1 `/M/a`; under 1 the References 2 and 3, of which 2 has no specs, and an Inherit.
+-- The second start is refused. Culling marks 2.
 abbrev grown : List Call
 grown =
     starting 0 0 (bytes "/M/a") ∷ starting 0 0 (bytes "/N") ∷ add invalid rootArc 1 none "/M/a" ∷ add 1 4 0 (some 1) "/R/a"

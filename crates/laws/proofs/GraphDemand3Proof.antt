@@ -1,5 +1,5 @@
--- Demand 3 (GraphDemand3.antt): every list of calls leaves a legal graph (CallsKeepLegal.antt), and each clause holds of every legal graph.
--- Assumes nothing.
+-- Demand 3 (GraphDemand3.antt): every list of calls leaves a legal graph (CallsKeepLegal.antt), and
+-- each clause holds of every legal graph. Assumes nothing.
 use mathlib.Core.Path.{_≡_, refl, sym, ap, _∙_}
 use mathlib.Core.Bool.{Bool, true, false, not}
 use mathlib.Core.List.{List}
@@ -106,6 +106,7 @@ module _ (g : Graph) (legal : Legal g) where
   legal-meets-demand : Demand3 g
   legal-meets-demand = record { listed = legal-listed; erased = legal-erased; deepened = legal-deepened }
 
--- "For every list of the calls that write a graph ..., refused ones included, ... this holds after it."
+-- "For every list of the calls that write a graph ..., refused ones included, ... this holds after
+-- it."
 pub demand3 : Demand3AfterEveryList
 demand3 g start cs = legal-meets-demand (calls cs g) (every-list-legal g start cs)

@@ -1,4 +1,5 @@
--- One graph that meets the hypotheses of the laws of adding, erasing and deepening, and what they say of it. Assumes nothing.
+-- One graph that meets the hypotheses of the laws of adding, erasing and deepening, and what they
+-- say of it. Assumes nothing.
 use mathlib.Core.Path.{_≡_, refl}
 use mathlib.Core.Bool.{Bool, true, not, _||_}
 use mathlib.Core.List.{List, [], _∷_}

@@ -1,5 +1,6 @@
--- A node more leaves a graph legal where questions 4 to 7 pass (`Addable`, `node-more-keeps-legal`): so do starting and adding, and so does
--- reading, record by record from the empty graph, whatever graph was there before (`reading-legal-or-refused`).
+-- A node more leaves a graph legal where questions 4 to 7 pass (`Addable`,
+-- `node-more-keeps-legal`): so do starting and adding, and so does reading, record by record from
+-- the empty graph, whatever graph was there before (`reading-legal-or-refused`).
 -- Assumes nothing.
 use mathlib.Core.Path.{_≡_, refl, sym, _∙_}
 use mathlib.Core.Logic.{_⊎_, inl, inr}
@@ -26,7 +27,8 @@ use Rattle.laws.proofs.AddLaws.{legal-with-root, legal-with-node}
 use Rattle.laws.proofs.LegalGraphs.{RootRecord, LegalNode, LocalRoot, DepthsReached, Legal, empty-legal}
 use Rattle.laws.proofs.AcceptedQuestions.{Accepted, none-refused-accepted, decided-keeps}
 
--- a node that a graph may get: node 0 or one with lower links, arc Root only where document 01 allows it, and room for it
+-- a node that a graph may get: node 0 or one with lower links, arc Root only where document 01
+-- allows it, and room for it
 pub record Addable (g : Graph) (x : Node) : Type 0 where
   pub first : size g ≡ 0 → RootRecord x
   pub parent-lower : 0 < size g → x .parent < size g

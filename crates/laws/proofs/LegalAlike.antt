@@ -1,5 +1,5 @@
--- Ordering, culling and deepening leave a graph legal: they keep the nodes, and of each node what a comparison sees.
--- Assumes nothing.
+-- Ordering, culling and deepening leave a graph legal: they keep the nodes, and of each node what a
+-- comparison sees. Assumes nothing.
 use mathlib.Core.Path.{_≡_, refl, sym, ap, _∙_}
 use mathlib.Core.Bool.{Bool, true, false, _||_, _&&_, cond, true≢false, and-eq-true-iff}
 use mathlib.Core.List.{List, [], _∷_}

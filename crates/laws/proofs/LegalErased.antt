@@ -1,5 +1,6 @@
--- Erasing a set that question 11 accepts leaves a graph legal (`erased-legal`), and in order where it was (`erased-in-order`): child lists that are
--- sorted stay so without what went, because siblings compare as before.
+-- Erasing a set that question 11 accepts leaves a graph legal (`erased-legal`), and in order where
+-- it was (`erased-in-order`): child lists that are sorted stay so without what went, because
+-- siblings compare as before.
 -- Assumes nothing.
 use mathlib.Core.Path.{_≡_, refl, sym, ap, _∙_, subst}
 use mathlib.Core.Bool.{Bool, true, false, cond}

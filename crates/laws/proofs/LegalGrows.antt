@@ -1,5 +1,6 @@
--- The records of a legal graph, each put to the graph of those before it, pass questions 4 to 7: `legal-grows`; and of records that pass them the
--- graph built is legal: `grows-legal`. Assumes nothing.
+-- The records of a legal graph, each put to the graph of those before it, pass questions 4 to 7:
+-- `legal-grows`; and of records that pass them the graph built is legal: `grows-legal`. Assumes
+-- nothing.
 use mathlib.Core.Path.{_≡_, refl, sym, ap, subst, _∙_}
 use mathlib.Core.Bool.{Bool, true, false, not, _||_, _&&_, and-eq-true-iff}
 use mathlib.Core.List.{List, [], _∷_, _++_, foldl}

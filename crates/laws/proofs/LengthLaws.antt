@@ -1,5 +1,6 @@
--- A list's length by its counts: one that has each number below n at most once, and nothing else, is no longer than n; if it has length n, it has
--- each once, and conversely; and one of length n that has each once has nothing else. Assumes nothing.
+-- A list's length by its counts: one that has each number below n at most once, and nothing else,
+-- is no longer than n; if it has length n, it has each once, and conversely; and one of length n
+-- that has each once has nothing else. Assumes nothing.
 use mathlib.Core.Path.{_≡_, refl, sym, ap, _∙_}
 use mathlib.Core.Logic.{_⊎_, inl, inr}
 use mathlib.Core.Bool.{Bool, true, false}

@@ -1,5 +1,6 @@
--- What follows from the definitions. Paths; lists, trees and walks; strength; order; culling and erasing; deepening and adding; numbers in bytes;
--- snapshots; what every list of calls keeps; and demand 3. Files named Examples show that the laws' hypotheses can be met.
+-- What follows from the definitions. Paths; lists, trees and walks; strength; order; culling and
+-- erasing; deepening and adding; numbers in bytes; snapshots; what every list of calls keeps; and
+-- demand 3. Files named Examples show that the laws' hypotheses can be met.
 pub mod PathLemmas
 pub mod PathGrammar
 pub mod PathParts

@@ -1,5 +1,6 @@
--- What the other files cite of the lists of specs/Lists.antt: `All` and `Pairs` through `++`, `map`, `filter` and `concatMap`; `count`, and what
--- permutations share; `every`, `allBelow` and `anyBelow` as "for all" and "for some"; and where `keepAt` puts an element. Assumes nothing.
+-- What the other files cite of the lists of specs/Lists.antt: `All` and `Pairs` through `++`,
+-- `map`, `filter` and `concatMap`; `count`, and what permutations share; `every`, `allBelow` and
+-- `anyBelow` as "for all" and "for some"; and where `keepAt` puts an element. Assumes nothing.
 use mathlib.Core.Path.{_≡_, refl, sym, ap, ap₂, _∙_}
 use mathlib.Core.Logic.{_⊎_, inl, inr, _↔_}
 use mathlib.Core.Bool.{Bool, true, false, _||_, _&&_, cond, and-eq-true-iff, or-true, true≢false, false≢true}

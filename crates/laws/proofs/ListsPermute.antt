@@ -1,5 +1,6 @@
--- Lists of a tree's children, found right by counting: if each list has only children of its node, none twice, and together they have one entry less
--- than there are nodes, then each has its node's children (`lists-permute`). For an order that is not trusted but checked. Assumes nothing.
+-- Lists of a tree's children, found right by counting: if each list has only children of its node,
+-- none twice, and together they have one entry less than there are nodes, then each has its node's
+-- children (`lists-permute`). For an order that is not trusted but checked. Assumes nothing.
 use mathlib.Core.Path.{_≡_, refl, sym, ap, _∙_}
 use mathlib.Core.Logic.{_⊎_, inl, inr}
 use mathlib.Core.List.{List, [], _++_, _∷_}

@@ -1,9 +1,11 @@
--- Neighbours suffice among copies: children of one node and one arc, all HAS_SPECIALIZES, whose depth does not count. Document 01 compares two of
--- them by R, or by class depth, hops, the local line and origins, or by implied and node number; which of these, depends on the two, so that Less
--- does not pass on from neighbour to neighbour. All these lines in one list do pass on (`copyLines`, `follows-trans`), and they say what document 01
--- says as long as they tie only for one R, then one stack, then one origin (`Follows`, `follows-less`). So such a list is in order by document 01's
--- lines, the strength of nodes being that of places, where each child so follows the one before it and the authored ones rise (`copies-sorted`).
--- Assumes nothing.
+-- Neighbours suffice among copies: children of one node and one arc, all HAS_SPECIALIZES, whose
+-- depth does not count. Document 01 compares two of them by R, or by class depth, hops, the local
+-- line and origins, or by implied and node number; which of these, depends on the two, so that Less
+-- does not pass on from neighbour to neighbour. All these lines in one list do pass on
+-- (`copyLines`, `follows-trans`), and they say what document 01 says as long as they tie only for
+-- one R, then one stack, then one origin (`Follows`, `follows-less`). So such a list is in order by
+-- document 01's lines, the strength of nodes being that of places, where each child so follows the
+-- one before it and the authored ones rise (`copies-sorted`). Assumes nothing.
 use mathlib.Core.Path.{_≡_, refl, sym, ap, _∙_}
 use mathlib.Core.Bool.{Bool, true, false, _||_, _&&_, cond}
 use mathlib.Core.List.{List}

@@ -1,5 +1,5 @@
--- Graphs that meet the hypotheses of OrderLaws.antt: node 0, and under it a Reference, then an Inherit, which is the stronger; and document 01's
--- ring, which has no order. Assumes nothing.
+-- Graphs that meet the hypotheses of OrderLaws.antt: node 0, and under it a Reference, then an
+-- Inherit, which is the stronger; and document 01's ring, which has no order. Assumes nothing.
 use mathlib.Core.Path.{_≡_, refl}
 use mathlib.Core.Bool.{true, false}
 use mathlib.Core.List.{[], _∷_}

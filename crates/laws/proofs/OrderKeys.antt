@@ -1,6 +1,8 @@
--- Siblings in order by keys: rank, larger depth, strength of the origins, sibling number and node number (`keyLines` of specs/Places.antt).
--- Children of one node of which each has no HAS_SPECIALIZES or is authored compare so (`key-lines-siblings`), authored ones whatever the strength of
--- nodes (`compare-authored`). By places these lines are transitive, so such a list is in order where each child is before the next
+-- Siblings in order by keys: rank, larger depth, strength of the origins, sibling number and node
+-- number (`keyLines` of specs/Places.antt).
+-- Children of one node of which each has no HAS_SPECIALIZES or is authored compare so
+-- (`key-lines-siblings`), authored ones whatever the strength of nodes (`compare-authored`). By
+-- places these lines are transitive, so such a list is in order where each child is before the next
 -- (`neighbours-sorted`, `authored-sorted`). Assumes nothing.
 use mathlib.Core.Path.{_≡_, refl, sym, ap, _∙_}
 use mathlib.Core.Bool.{Bool, true, false, not, _||_, _&&_, cond}

@@ -1,10 +1,13 @@
 -- Lists that are a graph's order (document 01, "Order"), shown without sorting.
--- `authored-order`: if each list has the children of its node, and each earlier child is Less than each later, then the graph has an order, and these
--- lists are it.
--- `places-certify`, `certified-order`: for that no comparison need go through origins. It is enough that the lists are in order by document 01's
--- lines with node strength read off places, where the places are those of a walk of the lists (model/specs/Places.antt). For then places compare any
--- two nodes as the lists do (`places-compare`), and the lines of two siblings ask only of nodes that part in lower siblings.
--- `sorted-permute`, `certified-permute`: that a list has the children of its node is seen by counting. Assumes nothing.
+-- `authored-order`: if each list has the children of its node, and each earlier child is Less than
+-- each later, then the graph has an order, and these lists are it.
+-- `places-certify`, `certified-order`: for that no comparison need go through origins. It is enough
+-- that the lists are in order by document 01's lines with node strength read off places, where the
+-- places are those of a walk of the lists (model/specs/Places.antt). For then places compare any
+-- two nodes as the lists do (`places-compare`), and the lines of two siblings ask only of nodes
+-- that part in lower siblings.
+-- `sorted-permute`, `certified-permute`: that a list has the children of its node is seen by
+-- counting. Assumes nothing.
 use mathlib.Core.Path.{_≡_, refl, sym, ap, _∙_}
 use mathlib.Core.Logic.{_⊎_, inl, inr}
 use mathlib.Core.Bool.{Bool, true, false, false≢true}

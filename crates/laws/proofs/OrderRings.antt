@@ -1,5 +1,6 @@
--- Three children of one node of which the first is stronger than the second, the second than the third and the third than the first (a cycle;
--- document 01: a ring) stand in no order, so the graph is refused 9 (`ring-no-order`). Assumes nothing.
+-- Three children of one node of which the first is stronger than the second, the second than the
+-- third and the third than the first (a cycle; document 01: a ring) stand in no order, so the graph
+-- is refused 9 (`ring-no-order`). Assumes nothing.
 use mathlib.Core.Path.{_≡_, refl}
 use mathlib.Core.Bool.{Bool, true, false}
 use mathlib.Core.List.{List, [], _∷_}

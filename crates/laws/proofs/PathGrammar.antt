@@ -1,6 +1,7 @@
--- Document 01's grammar of paths, by the last element of a path, and that the automaton of specs/Path.antt decides it: the reading of the
--- paths of the grammar may end (`grammar-may-end`), and that of no others (`may-end-grammar`); with the limit, `well-formed-decides`.
--- Assumes nothing.
+-- Document 01's grammar of paths, by the last element of a path, and that the automaton of
+-- specs/Path.antt decides it: the reading of the paths of the grammar may end (`grammar-may-end`),
+-- and that of no others (`may-end-grammar`); with the limit, `well-formed-decides`. Assumes
+-- nothing.
 use mathlib.Core.Path.{_≡_, refl, sym, _∙_}
 use mathlib.Core.Logic.{_≢_, _↔_}
 use mathlib.Core.Bool.{Bool, true, not, and-false, not-and-self, and-eq-true-iff, true≢false, false≢true}
@@ -15,12 +16,14 @@ use Rattle.laws.proofs.PathLemmas.{AllPass, all-pass-append, all-pass-w
 
 -- ---- The grammar
 
--- a byte that passes one test, and any number of bytes that all pass another (`AllPass` is in PathLemmas)
+-- a byte that passes one test, and any number of bytes that all pass another (`AllPass` is in
+-- PathLemmas)
 abbrev pub OneOrMore : (ℕ → Bool) → (ℕ → Bool) → List ℕ → Type 0
 OneOrMore first more [] = ⊥
 OneOrMore first more (b ∷ bs) = (first b ≡ true) × AllPass more bs
 
--- "Names, sets and selections are one or more ASCII letters, digits or `_`; names and sets do not begin with a digit"
+-- "Names, sets and selections are one or more ASCII letters, digits or `_`; names and sets do not
+-- begin with a digit"
 abbrev pub Name : List ℕ → Type 0
 Name = OneOrMore isNameStart isWordByte
 
@@ -31,9 +34,9 @@ Selection = OneOrMore isSelectionByte isSelectionByte
 abbrev pub select : List ℕ → List ℕ → List ℕ → List ℕ
 select p s v = p ++ openBrace ∷ s ++ equalsSign ∷ v ++ closeBrace ∷ []
 
--- "A path is `/`, or `/` then a prim name, then any run of: `/name`; `{set=selection}`; and, straight after `}`, a name with no slash. After
--- `}` a slash is malformed": `/`, or a path with a name appended (by a slash, but not after `/` or `}`), or a path other than `/` with a
--- selection.
+-- "A path is `/`, or `/` then a prim name, then any run of: `/name`; `{set=selection}`; and,
+-- straight after `}`, a name with no slash. After `}` a slash is malformed": `/`, or a path with a
+-- name appended (by a slash, but not after `/` or `}`), or a path other than `/` with a selection.
 pub data Grammar : List ℕ → Type 0 where
   only-slash : {q : List ℕ} → q ≡ solidus ∷ [] → Grammar q
   named : {q : List ℕ} (p w : List ℕ) → Grammar p → Name w → q ≡ appendName p w → Grammar q

@@ -1,5 +1,6 @@
--- The laws of paths. A law that the limit of 255 bytes plays no part in asks only that the reading of p may end; `well-formed-may-end` gives
--- that of a well-formed path. Each law's hypotheses are met by an example at the end.
+-- The laws of paths. A law that the limit of 255 bytes plays no part in asks only that the reading
+-- of p may end; `well-formed-may-end` gives that of a well-formed path. Each law's hypotheses are
+-- met by an example at the end.
 -- Assumes nothing.
 use mathlib.Core.Path.{_≡_, refl, sym, ap, ap₂, _∙_}
 use mathlib.Core.Logic.{_≢_}

@@ -1,6 +1,6 @@
--- What the other path laws rest on: the automaton as a table of its edges, `run` and `names` over two pieces, what the state says
--- of the last byte, and the searches from the end (`afterLast`, `withoutSelections`), which see only the bytes before them.
--- Assumes nothing.
+-- What the other path laws rest on: the automaton as a table of its edges, `run` and `names` over
+-- two pieces, what the state says of the last byte, and the searches from the end (`afterLast`,
+-- `withoutSelections`), which see only the bytes before them. Assumes nothing.
 use mathlib.Core.Path.{_≡_, refl, sym, ap, _∙_}
 use mathlib.Core.Bool.{Bool, true, false, not, cond, true≢false, false≢true, and-false, or-true}
 use mathlib.Core.List.{List, [], _∷_, _++_, append-nil}
@@ -333,7 +333,8 @@ intro-length-add (suc d) e p k = rw suc-add (intro-length-add d e p (introStep p
 
 -- ---- The last byte by the state
 
--- What is read is nothing in the state start, `/` in root, ends in `}` in closed, and in name ends neither in `/` nor in `}`.
+-- What is read is nothing in the state start, `/` in root, ends in `}` in closed, and in name ends
+-- neither in `/` nor in `}`.
 abbrev pub Ending : State → List ℕ → Type 0
 Ending start p = p ≡ []
 Ending root p = p ≡ solidus ∷ []

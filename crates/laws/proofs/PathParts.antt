@@ -1,5 +1,5 @@
--- What the searches from the end answer on the two kinds of longer path: one with a name appended, and one with a selection. PathLaws
--- rests on it. Assumes nothing.
+-- What the searches from the end answer on the two kinds of longer path: one with a name appended,
+-- and one with a selection. PathLaws rests on it. Assumes nothing.
 use mathlib.Core.Path.{_≡_, refl, sym, ap, _∙_}
 use mathlib.Core.Bool.{true, false}
 use mathlib.Core.List.{List, [], _∷_, _++_, append-assoc, append-nil}

@@ -1,6 +1,7 @@
--- Graphs that meet the hypotheses of OrderPlaces.antt, ListsPermute.antt, OrderCopies.antt and OrderRings.antt: document 01's four nodes, whose order
--- places certify without a comparison through origins; a Specialize with copies and copies of these, in order by neighbours; and document 01's
--- ring, refused by its cycle of three. Assumes nothing.
+-- Graphs that meet the hypotheses of OrderPlaces.antt, ListsPermute.antt, OrderCopies.antt and
+-- OrderRings.antt: document 01's four nodes, whose order places certify without a comparison
+-- through origins; a Specialize with copies and copies of these, in order by neighbours; and
+-- document 01's ring, refused by its cycle of three. Assumes nothing.
 use mathlib.Core.Path.{_≡_, refl, sym, _∙_}
 use mathlib.Core.Bool.{false, false≢true}
 use mathlib.Core.Option.{none}
@@ -88,7 +89,8 @@ copies =
 abbrev copiesView : View
 copiesView = view (from copies .nodes)
 
--- 2 has the smallest class depth, being authored; 5 and 6 have more hops than 3 and 4; 4 is before 3, being implied; so 6 is before 5 by the origins
+-- 2 has the smallest class depth, being authored; 5 and 6 have more hops than 3 and 4; 4 is before
+-- 3, being implied; so 6 is before 5 by the origins
 abbrev copiesLists : ℕ → List ℕ
 copiesLists v = getD ((1 ∷ []) ∷ (2 ∷ 6 ∷ 5 ∷ 4 ∷ 3 ∷ []) ∷ []) v []
 
@@ -114,7 +116,8 @@ copies-flagged = (
   ),
 )
 
--- each follows the one before it: by class depth, by the places of the origins, by hops, and as the one that is not implied
+-- each follows the one before it: by class depth, by the places of the origins, by hops, and as the
+-- one that is not implied
 copies-follow : Neighbours (Follows copiesView copyPlace) (copiesLists 1)
 unfolding initRoot addChild withNode wellFormed primCount isNameStart isLocalRoot inLocalStack depthBelowIntroduction sameSite samePath copyLines
     localLines groupLines originRootNode originHops classDepth namespaceDepthForClassHierarchy skipRelocates startingNodeOfClassHierarchy replaced

@@ -1,4 +1,5 @@
--- The graph of two nodes that crates/model writes and reads back: the laws of SnapshotLaws.antt and SnapshotReadLaws.antt speak of it. Assumes nothing.
+-- The graph of two nodes that crates/model writes and reads back: the laws of SnapshotLaws.antt and
+-- SnapshotReadLaws.antt speak of it. Assumes nothing.
 use mathlib.Core.Path.{_≡_, refl}
 use mathlib.Core.List.{List, [], _∷_}
 use native.Mathlib.Omega.{arith}

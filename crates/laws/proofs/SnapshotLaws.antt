@@ -1,5 +1,6 @@
--- The laws of a snapshot's bytes: a record, and a snapshot, that was written is read back; and whatever bytes the reader takes at question 12 are
--- those that the writer makes of the nodes read. So the two are inverse. Assumes nothing.
+-- The laws of a snapshot's bytes: a record, and a snapshot, that was written is read back; and
+-- whatever bytes the reader takes at question 12 are those that the writer makes of the nodes read.
+-- So the two are inverse. Assumes nothing.
 use mathlib.Core.Path.{_≡_, refl, sym, ap, _∙_}
 use mathlib.Core.Logic.{_↔_}
 use mathlib.Core.Bool.{Bool, true, false, _&&_, cond, and-eq-true-iff}

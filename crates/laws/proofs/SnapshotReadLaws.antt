@@ -1,5 +1,6 @@
--- The laws of reading a snapshot into a graph: what the graph `built` of a list of nodes is; that a graph whose records pass their questions, written
--- and read, comes back as the graph built of its nodes; that an accepted read leaves such a graph, and a refused one leaves the graph as it was.
+-- The laws of reading a snapshot into a graph: what the graph `built` of a list of nodes is; that a
+-- graph whose records pass their questions, written and read, comes back as the graph built of its
+-- nodes; that an accepted read leaves such a graph, and a refused one leaves the graph as it was.
 -- Assumes nothing.
 use mathlib.Core.Path.{_≡_, refl, sym, ap, _∙_}
 use mathlib.Core.Logic.{_≢_}

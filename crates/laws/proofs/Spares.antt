@@ -1,5 +1,5 @@
--- What an erase set must spare (question 11), as the laws of erasing ask it: node 0, Root arcs, and every kept node's parent and origin.
--- Assumes nothing.
+-- What an erase set must spare (question 11), as the laws of erasing ask it: node 0, Root arcs, and
+-- every kept node's parent and origin. Assumes nothing.
 use mathlib.Core.Path.{_≡_}
 use mathlib.Core.Bool.{Bool, true}
 use Prim.Native.Nat.{ℕ, _<_}

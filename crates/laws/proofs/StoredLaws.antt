@@ -1,5 +1,6 @@
--- The laws of `stored`, each at any width and place: what was stored is read, the rest is as it was, how two stores meet, and bytes stay bytes.
--- `before`, `in` and `after` in a name: the part, field or byte asked for lies before the stored bytes, in them, or after them. Assumes nothing.
+-- The laws of `stored`, each at any width and place: what was stored is read, the rest is as it
+-- was, how two stores meet, and bytes stay bytes. `before`, `in` and `after` in a name: the part,
+-- field or byte asked for lies before the stored bytes, in them, or after them. Assumes nothing.
 use mathlib.Core.Path.{_≡_, refl, sym, ap, _∙_}
 use mathlib.Core.List.{List, [], _∷_, _++_, append-assoc}
 use Prim.Native.Nat.{ℕ, zero, suc, _+_, _-_, _^_, _≤_, _<_}

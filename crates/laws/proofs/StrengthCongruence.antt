@@ -1,5 +1,6 @@
--- The one congruence of the comparison: where v looks like u under new numbers (Views.antt), kept nodes compare in v as in u. Each notion and each
--- line of specs/Strength.antt has its own law. Erasing, deepening, seeding and "fuel does not matter" (StrengthLaws.antt) are cases of it.
+-- The one congruence of the comparison: where v looks like u under new numbers (Views.antt), kept
+-- nodes compare in v as in u. Each notion and each line of specs/Strength.antt has its own law.
+-- Erasing, deepening, seeding and "fuel does not matter" (StrengthLaws.antt) are cases of it.
 -- Assumes nothing.
 use mathlib.Core.Path.{_≡_, refl, sym, ap, ap₂, _∙_}
 use mathlib.Core.Bool.{Bool, true, false, not, _&&_, cond}
@@ -325,7 +326,8 @@ module _ {n : ℕ} {keep : ℕ → Bool} {r : ℕ → ℕ} {u v : View} (legal :
         down-last keep (u .parent) top 0 (i .0) (suc m) (i .2) (record { positive = omega arith; within = t; kept = q; under = refl }),
       )
 
-  -- two comparisons of siblings that agree wherever the chains of x and y may part: on their members that are children of one node
+  -- two comparisons of siblings that agree wherever the chains of x and y may part: on their
+  -- members that are children of one node
   module _ (s s′ : ℕ → ℕ → Ordering) (x y : ℕ)
       (agree : (p c d : ℕ) → Child keep (u .parent) x p c → Child keep (u .parent) y p d → s′ (r c) (r d) ≡ s c d) where
     parting-alike : (p i j : ℕ) (cs ds : List ℕ) → Down keep (u .parent) x p cs i → Down keep (u .parent) y p ds j
@@ -362,7 +364,8 @@ module _ {n : ℕ} {keep : ℕ → Bool} {r : ℕ → ℕ} {u v : View} (legal :
       go (no z) = omega (arith, never-falls c a m k x, rises d b o l (omega arith))
 
   module _ (a b : ℕ) (ha : 0 < a) (hb : 0 < b) (p : a < n) (q : b < n) (k : keep a ≡ true) (l : keep b ≡ true) where
-    -- where the chains of the two R part is lower than a and b: as siblings a and b would have one parent, and as authored ones one origin
+    -- where the chains of the two R part is lower than a and b: as siblings a and b would have one
+    -- parent, and as authored ones one origin
     roots-fall : (u .origin a ≡ u .origin b → ⊥) → (t c d : ℕ) → Child keep (u .parent) (originRootNode u a) t c
         → Child keep (u .parent) (originRootNode u b) t d → c + d < a + b
     roots-fall differ t c d x y = go (isAuthored u a) refl (isAuthored u b) refl (decLt (c + d) (a + b))
@@ -382,7 +385,8 @@ module _ {n : ℕ} {keep : ℕ → Bool} {r : ℕ → ℕ} {u v : View} (legal :
             let j : d ≡ b = omega (arith, la, lb) in
             absurd (differ (cc (eqb-true (u .origin a) (u .parent a) e, eqb-true (u .origin b) (u .parent b) f)))
 
-    -- so the lines are the same if two comparisons of siblings agree on lower pairs; of node 0, which has no sibling, nothing is asked
+    -- so the lines are the same if two comparisons of siblings agree on lower pairs; of node 0,
+    -- which has no sibling, nothing is asked
     pub lower-pairs-alike : (s s′ : ℕ → ℕ → Ordering)
         → ((c d : ℕ) → 0 < c → 0 < d → c < n → d < n → keep c ≡ true → keep d ≡ true → c + d < a + b → r c + r d < r a + r b
         → s′ (r c) (r d) ≡ s c d)

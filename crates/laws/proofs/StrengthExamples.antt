@@ -1,5 +1,6 @@
--- Document 01's ring has a legal view, so that the laws of strength are not about nothing (`looks-like-itself` of StrengthLaws.antt is such a case
--- of `LooksLike`). Its comparisons are in Examples.antt. Assumes nothing.
+-- Document 01's ring has a legal view, so that the laws of strength are not about nothing
+-- (`looks-like-itself` of StrengthLaws.antt is such a case of `LooksLike`). Its comparisons are in
+-- Examples.antt. Assumes nothing.
 use Prim.Native.Nat.{ℕ, _<_}
 use mathlib.Core.Path.{_≡_, refl}
 use mathlib.Core.Bool.{Bool, true, _||_, _&&_, and-eq-true-iff}

@@ -1,5 +1,5 @@
--- The comparison the other way round: Less and Greater change places, rings included, in any view. Equal is for a node and itself alone.
--- Assumes nothing.
+-- The comparison the other way round: Less and Greater change places, rings included, in any view.
+-- Equal is for a node and itself alone. Assumes nothing.
 use mathlib.Core.Path.{_≡_, refl, sym, ap, ap₂, _∙_}
 use mathlib.Core.Bool.{Bool, true, false, _&&_, cond, or-comm, and-comm}
 use mathlib.Core.List.{List, [], _∷_, _++_}

@@ -1,6 +1,7 @@
--- Document 01's comparison with no fuel in it: siblings by its lines (`compare-siblings-lines`), nodes where their chains part
--- (`compare-nodes-parting`). That fuel does not matter is the congruence of StrengthCongruence.antt, of a view and itself. The walks that the lines
--- name are in StrengthWalks.antt, `follow`, `steps` and `chain` in FollowLaws.antt. Assumes nothing.
+-- Document 01's comparison with no fuel in it: siblings by its lines (`compare-siblings-lines`),
+-- nodes where their chains part (`compare-nodes-parting`). That fuel does not matter is the
+-- congruence of StrengthCongruence.antt, of a view and itself. The walks that the lines name are in
+-- StrengthWalks.antt, `follow`, `steps` and `chain` in FollowLaws.antt. Assumes nothing.
 use mathlib.Core.Path.{_≡_, refl, _∙_}
 use mathlib.Core.Bool.{true}
 use mathlib.Core.List.{List, [], _∷_, _++_}
@@ -36,7 +37,8 @@ looks-like-itself n u = record {
   local-stacks = λ a _ _. refl;
 }
 
--- siblings compare by document 01's lines, which ask the comparison of nodes; a and b need not have one parent
+-- siblings compare by document 01's lines, which ask the comparison of nodes; a and b need not have
+-- one parent
 pub compare-siblings-lines : {n : ℕ} {u : View} → LegalView n u → (a b : ℕ) → 0 < a → 0 < b → a < n → b < n
     → compareSiblingNodeStrength u a b ≡ siblingLines u (compareNodeStrength u) a b
 unfolding compareSiblingNodeStrength compareNodeStrength
@@ -48,7 +50,8 @@ compare-siblings-lines {n} {u} legal a b ha hb p q =
 
 -- ---- Nodes
 
--- what is said of two chains, whatever it is: the common front does not count, and then one of them ends, or both go on
+-- what is said of two chains, whatever it is: the common front does not count, and then one of them
+-- ends, or both go on
 module _ {A : Type 0} (same above below : A) (siblings : ℕ → ℕ → A) where
   parting-front : (ps xs ys : List ℕ) → partingBy same above below siblings (ps ++ xs) (ps ++ ys) ≡ partingBy same above below siblings xs ys
   parting-front [] xs ys = refl

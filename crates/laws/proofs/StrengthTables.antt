@@ -1,5 +1,6 @@
--- What document 01's lines read of a node, from what they read of lower nodes: the recurrences that a table is filled by. Hops are no more than the
--- node's number; a class hierarchy starts where that of the node above starts, while the depth below introduction stays. Assumes nothing.
+-- What document 01's lines read of a node, from what they read of lower nodes: the recurrences that
+-- a table is filled by. Hops are no more than the node's number; a class hierarchy starts where
+-- that of the node above starts, while the depth below introduction stays. Assumes nothing.
 use mathlib.Core.Path.{_≡_, refl, sym, _∙_}
 use mathlib.Core.Bool.{Bool, true, false, _||_, cond, and-false}
 use Prim.Native.Nat.{ℕ, zero, suc, _≤_, _<_}

@@ -1,5 +1,6 @@
--- The walks that document 01's lines name, without fuel: each stops, or goes on from its next node; and where each comes to is no higher than
--- where it began. Of any view, or of one whose links go to lower nodes (`LegalView`). Assumes nothing.
+-- The walks that document 01's lines name, without fuel: each stops, or goes on from its next node;
+-- and where each comes to is no higher than where it began. Of any view, or of one whose links go
+-- to lower nodes (`LegalView`). Assumes nothing.
 use mathlib.Core.Path.{_≡_, refl, ap}
 use mathlib.Core.Bool.{Bool, true, false, not, _&&_, cond, and-eq-true-iff}
 use Prim.Native.Nat.{ℕ, suc, _≤_, _<_}

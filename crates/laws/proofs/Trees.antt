@@ -1,5 +1,6 @@
--- The tree that a graph's child lists make: `Tree`, that permuting or sorting the lists leaves a tree, and that a node more (`withNode`) makes a tree
--- again, with what is then read of each node. Assumes nothing.
+-- The tree that a graph's child lists make: `Tree`, that permuting or sorting the lists leaves a
+-- tree, and that a node more (`withNode`) makes a tree again, with what is then read of each node.
+-- Assumes nothing.
 use mathlib.Core.Path.{_≡_, refl, sym, ap, _∙_}
 use mathlib.Core.Logic.{_⊎_, inl, inr}
 use mathlib.Core.Bool.{Bool, true, false}
@@ -24,7 +25,8 @@ use Rattle.laws.proofs.PathLemmas.{length-snoc}
 abbrev pub Child : ℕ → (ℕ → ℕ) → ℕ → ℕ → Type 0
 Child n parent v c = (0 < c) × (c < n) × (parent c ≡ v)
 
--- n nodes: each but 0 has a lower parent and stands once in its parent's child list; nothing else stands in a child list
+-- n nodes: each but 0 has a lower parent and stands once in its parent's child list; nothing else
+-- stands in a child list
 pub record Tree (n : ℕ) (parent : ℕ → ℕ) (children : ℕ → List ℕ) : Type 0 where
   pub lower : (c : ℕ) → 0 < c → c < n → parent c < c
   pub once : (c : ℕ) → 0 < c → c < n → count c (children (parent c)) ≡ 1

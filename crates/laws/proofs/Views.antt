@@ -1,5 +1,6 @@
--- What the laws of the comparison ask of a view: `LegalView`, that links go to lower nodes; and `LooksLike`, that one view cannot be told from
--- another under a renumbering that keeps the order; and the case that nodes keep their numbers and all but their paths. Assumes nothing.
+-- What the laws of the comparison ask of a view: `LegalView`, that links go to lower nodes; and
+-- `LooksLike`, that one view cannot be told from another under a renumbering that keeps the order;
+-- and the case that nodes keep their numbers and all but their paths. Assumes nothing.
 use mathlib.Core.Path.{_≡_, refl, ap}
 use mathlib.Core.Bool.{Bool, true}
 use mathlib.Core.List.{List}

@@ -1,5 +1,6 @@
--- The walk of a tree's child lists has each node once and nothing else, whatever the fuel; and where every child list is sorted, of any two nodes
--- in it the earlier is the stronger, as `nodesBy` compares them (document 01, "Order"). Assumes nothing.
+-- The walk of a tree's child lists has each node once and nothing else, whatever the fuel; and
+-- where every child list is sorted, of any two nodes in it the earlier is the stronger, as
+-- `nodesBy` compares them (document 01, "Order"). Assumes nothing.
 use mathlib.Core.Path.{_≡_, refl, ap, _∙_}
 use mathlib.Core.Bool.{true, false≢true}
 use mathlib.Core.List.{List, [], _∷_, _++_, append-assoc, append-nil}

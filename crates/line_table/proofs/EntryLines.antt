@@ -1,4 +1,5 @@
--- The lines on two entries: a list settled by a line that differs, handed on where a line is passed, or two nodes asked. Assumes nothing.
+-- The lines on two entries: a list settled by a line that differs, handed on where a line is
+-- passed, or two nodes asked. Assumes nothing.
 use mathlib.Core.Path.{_≡_, refl, sym, _∙_}
 use mathlib.Core.Logic.{inl, inr}
 use mathlib.Core.Bool.{Bool, true, false, and-false}

@@ -1,4 +1,5 @@
--- The loops over a row of nested nodes: `Inward` grows by a node, and what is met from r is marked on the way outward (`Outgoing`). Assumes nothing.
+-- The loops over a row of nested nodes: `Inward` grows by a node, and what is met from r is marked
+-- on the way outward (`Outgoing`). Assumes nothing.
 use mathlib.Core.Path.{_≡_, refl, sym, ap, _∙_}
 use mathlib.Core.Bool.{Bool, true, false, _||_, cond}
 use mathlib.Core.List.{List}

@@ -1,4 +1,5 @@
--- Cells of the table: what a filled table has in a row (`cell`, and `lower` in one that may be row 0), and one cell more (`store`). Assumes nothing.
+-- Cells of the table: what a filled table has in a row (`cell`, and `lower` in one that may be row
+-- 0), and one cell more (`store`). Assumes nothing.
 use mathlib.Core.Path.{_≡_, refl, sym, ap, _∙_}
 use mathlib.Core.Bool.{Bool, true, false}
 use mathlib.Core.List.{List}
@@ -12,7 +13,7 @@ use Rattle.model.specs.Lists.{bit}
 use Rattle.model.specs.Graph.{depthBelowIntroduction}
 use Rattle.model.specs.Arena.{countIn, decode}
 use Rattle.model.specs.Strength.{isPropagatedSpecializes, originRootNode, originHops, replaced}
-use Rattle.model.specs.ArenaCalls.{Readable}
+use Rattle.model.specs.ArenaCalls.{ValidNode}
 use Rattle.laws.proofs.StrengthWalks.{origin-root-zero, origin-hops-zero, skip-zero}
 use Rattle.arena.proofs.HeldArenas.{held}
 use Rattle.view.specs.View.{viewIn}
@@ -97,7 +98,7 @@ module _ {bs : List ℕ} {n : ℕ} (below : n < countIn bs) where
 -- ---- What comes next
 
 -- a node's number is small
-pub small : {bs : List ℕ} {n : ℕ} → Readable bs n → n < 1024
+pub small : {bs : List ℕ} {n : ℕ} → ValidNode bs n → n < 1024
 small {bs} {n} r = omega (arith, r .below, held bs (r .opened .holds) .few)
 
 module _ {bs : List ℕ} {root n columns : ℕ} {first : List ℕ} (f : Filling bs first root n columns) where

@@ -1,4 +1,5 @@
--- Row n of the table from the arena and from rows of lower nodes: each column that is not read from the node's own record. Assumes nothing.
+-- Row n of the table from the arena and from rows of lower nodes: each column that is not read from
+-- the node's own record. Assumes nothing.
 use mathlib.Core.Path.{_≡_, refl, sym, ap, _∙_}
 use mathlib.Core.Bool.{Bool, true, false, and-eq-true-iff}
 use mathlib.Core.List.{List}
@@ -11,7 +12,7 @@ use Rattle.model.specs.Lists.{bit}
 use Rattle.model.specs.Node.{relocateArc, specializeArc}
 use Rattle.model.specs.Graph.{depthBelowIntroduction}
 use Rattle.model.specs.Arena.{countIn, localRootIn, decode}
-use Rattle.model.specs.ArenaCalls.{Opened}
+use Rattle.model.specs.ArenaCalls.{ValidArena}
 use Rattle.model.specs.Strength.{View, isAuthored, isImplied, isPropagatedSpecializes, originRootNode, originHops, outward, replaced, isClassBasedArc, startingNodeOfClassHierarchy, namespaceDepthForClassHierarchy, classDepth}
 use Rattle.laws.proofs.Views.{LegalView}
 use Rattle.laws.proofs.StrengthWalks.{classUp, replaced-le, class-up-lower, origin-root-authored, origin-root-step, origin-hops-authored, origin-hops-step, skip-stop, skip-step}
@@ -205,7 +206,7 @@ pub tabling-start : {bs t : List ℕ} {count : ℕ} → 0 < count → Filled bs 
 tabling-start h f = record { above = omega arith; within = omega arith; filled = f; same-length = refl }
 
 module _ {bs : List ℕ} {count n : ℕ} {first t : List ℕ} (counted : count ≡ countIn bs) (w : Tabling bs count n first t) where
-  pub tabling-row : {root : ℕ} → Opened bs → root ≡ localRootIn bs → n < count → Filling bs t root n 0
+  pub tabling-row : {root : ℕ} → ValidArena bs → root ≡ localRootIn bs → n < count → Filling bs t root n 0
   tabling-row o r h = record {
     standing = record { readable = record { opened = o; below = omega arith }; root-read = r };
     above = w .above;

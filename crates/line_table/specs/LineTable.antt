@@ -1,4 +1,5 @@
--- What document 01's lines read of a node, as an entry and as a row of the table; what the lines answer of two entries; and a row of nested nodes.
+-- What document 01's lines read of a node, as an entry and as a row of the table; what the lines
+-- answer of two entries; and a row of nested nodes.
 use mathlib.Core.Path.{_≡_}
 use mathlib.Core.Logic.{_⊎_}
 use mathlib.Core.Bool.{Bool, true, cond}
@@ -11,7 +12,7 @@ use Rattle.model.specs.Lists.{bit}
 use Rattle.model.specs.Graph.{depthBelowIntroduction}
 use Rattle.model.specs.Arena.{countIn, decode}
 use Rattle.model.specs.Strength.{View, isAuthored, isImplied, originRootNode, originHops, outward, isNestedUnder, originsAreNested, replaced, classHierarchyFrom, skipRelocates, classDepth, siblingLines}
-use Rattle.view.specs.View.{viewIn, Standing}
+use Rattle.view.specs.View.{viewIn, ValidNodeAndRoot}
 use Rattle.model.specs.declared.Verdict.{Verdict}
 use Rattle.model.specs.declared.Verdict.the-variants.{Settled, Ask}
 use Rattle.strength.specs.Verdicts.{resolve}
@@ -110,7 +111,7 @@ pub record Next (bs table : List ℕ) (n k v : ℕ) : Type 0 where
 
 -- row n is being filled, and `columns` of it are
 pub record Filling (bs table : List ℕ) (root n columns : ℕ) : Type 0 where
-  pub standing : Standing bs root n
+  pub standing : ValidNodeAndRoot bs root n
   pub above : 0 < n
   pub filled : Filled bs table (n * 16 + columns)
 

@@ -1,4 +1,5 @@
-// The table filled in one pass, a row after the other: each row from the arena and from rows of lower nodes.
+// The table filled in one pass, a row after the other: each row from the arena and from rows of
+// lower nodes.
 use crate::cells::cell;
 use crate::cells::number;
 use crate::cells::put;
@@ -6,7 +7,7 @@ ghost use mathlib.Core.Path.{_≡_};
 ghost use Prim.Native.Nat.{_+_, _*_, _≤_};
 ghost use lib.ListN.{length};
 ghost use Rattle.model.specs.Arena.{countIn, localRootIn, decode};
-ghost use Rattle.model.specs.ArenaCalls.{Opened, Readable};
+ghost use Rattle.model.specs.ArenaCalls.{ValidArena, ValidNode};
 ghost use Rattle.model.specs.Graph.{depthBelowIntroduction};
 ghost use Rattle.model.specs.Strength.{classDepth};
 ghost use Rattle.view.specs.View.{viewIn};
@@ -14,7 +15,7 @@ ghost use Rattle.line_table.specs.LineTable.{Cell, Filled, Filling, Tabl
 
 // The second half of row 0: what other rows may read of it.
 fn fill_root(arena: &[u8], table: &mut [u16])
-    requires { ⌜ Readable (now arena) 0 × (countIn (now arena) * 16 ≤ length (now table)) ⌝ }
+    requires { ⌜ ValidNode (now arena) 0 × (countIn (now arena) * 16 ≤ length (now table)) ⌝ }
     ensures { λ _. ⌜ Filled (now (arena .entry)) (now (table .exit)) 16 ⌝ }
 {
     let depth = view::depth(arena, 0);
@@ -55,7 +56,8 @@ fn fill_tests(arena: &[u8], root: u32, n: u32, table: &mut [u16])
     );
 }
 
-// Columns 7 to 9: implied, the node that it is replaced by, and the step outward. A propagated specializes has its origin's site.
+// Columns 7 to 9: implied, the node that it is replaced by, and the step outward. A propagated
+// specializes has its origin's site.
 fn fill_sites(arena: &[u8], root: u32, n: u32, table: &mut [u16])
     requires { ⌜ Filling (now arena) (now table) root n 7 ⌝ }
     ensures { λ _. ⌜ Filling (now (arena .entry)) (now (table .exit)) root n 10 ⌝ }
@@ -100,7 +102,8 @@ fn skipped_depth(arena: &[u8], root: u32, n: u32, table: &[u16]) -> u32
     cell(table, view::parent(arena, n), 13)
 }
 
-// D from node n, which is not replaced itself: up over class arcs with one depth below introduction. `skipped` is where it stays at n.
+// D from node n, which is not replaced itself: up over class arcs with one depth below
+// introduction. `skipped` is where it stays at n.
 fn hierarchy_depth(arena: &[u8], root: u32, n: u32, table: &[u16], below: u32, skipped: u32) -> u32
     requires { ⌜ Filling (now arena) (now table) root n 12 × (below ≡ depthBelowIntroduction (decode (now arena) .nodes) n) ⌝ }
     requires { ⌜ Cell (skippedDepth (viewIn (now arena)) n) skipped ⌝ }
@@ -157,7 +160,7 @@ fn fill_row(arena: &[u8], root: u32, n: u32, table: &mut [u16])
 
 // Fills the table with the rows of the graph's nodes.
 pub fn fill(arena: &[u8], root: u32, count: u32, table: &mut [u16])
-    requires { ⌜ Opened (now arena) × (root ≡ localRootIn (now arena)) × (count ≡ countIn (now arena)) ⌝ }
+    requires { ⌜ ValidArena (now arena) × (root ≡ localRootIn (now arena)) × (count ≡ countIn (now arena)) ⌝ }
     requires { ⌜ count * 16 ≤ length (now table) ⌝ }
     ensures { λ _. ⌜ Tabled (now (arena .entry)) (now (table .exit)) ⌝ }
 {

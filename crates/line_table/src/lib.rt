@@ -1,7 +1,9 @@
-// What document 01's lines read of each node, found once for a whole graph and kept in a table that is lent: a pair of siblings then costs a few loads
-// and no walk. `fill` fills the table in one pass, `entry_of` reads a node's row, `weigh` has the lines on two entries, and `nest` says which nodes are
-// nested with one. It never refuses, and writes nothing but the table and the row that are lent: the arena holds a graph, which callers prove.
-// specs/LineTable.antt says what stands in a row and what a verdict on two entries means.
+// What document 01's lines read of each node, found once for a whole graph and kept in a table that
+// is lent: a pair of siblings then costs a few loads and no walk. `fill` fills the table in one
+// pass, `entry_of` reads a node's row, `weigh` has the lines on two entries, and `nest` says which
+// nodes are nested with one. It never refuses, and writes nothing but the table and the row that
+// are lent: the arena holds a graph, which callers prove. specs/LineTable.antt says what stands in
+// a row and what a verdict on two entries means.
 mod cells;
 mod filling;
 mod lines;

@@ -16,7 +16,8 @@ fn by_sibling(a: Entry, b: Entry) -> Ordering
     strength::by_number(a.node, b.node)
 }
 
-// "2. Same origin: authored, sibling number, then node number; else implied over not implied, then node number."
+// "2. Same origin: authored, sibling number, then node number; else implied over not implied, then
+// node number."
 fn same_origin(a: Entry, b: Entry) -> Ordering
     ensures { λ r. ⌜ Orders sameOriginLines a b r ⌝ }
 {
@@ -51,7 +52,8 @@ fn local_line(a: Entry, b: Entry) -> Ordering
     strength::by_having(a.implied, b.implied)
 }
 
-// "4. Smaller class depth; more hops; if neither is authored and both have the local root's stack, implied over not; node strength of the origins."
+// "4. Smaller class depth; more hops; if neither is authored and both have the local root's stack,
+// implied over not; node strength of the origins."
 fn weigh_same_root(a: Entry, b: Entry) -> Verdict
     ensures { λ r. ⌜ WeighsBy sameRootLines Always a b r ⌝ }
 {
@@ -94,7 +96,8 @@ fn weigh_specializes(a: Entry, b: Entry, nested: bool) -> Verdict
     Verdict::Settled(strength::by_number(b.depth, a.depth))
 }
 
-// "3. Larger depth. 4. Node strength of the origins. 5. Smaller sibling number, then smaller node number."
+// "3. Larger depth. 4. Node strength of the origins. 5. Smaller sibling number, then smaller node
+// number."
 fn weigh_plain(a: Entry, b: Entry) -> Verdict
     ensures { λ r. ⌜ WeighsBy plainLines Always a b r ⌝ }
 {
@@ -104,7 +107,8 @@ fn weigh_plain(a: Entry, b: Entry) -> Verdict
     Verdict::Ask(a.origin, b.origin, by_sibling(a, b))
 }
 
-// What the lines say of the siblings a and b. `nested`, whether R of the two are nested, is read only of two HAS_SPECIALIZES with two depths.
+// What the lines say of the siblings a and b. `nested`, whether R of the two are nested, is read
+// only of two HAS_SPECIALIZES with two depths.
 pub fn weigh(a: Entry, b: Entry, nested: bool) -> Verdict
     ensures { λ r. ⌜ Weighs a b nested r ⌝ }
 {

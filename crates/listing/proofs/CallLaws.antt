@@ -1,5 +1,6 @@
--- The ways that writing a listing ends: a law for each question whose answer is no, and `written`; and for its callers, that the length answered is
--- one of bytes that the buffer has (`length-within`). Assumes nothing.
+-- The ways that writing a listing ends: a law for each question whose answer is no, and `written`;
+-- and for its callers, that the length answered is one of bytes that the buffer has
+-- (`length-within`). Assumes nothing.
 use mathlib.Core.Path.{_≡_, refl, sym, ap, _∙_}
 use mathlib.Core.Bool.{false}
 use mathlib.Core.List.{List, [], _∷_}
@@ -14,11 +15,11 @@ use Rattle.model.specs.Bytes.{stored}
 use Rattle.model.specs.Listing.{listing}
 use Rattle.model.specs.Refusals.{refusalNumber, ask, refusal}
 use Rattle.model.specs.Arena.{arenaBytes, countIn, orderedIn, decode, holdsGraph}
-use Rattle.model.specs.ArenaCalls.{Opened, valueUnless}
+use Rattle.model.specs.ArenaCalls.{ValidArena, valueUnless}
 use Rattle.model.specs.declared.Refusal.{Refusal}
 use Rattle.model.specs.declared.Refusal.the-variants.{Size, NotAGraph, NodeZero, NotOrdered}
-use Rattle.model.specs.declared.Numbered.{Numbered}
-use Rattle.model.specs.declared.Numbered.the-variants.{Number, Refused}
+use Rattle.model.specs.declared.NumberResult.{NumberResult}
+use Rattle.model.specs.declared.NumberResult.the-variants.{Number, Refused}
 use Rattle.laws.proofs.ArenaCallLaws.{refusal-some, answered-refused, answered-number}
 use Rattle.arena.proofs.ReadNodes.{sizes}
 use Rattle.listing.specs.Listings.{listingQuestions, ListingWritten}
@@ -44,7 +45,7 @@ module _ (bs out : List ℕ) where
   pub no-graph : length bs ≡ arenaBytes → length out ≡ arenaBytes → holdsGraph bs ≡ false → ListingWritten bs out (Refused NotAGraph) out
   no-graph h k g = refused-as NotAGraph (rw (eq-eqb (length bs) arenaBytes h, eq-eqb (length out) arenaBytes k, g))
 
-  module _ (o : Opened bs) (k : length out ≡ arenaBytes) where
+  module _ (o : ValidArena bs) (k : length out ≡ arenaBytes) where
     pub no-node : countIn bs ≡ 0 → ListingWritten bs out (Refused NodeZero) out
     no-node none =
         refused-as NodeZero
@@ -67,7 +68,7 @@ module _ (bs out : List ℕ) where
           bytes = rw (eq-eqb (refusal (listingQuestions bs out)) 0 accepted) (put .bytes);
         }
 
-pub length-within : (bs out : List ℕ) (r : Numbered) (after : List ℕ) → ListingWritten bs out r after → (n : ℕ) → r ≡ Number n → n ≤ length after
+pub length-within : (bs out : List ℕ) (r : NumberResult) (after : List ℕ) → ListingWritten bs out r after → (n : ℕ) → r ≡ Number n → n ≤ length after
 unfolding stored
 length-within bs out r after written n e =
     let text = listing (decode bs) in

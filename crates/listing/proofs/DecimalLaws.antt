@@ -1,5 +1,6 @@
--- Numbers in decimal: of one digit (`number-digit`), of more (`number-more`), and that twenty bytes hold each (`number-short`). The definition counts
--- digits down; more of them than a number has make no difference (`digits-enough`). Assumes nothing.
+-- Numbers in decimal: of one digit (`number-digit`), of more (`number-more`), and that twenty bytes
+-- hold each (`number-short`). The definition counts digits down; more of them than a number has
+-- make no difference (`digits-enough`). Assumes nothing.
 use mathlib.Core.Path.{_≡_, refl, sym, ap}
 use mathlib.Core.Bool.{Bool, true, false, cond}
 use mathlib.Core.List.{List, [], _∷_, _++_}

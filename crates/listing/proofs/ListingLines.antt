@@ -1,5 +1,6 @@
--- The lines of an ordered graph's nodes: that each entry of the order can be read (`entry-readable`), a line by the fields that are read (`line-read`),
--- and the loop over the order (`Listed`). Assumes nothing.
+-- The lines of an ordered graph's nodes: that each entry of the order can be read
+-- (`entry-readable`), a line by the fields that are read (`line-read`), and the loop over the order
+-- (`Listed`). Assumes nothing.
 use mathlib.Core.Path.{_≡_, refl, sym, ap, _∙_}
 use mathlib.Core.List.{List, [], _∷_, _++_, append-assoc, append-nil}
 use Prim.Native.Nat.{ℕ, zero, suc, _+_, _*_, _≤_, _<_}
@@ -15,7 +16,7 @@ use Rattle.model.specs.Node.{Node}
 use Rattle.model.specs.Graph.{size, nodeAt}
 use Rattle.model.specs.Listing.{arcLetters, nodeLine, nodeLines, listing}
 use Rattle.model.specs.Arena.{countIn, orderedIn, orderEntryIn, nodeIn, tabulate, orderIn, decode}
-use Rattle.model.specs.ArenaCalls.{Readable}
+use Rattle.model.specs.ArenaCalls.{ValidNode}
 use Rattle.laws.proofs.LengthLaws.{once-nothing-else}
 use Rattle.laws.proofs.StoredLaws.{length-stored}
 use Rattle.arena.specs.Slot.{HasSlot}
@@ -40,7 +41,7 @@ front-rest : (n : ℕ) (x : Node) → lineFront n (x .arc) (x .depth) ++ lineRes
 unfolding lineFront number
 front-rest n x = append-assoc (number n) (0x20 ∷ getD arcLetters (x .arc) 0 ∷ 0x20 ∷ number (x .depth)) (lineRest (x .path))
 
-module _ (bs : List ℕ) (n : ℕ) (r : Readable bs n) where
+module _ (bs : List ℕ) (n : ℕ) (r : ValidNode bs n) where
   pub arc-few : viewIn bs .arc n ≤ 6
   arc-few =
       let h = held bs (r .opened .holds) in
@@ -107,7 +108,7 @@ module _ (bs out : List ℕ) (can : CanList bs out) where
     entry-slot = has-slot bs i (record { opened = can .opened; below = h })
 
     -- a marked order has each node once, and so nothing but nodes
-    pub entry-readable : Readable bs (orderEntryIn bs i)
+    pub entry-readable : ValidNode bs (orderEntryIn bs i)
     entry-readable =
         let nodes = held bs (can .opened .holds) .node in
         let only : All (λ x. x < countIn bs) (orderIn bs) =

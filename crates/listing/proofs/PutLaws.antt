@@ -1,4 +1,5 @@
--- Text put after text is both put (`put-then`, `put-thrice`), and what is put may be named by an equal text (`put-as`). Assumes nothing.
+-- Text put after text is both put (`put-then`, `put-thrice`), and what is put may be named by an
+-- equal text (`put-as`). Assumes nothing.
 use mathlib.Core.Path.{_≡_, ap, _∙_}
 use mathlib.Core.List.{List, [], _∷_, _++_, append-assoc}
 use Prim.Native.Nat.{ℕ, _+_, _≤_, _<_}

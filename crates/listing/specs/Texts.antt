@@ -1,5 +1,6 @@
--- What the functions that write a listing promise each other: its parts, and what is left where a part is put. The text is model/specs/Listing.antt's;
--- here its parts are shut, so that no proof writes out a number's twenty digits.
+-- What the functions that write a listing promise each other: its parts, and what is left where a
+-- part is put. The text is model/specs/Listing.antt's; here its parts are shut, so that no proof
+-- writes out a number's twenty digits.
 use mathlib.Core.Path.{_≡_}
 use mathlib.Core.List.{List, [], _∷_, _++_}
 use Prim.Native.Nat.{ℕ, _+_}
@@ -8,7 +9,7 @@ use Rattle.model.specs.Bytes.{stored}
 use Rattle.model.specs.Graph.{nodeAt}
 use Rattle.model.specs.Listing.{decimal, arcLetters, nodeLine, nodeLines}
 use Rattle.model.specs.Arena.{arenaBytes, orderedIn, decode}
-use Rattle.model.specs.ArenaCalls.{Opened}
+use Rattle.model.specs.ArenaCalls.{ValidArena}
 
 unfoldable pub number : ℕ → List ℕ
 number n = decimal n
@@ -37,6 +38,6 @@ pub record Put (at : ℕ) (text before : List ℕ) (end : ℕ) (after : List ℕ
 
 -- an arena that holds an ordered graph, and bytes for every listing
 pub record CanList (arena out : List ℕ) : Type 0 where
-  pub opened : Opened arena
+  pub opened : ValidArena arena
   pub ordered : orderedIn arena ≡ 1
   pub large : length out ≡ arenaBytes

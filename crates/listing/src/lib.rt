@@ -1,16 +1,17 @@
-// The text of an order (document 01, the command `order`): `order` and the count, then number, arc letter, depth and path of each node, a line each.
-// It reads an arena and writes lent bytes of the same size, in which every listing fits, and never changes the arena. The public function has no
+// The text of an order (document 01, the command `order`): `order` and the count, then number, arc
+// letter, depth and path of each node, a line each. It reads an arena and writes lent bytes of the
+// same size, in which every listing fits, and never changes the arena. The public function has no
 // `requires`: it puts its questions first, and refused it has written nothing.
 // model/specs/Listing.antt has the text, specs/Listings.antt what the call answers.
 mod text;
 
-use model::Numbered;
+use model::NumberResult;
 use model::Refusal;
 ghost use mathlib.Core.Path.{_≡_};
 ghost use Prim.Native.Nat.{_+_, _≤_};
 ghost use lib.ListN.{length, getD};
 ghost use Rattle.model.specs.Arena.{countIn, decode};
-ghost use Rattle.model.specs.ArenaCalls.{Readable};
+ghost use Rattle.model.specs.ArenaCalls.{ValidNode};
 ghost use Rattle.model.specs.Listing.{arcLetters, listing};
 ghost use Rattle.listing.specs.Listings.{ListingWritten};
 ghost use Rattle.listing.specs.Texts.{headLine, lineOf, lineFront, lineRest, linesOf, Put, CanList};
@@ -59,7 +60,7 @@ fn put_rest(out: &mut [u8], at: usize, path: &[u8]) -> usize
 
 // Puts the line of node n.
 fn put_line(arena: &[u8], n: u32, out: &mut [u8], at: usize) -> usize
-    requires { ⌜ Readable (now arena) n ⌝ }
+    requires { ⌜ ValidNode (now arena) n ⌝ }
     requires { ⌜ at + 300 ≤ length (now out) ⌝ }
     ensures { λ r. ⌜ Put at (lineOf (now (arena .entry)) n) (now (out .entry)) r (now (out .exit)) ⌝ }
 {
@@ -95,24 +96,25 @@ fn put_listing(arena: &[u8], out: &mut [u8]) -> usize
     put_lines(arena, count, out, start)
 }
 
-// Writes the listing to the front of `out`, which has 327,744 bytes, and answers how many it took. Refused 1 (of both), 2, 3 or 10.
-pub fn write_listing(arena: &[u8], out: &mut [u8]) -> Numbered
+// Writes the listing to the front of `out`, which has 327,744 bytes, and answers how many it took.
+// Refused 1 (of both), 2, 3 or 10.
+pub fn write_listing(arena: &[u8], out: &mut [u8]) -> NumberResult
     ensures { λ r. ⌜ ListingWritten (now (arena .entry)) (now (out .entry)) r (now (out .exit)) ⌝ }
 {
     if arena.len() != 327744 {
-        return Numbered::Refused(Refusal::Size);
+        return NumberResult::Refused(Refusal::Size);
     }
     if out.len() != 327744 {
-        return Numbered::Refused(Refusal::Size);
+        return NumberResult::Refused(Refusal::Size);
     }
     if !validate::is_graph(arena) {
-        return Numbered::Refused(Refusal::NotAGraph);
+        return NumberResult::Refused(Refusal::NotAGraph);
     }
     if arena::count(arena) == 0 {
-        return Numbered::Refused(Refusal::NodeZero);
+        return NumberResult::Refused(Refusal::NodeZero);
     }
     if arena::ordered(arena) != 1 {
-        return Numbered::Refused(Refusal::NotOrdered);
+        return NumberResult::Refused(Refusal::NotOrdered);
     }
-    Numbered::Number(put_listing(arena, out) as u32)
+    NumberResult::Number(put_listing(arena, out) as u32)
 }

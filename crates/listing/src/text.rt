@@ -1,4 +1,5 @@
-// Text put into lent bytes, for this crate alone: each function puts its part from `at` on and answers where it ends. Each requires room, which its callers prove.
+// Text put into lent bytes, for this crate alone: each function puts its part from `at` on and
+// answers where it ends. Each requires room, which its callers prove.
 ghost use mathlib.Core.List.{[], _∷_};
 ghost use Prim.Native.Nat.{_+_, _≤_};
 ghost use lib.ListN.{length};
@@ -22,7 +23,8 @@ pub(crate) fn put_bytes(out: &mut [u8], at: usize, bytes: &[u8]) -> usize
     at + bytes.len()
 }
 
-// Puts a number in decimal: the digits of its tenth, and then its last. It calls itself at most nine times, since ten digits hold any number here.
+// Puts a number in decimal: the digits of its tenth, and then its last. It calls itself at most
+// nine times, since ten digits hold any number here.
 pub(crate) fn put_number(out: &mut [u8], at: usize, n: u32) -> usize
     requires { ⌜ at + 20 ≤ length (now out) ⌝ }
     ensures { λ r. ⌜ Put at (number n) (now (out .entry)) r (now (out .exit)) ⌝ }

@@ -1,4 +1,5 @@
--- What calls leave where document 01's table has no example, by computation: erasing, and calls that are refused. Assumes nothing.
+-- What calls leave where document 01's table has no example, by computation: erasing, and calls
+-- that are refused. Assumes nothing.
 use mathlib.Core.Path.{_≡_, refl}
 use mathlib.Core.List.{List, [], _∷_, _++_}
 use Prim.Native.Nat.{ℕ}
@@ -12,7 +13,7 @@ use Rattle.model.specs.Order.{isStronger, hasOrder, ordering}
 use Rattle.model.specs.Erasing.{eraseBy, erase}
 use Rattle.model.specs.Deepening.{deepen}
 use Rattle.model.specs.Calls.{orders, deepening, call, unchanged, initRoot, addChild, finalizeStrengthOrder, appendChildName}
-use Rattle.model.specs.ArenaCalls.{left}
+use Rattle.model.specs.ArenaCalls.{arenaAfter}
 
 -- node 2 goes of the four, ordered: what is left is the graph that was made without it
 one-erased : erase (0 ∷ 0 ∷ 1 ∷ 0 ∷ []) (from (four ++ orders ∷ [])) ≡ from (line (plain 1 1 "/C" ∷ []) ++ orders ∷ [])
@@ -27,7 +28,7 @@ unfolding initRoot addChild appendChildName withNode wellFormed primCount isName
 too-long-refused = refl
 
 -- a refused call changes no byte, whatever the bytes are
-ring-writes-nothing : (bs : List ℕ) → left (call orders (from ring)) bs ≡ bs
+ring-writes-nothing : (bs : List ℕ) → arenaAfter (call orders (from ring)) bs ≡ bs
 unfolding initRoot addChild finalizeStrengthOrder withNode wellFormed primCount isNameStart isLocalRoot hasOrder isStronger
     compareSiblingNodeStrength siblingLines plainLines specializesLines depthLine originLines sameOriginLines originsAreNested isNestedUnder
     outward originRootNode isPropagatedSpecializes sameSite samePath nodesBy smaller

@@ -53,8 +53,8 @@ line cs = starting 0 0 (bytes "/M") ∷ plain invalid 0 "/M" ∷ cs
 abbrev pub four : List Call
 four = line (plain 1 4 "/R" ∷ plain 1 1 "/C" ∷ [])
 
--- "The ring: under 1, Reference 2 `/R`, then three Specialize: 3 `/S` and 4 `/T`, origin 2, HAS_SPECIALIZES, depths 1 and 3; 5 `/U`, no origin,
--- unflagged, depth 2"
+-- "The ring: under 1, Reference 2 `/R`, then three Specialize: 3 `/S` and 4 `/T`, origin 2,
+-- HAS_SPECIALIZES, depths 1 and 3; 5 `/U`, no origin, unflagged, depth 2"
 abbrev pub ring : List Call
 ring =
     line (plain 1 4 "/R" ∷ add 1 6 8 0 2 (some 1) 0 "/S" ∷ add 1 6 8 0 2 (some 3) 0 "/T" ∷ add 1 6 0 0 invalid (some 2) 0 "/U" ∷ [])
@@ -67,7 +67,8 @@ deep = starting 0 0 (bytes "/M/a") ∷ add 0 4 0 0 invalid (some 1) 0 "/A" ∷ a
 abbrev pub oneOrigin : List Call
 oneOrigin = line (plain 1 1 "/S" ∷ add 1 6 8 0 2 (some 1) 0 "/S" ∷ add 1 6 8 0 2 (some 1) 0 "/T" ∷ [])
 
--- where a port goes astray, the smallest graph that tells: two Specialize, the second from the first, with the larger class depth
+-- where a port goes astray, the smallest graph that tells: two Specialize, the second from the
+-- first, with the larger class depth
 abbrev pub classDepths : List Call
 classDepths = line (add 1 6 8 0 1 (some 1) 1 "/M" ∷ add 1 6 8 1 2 (some 2) 0 "/T" ∷ [])
 

@@ -1,5 +1,6 @@
--- Document 01's examples: the table of "The bond of each call", point 3, and a graph for each way in which a port goes astray, all by
--- computation. Path's own are in PathExamples.antt, and a line of this table. Assumes nothing.
+-- Document 01's examples: the table of "The bond of each call", point 3, and a graph for each way
+-- in which a port goes astray, all by computation. Path's own are in PathExamples.antt, and a line
+-- of this table. Assumes nothing.
 use mathlib.Core.Path.{_≡_, refl}
 use mathlib.Core.Bool.{true, false}
 use mathlib.Core.Option.{some}

@@ -1,5 +1,5 @@
--- Ancestors, class hierarchies and copies under the local root, on one graph; the oracle gives the same answers (the stored examples of `calls`).
--- Assumes nothing.
+-- Ancestors, class hierarchies and copies under the local root, on one graph; the oracle gives the
+-- same answers (the stored examples of `calls`). Assumes nothing.
 use mathlib.Core.Path.{_≡_, refl}
 use mathlib.Core.Bool.{true, false}
 use mathlib.Core.Option.{some}
@@ -27,7 +27,8 @@ copies : (getPropagatedSpecializesNode copied 3 ≡ 4) × (getPropagatedSpeciali
 unfolding initRoot addChild withNode wellFormed isNameStart isLocalRoot isPropagatedSpecializes samePath sameSite getPropagatedSpecializesNode
 copies = (refl, refl)
 
--- of 4, which is replaced by 3: it starts at 2, its topmost class is 3; 2 itself is no class's instance
+-- of 4, which is replaced by 3: it starts at 2, its topmost class is 3; 2 itself is no class's
+-- instance
 hierarchies : (startingNodeOfClassHierarchy seen 4 ≡ 2) × (topmostClassNode seen 4 ≡ 3) × (topmostClassNode seen 2 ≡ invalid)
 unfolding initRoot addChild withNode wellFormed isNameStart isLocalRoot primCount samePath sameSite isPropagatedSpecializes replaced depthBelowIntroduction startingNodeOfClassHierarchy topmostClassNode
 hierarchies = (refl, refl, refl)

@@ -1,4 +1,5 @@
--- Document 01's examples, and where it has none the smallest that tells, by computation alone. What follows from the definitions is in crates/laws.
+-- Document 01's examples, and where it has none the smallest that tells, by computation alone. What
+-- follows from the definitions is in crates/laws.
 pub mod Text
 pub mod PathExamples
 pub mod ExampleGraphs

@@ -17,8 +17,8 @@ pub record Table : Type 0 where
   pub slash-after-brace : wellFormed (bytes "/A{v=x}/B") ≡ false
   pub digit-first : wellFormed (bytes "/1") ≡ false
   pub digit-in-selection : wellFormed (bytes "/A{v=1}") ≡ true
-  -- "The parent of a path ending in `}` stops before the last `{`. Otherwise it stops before the last `/`, or after the last `}` if that is later;
-  -- `/A` has parent `/`"
+  -- "The parent of a path ending in `}` stops before the last `{`. Otherwise it stops before the
+  -- last `/`, or after the last `}` if that is later; `/A` has parent `/`"
   pub selection-parent : parent (bytes "/A{v=x}") ≡ bytes "/A"
   pub slashed-parent : parent (bytes "/A/B") ≡ bytes "/A"
   pub bare-parent : parent (bytes "/A{v=x}B") ≡ bytes "/A{v=x}"

@@ -1,4 +1,5 @@
--- Document 01's empty snapshot, a small graph written and read back, and bytes that are refused, by computation. Assumes nothing.
+-- Document 01's empty snapshot, a small graph written and read back, and bytes that are refused, by
+-- computation. Assumes nothing.
 use Prim.Native.Nat.{ℕ, _+_}
 use mathlib.Core.Path.{_≡_, refl}
 use mathlib.Core.List.{List, [], _∷_, _++_, map}
@@ -61,7 +62,8 @@ refusedBy bs = readInto bs emptyGraph .refused
 abbrev zeros : ℕ → List ℕ
 zeros n = bigEndian 4 (5 + n) ++ (1 ∷ 0 ∷ 1 ∷ (bigEndian 2 n ++ replicate n 0))
 
--- a byte too many, uncounted and counted; a byte too few; a node too many; versions 0 and 2; records of 27 and 283 bytes
+-- a byte too many, uncounted and counted; a byte too few; a node too many; versions 0 and 2;
+-- records of 27 and 283 bytes
 not-exact : map refusedBy
     ((0 ∷ 0 ∷ 0 ∷ 3 ∷ 1 ∷ 0 ∷ 0 ∷ 0 ∷ []) ∷ (0 ∷ 0 ∷ 0 ∷ 4 ∷ 1 ∷ 0 ∷ 0 ∷ 0 ∷ []) ∷ (0 ∷ 0 ∷ 0 ∷ 3 ∷ 1 ∷ 0 ∷ []) ∷ (0 ∷ 0 ∷ 0 ∷ 3 ∷ 1 ∷ 0 ∷ 1 ∷ [])
     ∷ (0 ∷ 0 ∷ 0 ∷ 3 ∷ 0 ∷ 0 ∷ 0 ∷ []) ∷ (0 ∷ 0 ∷ 0 ∷ 3 ∷ 2 ∷ 0 ∷ 0 ∷ []) ∷ zeros 27 ∷ zeros 283 ∷ [])
@@ -69,7 +71,8 @@ not-exact : map refusedBy
 unfolding readInto readSnapshot readRecords
 not-exact = refl
 
--- records 0 of 28 and 282 bytes that are not INERT, and one that is a Reference: "a wrong record 0 .. is 4"
+-- records 0 of 28 and 282 bytes that are not INERT, and one that is a Reference: "a wrong record 0
+-- .. is 4"
 wrong-record-zero : map refusedBy (zeros 28 ∷ zeros 282 ∷ writeSnapshot (withNode emptyGraph reference) ∷ []) ≡ 4 ∷ 4 ∷ 4 ∷ []
 unfolding readInto readSnapshot readRecords readRecord writeSnapshot recordBody withNode
 wrong-record-zero = refl

@@ -1,5 +1,6 @@
--- How an arena (document 01: the room) holds a graph: the layout of docs/LAYOUT.md, the graph that bytes hold, the bytes of a graph, and question
--- 2, "Does the room hold a graph", point by point. Bytes that a graph does not use keep what they had.
+-- How an arena (document 01: the room) holds a graph: the layout of docs/LAYOUT.md, the graph that
+-- bytes hold, the bytes of a graph, and question 2, "Does the room hold a graph", point by point.
+-- Bytes that a graph does not use keep what they had.
 use mathlib.Core.Bool.{Bool, true, not, _||_, _&&_, cond}
 use mathlib.Core.List.{List, [], _∷_, _++_}
 use Prim.Native.Nat.{ℕ, zero, suc, _+_, _*_}
@@ -37,8 +38,8 @@ shallowIn bs = field 6 1 bs
 abbrev pub localRootIn : List ℕ → ℕ
 localRootIn bs = field 8 4 bs
 
--- a slot: first child, last child and next sibling, `invalid` for none; entry n of the order, in slot n; the prim count of the node's path; its
--- record as a snapshot has it, length first
+-- a slot: first child, last child and next sibling, `invalid` for none; entry n of the order, in
+-- slot n; the prim count of the node's path; its record as a snapshot has it, length first
 abbrev pub firstChildIn : List ℕ → ℕ → ℕ
 firstChildIn bs n = field (slotAt n) 4 bs
 
@@ -147,7 +148,8 @@ encode g bs = orderStored (g .order) 0 (slotsStored g (size g) (rootStored g (st
 
 -- ---- Question 2
 
--- "records such as the snapshot reader accepts, parents and origins lower": each put to the graph of those before it
+-- "records such as the snapshot reader accepts, parents and origins lower": each put to the graph
+-- of those before it
 abbrev pub recordsAccepted : Graph → List Node → Bool
 recordsAccepted g [] = true
 recordsAccepted g (x ∷ xs) = eqb (refusal (recordQuestions g x)) 0 && recordsAccepted (withNode g x) xs
@@ -162,8 +164,8 @@ chainEnds bs v (suc k) n =
     eqb n invalid || (ltb n (countIn bs) && (eqb (nodeIn bs n .parent) v && chainEnds bs v k (nextSiblingIn bs n)))
 
 -- "each node but 0 once in its parent's chain"; node 0 has no next sibling
-abbrev pub chainRight : List ℕ → ℕ → Bool
-chainRight bs v = chainEnds bs v (countIn bs) (firstChildIn bs v) && eqb (lastChildIn bs v) (lastOf (childrenIn bs v))
+abbrev pub chainValid : List ℕ → ℕ → Bool
+chainValid bs v = chainEnds bs v (countIn bs) (firstChildIn bs v) && eqb (lastChildIn bs v) (lastOf (childrenIn bs v))
 
 abbrev pub inChainOnce : List ℕ → ℕ → Bool
 inChainOnce bs n = cond (eqb n 0) (eqb (nextSiblingIn bs 0) invalid) (eqb (count n (childrenIn bs (nodeIn bs n .parent))) 1)
@@ -177,24 +179,24 @@ abbrev pub shallowMarked : List ℕ → ℕ → Bool
 shallowMarked bs n = not (isShallow (nodesIn bs) n (nodeIn bs n)) || eqb (shallowIn bs) 1
 
 -- the marks are bytes 0 and 1; "finalized only if ordered and not shallow"; an empty graph has none
-abbrev pub marksRight : List ℕ → Bool
-marksRight bs =
+abbrev pub stateValid : List ℕ → Bool
+stateValid bs =
     leb (orderedIn bs) 1
     && (leb (finalizedIn bs) 1
     && (leb (shallowIn bs) 1
     && ((eqb (finalizedIn bs) 0 || (eqb (orderedIn bs) 1 && eqb (shallowIn bs) 0))
     && (not (eqb (countIn bs) 0) || (eqb (orderedIn bs) 0 && eqb (shallowIn bs) 0)))))
 
-abbrev pub nodeRight : List ℕ → ℕ → Bool
-nodeRight bs n =
+abbrev pub nodeValid : List ℕ → ℕ → Bool
+nodeValid bs n =
     recordFits bs n
     && (eqb (primCountIn bs n) (primCount (nodeIn bs n .path))
-    && (chainRight bs n && (inChainOnce bs n && (shallowMarked bs n && (eqb (orderedIn bs) 0 || inOrderOnce bs n)))))
+    && (chainValid bs n && (inChainOnce bs n && (shallowMarked bs n && (eqb (orderedIn bs) 0 || inOrderOnce bs n)))))
 
 -- "A room whose bytes are all zero is the empty graph"
 unfoldable pub holdsGraph : List ℕ → Bool
 holdsGraph bs =
     leb (countIn bs) 1024
-    && (marksRight bs
-    && (allBelow (nodeRight bs) (countIn bs)
+    && (stateValid bs
+    && (allBelow (nodeValid bs) (countIn bs)
     && (recordsAccepted emptyGraph (nodesIn bs) && (eqb (countIn bs) 0 || eqb (localRootIn bs) (localRootOf (nodesIn bs))))))

@@ -1,5 +1,6 @@
--- Each call on an arena: questions 1 and 2, then the call's own, and what it leaves of the bytes. One lifting for the calls that write a graph, one for
--- those that only read; the functions of prim_graph promise no more and no less.
+-- Each call on an arena: questions 1 and 2, then the call's own, and what it leaves of the bytes.
+-- One lifting for the calls that write a graph, one for those that only read; the functions of
+-- prim_graph promise no more and no less.
 use mathlib.Core.Path.{_≡_}
 use mathlib.Core.Bool.{Bool, true, cond}
 use mathlib.Core.List.{List, _∷_}
@@ -11,25 +12,25 @@ use Rattle.model.specs.Refusals.{Question, ask, refusal}
 use Rattle.model.specs.Calls.{Outcome, unchanged}
 use Rattle.model.specs.Arena.{arenaBytes, countIn, decode, encode, holdsGraph}
 use Rattle.model.specs.Lists.{bit}
-use Rattle.model.specs.Answers.{finishedRefusal, numberedRefusal, numberedValue, orderingNumber, comparedRefusal, comparedValue, testedRefusal, testedValue}
+use Rattle.model.specs.Answers.{unitRefusal, numberRefusal, numberValue, orderingNumber, orderingRefusal, orderingValue, boolRefusal, boolValue}
 use Rattle.model.specs.declared.Ordering.{Ordering}
-use Rattle.model.specs.declared.Finished.{Finished}
-use Rattle.model.specs.declared.Numbered.{Numbered}
-use Rattle.model.specs.declared.Compared.{Compared}
-use Rattle.model.specs.declared.Tested.{Tested}
+use Rattle.model.specs.declared.UnitResult.{UnitResult}
+use Rattle.model.specs.declared.NumberResult.{NumberResult}
+use Rattle.model.specs.declared.OrderingResult.{OrderingResult}
+use Rattle.model.specs.declared.BoolResult.{BoolResult}
 
 -- question 1: "Has each lent buffer the size docs/ gives its use"
 abbrev pub isArena : List ℕ → Bool
 isArena bs = eqb (length bs) arenaBytes
 
 -- questions 1 and 2 pass
-pub record Opened (bs : List ℕ) : Type 0 where
+pub record ValidArena (bs : List ℕ) : Type 0 where
   pub whole : length bs ≡ arenaBytes
   pub holds : holdsGraph bs ≡ true
 
 -- and n is one of the nodes
-pub record Readable (bs : List ℕ) (n : ℕ) : Type 0 where
-  pub opened : Opened bs
+pub record ValidNode (bs : List ℕ) (n : ℕ) : Type 0 where
+  pub opened : ValidArena bs
   pub below : n < countIn bs
 
 -- ---- The calls that write a graph
@@ -41,20 +42,21 @@ onArena f bs = cond (isArena bs) (cond (holdsGraph bs) (f (decode bs)) (unchange
 unfoldable pub intoArena : Outcome → List ℕ → Outcome
 intoArena o bs = cond (isArena bs) o (unchanged 1 emptyGraph)
 
--- "the first no is the answer, with value 0 and every lent byte unchanged"; accepted, the arena has the new graph's bytes
-abbrev pub left : Outcome → List ℕ → List ℕ
-left o bs = cond (eqb (o .refused) 0) (encode (o .graph) bs) bs
+-- "the first no is the answer, with value 0 and every lent byte unchanged"; accepted, the arena has
+-- the new graph's bytes
+abbrev pub arenaAfter : Outcome → List ℕ → List ℕ
+arenaAfter o bs = cond (eqb (o .refused) 0) (encode (o .graph) bs) bs
 
 -- the answer and the arena after a call that came to o
-pub record Wrote (o : Outcome) (before : List ℕ) (r : Numbered) (after : List ℕ) : Type 0 where
-  pub refused : numberedRefusal r ≡ o .refused
-  pub value : numberedValue r ≡ o .value
-  pub arena : after ≡ left o before
+pub record Wrote (o : Outcome) (before : List ℕ) (r : NumberResult) (after : List ℕ) : Type 0 where
+  pub refused : numberRefusal r ≡ o .refused
+  pub value : numberValue r ≡ o .value
+  pub arena : after ≡ arenaAfter o before
 
 -- the same where a call gives nothing but its refusal
-pub record Finishes (o : Outcome) (before : List ℕ) (r : Finished) (after : List ℕ) : Type 0 where
-  pub refused : finishedRefusal r ≡ o .refused
-  pub arena : after ≡ left o before
+pub record Finishes (o : Outcome) (before : List ℕ) (r : UnitResult) (after : List ℕ) : Type 0 where
+  pub refused : unitRefusal r ≡ o .refused
+  pub arena : after ≡ arenaAfter o before
 
 -- ---- The calls that only read
 
@@ -70,11 +72,11 @@ pub record Answers (questions : List Question) (answer number given : ℕ) : Typ
   pub refused : number ≡ refusal questions
   pub value : given ≡ valueUnless (refusal questions) answer
 
-abbrev pub Answered : List Question → ℕ → Numbered → Type 0
-Answered questions answer r = Answers questions answer (numberedRefusal r) (numberedValue r)
+abbrev pub Answered : List Question → ℕ → NumberResult → Type 0
+Answered questions answer r = Answers questions answer (numberRefusal r) (numberValue r)
 
-abbrev pub AnsweredOrder : List Question → Ordering → Compared → Type 0
-AnsweredOrder questions answer r = Answers questions (orderingNumber answer) (comparedRefusal r) (comparedValue r)
+abbrev pub AnsweredOrder : List Question → Ordering → OrderingResult → Type 0
+AnsweredOrder questions answer r = Answers questions (orderingNumber answer) (orderingRefusal r) (orderingValue r)
 
-abbrev pub AnsweredTest : List Question → Bool → Tested → Type 0
-AnsweredTest questions answer r = Answers questions (bit answer) (testedRefusal r) (testedValue r)
+abbrev pub AnsweredTest : List Question → Bool → BoolResult → Type 0
+AnsweredTest questions answer r = Answers questions (bit answer) (boolRefusal r) (boolValue r)

@@ -1,5 +1,6 @@
--- Each call of document 01 as one function, from its arguments and the graph to its refusal, its value and the graph. Refused, the value is 0 (or
--- nothing) and the graph is as it was. Questions 1 and 2 are about lent bytes, and come before these.
+-- Each call of document 01 as one function, from its arguments and the graph to its refusal, its
+-- value and the graph. Refused, the value is 0 (or nothing) and the graph is as it was. Questions 1
+-- and 2 are about lent bytes, and come before these.
 use mathlib.Core.Bool.{Bool, true, not, _||_, _&&_, cond}
 use mathlib.Core.Option.{Option, none, some}
 use mathlib.Core.List.{List, [], _∷_}
@@ -40,7 +41,8 @@ hasNodeZero g = ask 3 (ltb 0 (size g))
 
 -- ---- Starting and adding
 
--- "Node 0: arc Root, INERT, has specs, 16-bit fields 0 except depth = its own prim count; no parent, no origin"
+-- "Node 0: arc Root, INERT, has specs, 16-bit fields 0 except depth = its own prim count; no
+-- parent, no origin"
 abbrev pub rootNode : ℕ → ℕ → List ℕ → Node
 rootNode stack layer path = record {
   arc = rootArc;
@@ -61,7 +63,8 @@ unfoldable pub initRoot : ℕ → ℕ → List ℕ → Graph → Outcome
 initRoot stack layer path g =
     decided (ask 3 (eqb (size g) 0) ∷ ask 5 (wellFormed path) ∷ []) g 0 (withNode g (rootNode stack layer path))
 
--- A node to be added: its fields as they are given, with `invalid` for a missing parent or origin, and a missing depth.
+-- A node to be added: its fields as they are given, with `invalid` for a missing parent or origin,
+-- and a missing depth.
 pub record NodeDesc : Type 0 where
   pub fields : Node
   pub depth : Option ℕ
@@ -111,7 +114,8 @@ addChild d g =
 
 -- ---- Ordering
 
--- "Has every child list an order? Not asked of a finalized graph"; "a finalized graph is returned unchanged"
+-- "Has every child list an order? Not asked of a finalized graph"; "a finalized graph is returned
+-- unchanged"
 unfoldable pub finalizeStrengthOrder : Graph → Outcome
 finalizeStrengthOrder g =
     decided (hasNodeZero g ∷ ask 9 (g .finalized || hasOrder g) ∷ []) g 0 (cond (g .finalized) g (ordering g))

@@ -16,13 +16,14 @@ use Rattle.model.specs.Strength.{view, isAuthored, originRootNode}
 abbrev pub introducer : List Node → ℕ → ℕ
 introducer ns n = cond (isAuthored (view ns) n) n (originRootNode (view ns) n)
 
--- "An Inherit in the local root's stack is also not culled unless t's own path, taken back by t's depth below introduction, has prim count 1"
+-- "An Inherit in the local root's stack is also not culled unless t's own path, taken back by t's
+-- depth below introduction, has prim count 1"
 unfoldable pub keepsInherit : List Node → ℕ → Bool
 keepsInherit ns n =
     eqb (nodeAt ns n .arc) inheritArc && (inLocalStack ns n && not (eqb (primCount (pathAtIntroduction ns (introducer ns n))) 1))
 
--- "A node is culled if it already is; else not if its arc is Root, its depth below introduction is 0, a child is unculled, or it has specs and
--- isn't INERT"
+-- "A node is culled if it already is; else not if its arc is Root, its depth below introduction is
+-- 0, a child is unculled, or it has specs and isn't INERT"
 unfoldable pub canCull : List (List ℕ) → List Node → ℕ → Bool
 canCull children ns n =
     isCulled (nodeAt ns n)
@@ -39,8 +40,8 @@ culled x = changed (cond (isCulled x) (x .flags) (x .flags + culledFlag)) (x .pa
 abbrev pub cullOne : List (List ℕ) → ℕ → List Node → List Node
 cullOne children n ns = cond (canCull children ns n) (set ns n (culled (nodeAt ns n))) ns
 
--- "Culling goes children first, skips node 0": from node n down to node 1, since a child's number is higher (laws/proofs/CullingLaws.antt has any
--- other sequence that puts children first)
+-- "Culling goes children first, skips node 0": from node n down to node 1, since a child's number
+-- is higher (laws/proofs/CullingLaws.antt has any other sequence that puts children first)
 abbrev pub cullDown : List (List ℕ) → ℕ → List Node → List Node
 cullDown children zero ns = ns
 cullDown children (suc n) ns = cullDown children n (cullOne children (suc n) ns)
@@ -71,6 +72,7 @@ abbrev pub keepDown : List Node → ℕ → (ℕ → Bool) → ℕ → Bool
 keepDown ns zero kept = kept
 keepDown ns (suc n) kept = keepDown ns n (keepLinks ns (suc n) kept)
 
--- "Erasable: marked and not reached from any unmarked node by parent and origin steps" (laws/proofs/ErasableLaws.antt has that wording)
+-- "Erasable: marked and not reached from any unmarked node by parent and origin steps"
+-- (laws/proofs/ErasableLaws.antt has that wording)
 unfoldable pub isErasable : List Node → ℕ → Bool
 isErasable ns n = not (keepDown ns (length ns - 1) (λ x. not (isMarked ns x)) n)

@@ -1,4 +1,5 @@
--- Document 01, "Node and site" and "Order": appending a child name to every site. Seeding does the same into a second room.
+-- Document 01, "Node and site" and "Order": appending a child name to every site. Seeding does the
+-- same into a second room.
 use mathlib.Core.Bool.{_&&_, cond}
 use mathlib.Core.List.{List, [], map}
 use Prim.Native.Nat.{ℕ}

@@ -22,7 +22,8 @@ bytesFrom goes at (suc n) = bit (goes at) ∷ bytesFrom goes (suc at) n
 unfoldable pub erasable : Graph → List ℕ
 erasable g = bytesFrom (λ n. ltb n (size g) && isErasable (g .nodes) n) 0 1024
 
--- question 11: "none other below the count", "spare Root arcs and every kept node's parent and origin"
+-- question 11: "none other below the count", "spare Root arcs and every kept node's parent and
+-- origin"
 abbrev pub sparesOne : Graph → List ℕ → ℕ → Bool
 sparesOne g bytes n =
     leb (getD bytes n 0) 1

@@ -1,4 +1,5 @@
--- Document 01, "Node and site": the graph that the nodes make, a node more, and what is asked of one node.
+-- Document 01, "Node and site": the graph that the nodes make, a node more, and what is asked of
+-- one node.
 use mathlib.Core.Bool.{Bool, false, not, _||_, _&&_, cond}
 use mathlib.Core.List.{List, [], _∷_, _++_}
 use Prim.Native.Nat.{ℕ, suc, _+_, _-_}
@@ -8,8 +9,8 @@ use Rattle.model.specs.Lists.{anyBelow}
 use Rattle.model.specs.Path.{primCount, samePath, pathAtIntroDepth}
 use Rattle.model.specs.Node.{invalid, rootArc, Node, noNode, isInert, isCulled}
 
--- The nodes, "numbered from 0 in order of adding"; each node's children, in chain order; the order, empty unless the graph is ordered; and
--- the marks ordered, finalized and shallow.
+-- The nodes, "numbered from 0 in order of adding"; each node's children, in chain order; the order,
+-- empty unless the graph is ordered; and the marks ordered, finalized and shallow.
 pub record Graph : Type 0 where
   pub nodes : List Node
   pub children : List (List ℕ)
@@ -32,11 +33,13 @@ childrenOf g n = getD (g .children) n []
 
 -- ---- A node more
 
--- "A parent whose prim count is below the child's depth sets the sticky shallow mark": the mark that a node x, added as number n, brings
+-- "A parent whose prim count is below the child's depth sets the sticky shallow mark": the mark
+-- that a node x, added as number n, brings
 abbrev pub isShallow : List Node → ℕ → Node → Bool
 isShallow ns n x = ltb 0 n && ltb (primCount (nodeAt ns (x .parent) .path)) (x .depth)
 
--- "The new child goes last in the chain." Adding clears ordered and finalized. (Node 0 has no parent, and stands in no chain.)
+-- "The new child goes last in the chain." Adding clears ordered and finalized. (Node 0 has no
+-- parent, and stands in no chain.)
 unfoldable pub withNode : Graph → Node → Graph
 withNode g x = record {
   nodes = g .nodes ++ (x ∷ []);
@@ -49,7 +52,8 @@ withNode g x = record {
 
 -- ---- What is asked of one node
 
--- "Depth below introduction: the parent's prim count less the node's depth, at least 0; node 0 has 0"
+-- "Depth below introduction: the parent's prim count less the node's depth, at least 0; node 0 has
+-- 0"
 unfoldable pub depthBelowIntroduction : List Node → ℕ → ℕ
 depthBelowIntroduction ns n = cond (eqb n 0) 0 (primCount (nodeAt ns (nodeAt ns n .parent) .path) - nodeAt ns n .depth)
 
@@ -68,7 +72,8 @@ hasLocalRoot ns = anyBelow (isLocalRoot ns) (length ns)
 unfoldable pub inLocalStack : List Node → ℕ → Bool
 inLocalStack ns n = anyBelow (λ i. isLocalRoot ns i && eqb (nodeAt ns i .stack) (nodeAt ns n .stack)) (length ns)
 
--- "`node_using_site`: the lowest node neither INERT nor CULLED with that stack and path, else no node"
+-- "`node_using_site`: the lowest node neither INERT nor CULLED with that stack and path, else no
+-- node"
 abbrev pub usesSite : ℕ → List ℕ → Node → Bool
 usesSite stack path x = not (isInert x || isCulled x) && (eqb (x .stack) stack && samePath (x .path) path)
 

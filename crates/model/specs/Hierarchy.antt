@@ -1,5 +1,6 @@
--- What the Rust asks of a graph besides the comparison, and document 01 has no sentence for: ancestors, the topmost class of a class hierarchy, and
--- the copy of a specializes node under the local root. The definitions are the Rust's functions of the same names.
+-- What the Rust asks of a graph besides the comparison, and document 01 has no sentence for:
+-- ancestors, the topmost class of a class hierarchy, and the copy of a specializes node under the
+-- local root. The definitions are the Rust's functions of the same names.
 use mathlib.Core.Bool.{Bool, not, _||_, _&&_, cond}
 use mathlib.Core.List.{List, [], _∷_}
 use Prim.Native.Nat.{ℕ, zero, suc}
@@ -9,7 +10,8 @@ use Rattle.model.specs.Graph.{Graph, childrenOf}
 use Rattle.model.specs.Strength.{View, view, follow, isClassBasedArc, isPropagatedSpecializes, replaced}
 use Rattle.model.specs.Arena.{localRootOf}
 
--- "walking `y` up its parent chain and stopping before the local root": y itself counts, the local root and node 0 do not
+-- "walking `y` up its parent chain and stopping before the local root": y itself counts, the local
+-- root and node 0 do not
 unfoldable pub isAncestorOf : View → ℕ → ℕ → Bool
 isAncestorOf u x y = ltb 0 x && (not (u .localRoot x) && eqb (follow (λ c. u .localRoot c || eqb c x) (u .parent) y) x)
 
@@ -38,8 +40,8 @@ firstIn p (x ∷ xs) = cond (p x) x (firstIn p xs)
 abbrev pub isCopy : View → ℕ → ℕ → Bool
 isCopy u n c = eqb (u .origin c) n && isPropagatedSpecializes u c
 
--- "a local-root child whose origin is `node` and which is itself a propagated specializes node", the first in its child list; of a node with another
--- arc, or with no local root, none
+-- "a local-root child whose origin is `node` and which is itself a propagated specializes node",
+-- the first in its child list; of a node with another arc, or with no local root, none
 unfoldable pub getPropagatedSpecializesNode : Graph → ℕ → ℕ
 getPropagatedSpecializesNode g n =
     let u = view (g .nodes) in

@@ -50,7 +50,8 @@ abbrev pub anyBelow : (ℕ → Bool) → ℕ → Bool
 anyBelow p zero = false
 anyBelow p (suc n) = p n || anyBelow p n
 
--- the elements whose places pass the test (`rest` once: an example of 20 nodes would take 2²⁰ steps)
+-- the elements whose places pass the test (`rest` once: an example of 20 nodes would take 2²⁰
+-- steps)
 abbrev pub keepAt {ℓ} : {A : Type ℓ} → (ℕ → Bool) → List A → List A
 keepAt k [] = []
 keepAt k (x ∷ xs) = let rest = keepAt (λ i. k (suc i)) xs in cond (k 0) (x ∷ rest) rest

@@ -5,7 +5,8 @@ use Prim.Native.Nat.{ℕ, _/_, _%_}
 use lib.Dec.{eqb}
 use Rattle.model.specs.Path.{samePath}
 
--- "No node is the number 4,294,967,295 (`NodeId::INVALID`)": it stands for a missing parent or origin
+-- "No node is the number 4,294,967,295 (`NodeId::INVALID`)": it stands for a missing parent or
+-- origin
 abbrev pub invalid : ℕ
 invalid = 4294967295
 
@@ -22,7 +23,8 @@ relocateArc = 3
 abbrev pub specializeArc : ℕ
 specializeArc = 6
 
--- "flags in 8 bits (INERT 1, CULLED 2, PROHIBITED_CHILDREN 4, HAS_SPECIALIZES 8, by our choice; higher bits are kept and given back unread)"
+-- "flags in 8 bits (INERT 1, CULLED 2, PROHIBITED_CHILDREN 4, HAS_SPECIALIZES 8, by our choice;
+-- higher bits are kept and given back unread)"
 abbrev pub hasFlag : ℕ → ℕ → Bool
 hasFlag flag flags = eqb (flags / flag % 2) 1
 
@@ -35,8 +37,9 @@ culledFlag = 2
 abbrev pub hasSpecializesFlag : ℕ
 hasSpecializesFlag = 8
 
--- "stack, layer, parent, origin (32 bits each); namespace depth, sibling number, restriction depth, spec_from (16 bits each); has-specs yes
--- or no; path". Has-specs is 1 or 0. The links to first child, last child and next sibling are how an arena writes the child lists.
+-- "stack, layer, parent, origin (32 bits each); namespace depth, sibling number, restriction depth,
+-- spec_from (16 bits each); has-specs yes or no; path". Has-specs is 1 or 0. The links to first
+-- child, last child and next sibling are how an arena writes the child lists.
 pub record Node : Type 0 where
   pub arc : ℕ
   pub flags : ℕ

@@ -1,7 +1,10 @@
--- Document 01, "Path": what a path is, its prim count, parent and last name, appending a name, and the path at an introduction depth.
--- All are defined on any bytes: where the paper speaks of a path, its words are applied to bytes that are none as well. A front part of
--- a path is given by its length, so `parentLength p k` is how much the parent keeps of the first k bytes of p.
--- The laws are in laws/proofs/PathLaws.antt; laws/proofs/PathGrammar.antt has the grammar that `wellFormed` decides, as the paper words it.
+-- Document 01, "Path": what a path is, its prim count, parent and last name, appending a name, and
+-- the path at an introduction depth.
+-- All are defined on any bytes: where the paper speaks of a path, its words are applied to bytes
+-- that are none as well. A front part of a path is given by its length, so `parentLength p k` is
+-- how much the parent keeps of the first k bytes of p.
+-- The laws are in laws/proofs/PathLaws.antt; laws/proofs/PathGrammar.antt has the grammar that
+-- `wellFormed` decides, as the paper words it.
 use mathlib.Core.Bool.{Bool, true, false, not, _||_, _&&_, cond}
 use mathlib.Core.List.{List, [], _∷_, _++_}
 use Prim.Native.Nat.{ℕ, zero, suc, pred, _+_, min, max}
@@ -45,13 +48,13 @@ isSelectionByte b = isWordByte b
 
 -- ---- Well-formed paths
 
--- Where the reading of a path stands: before it; after its first slash; after a later slash; in a name; after `{`; in a set; after `=`;
--- in a selection; after `}`; past a byte that fits nowhere.
+-- Where the reading of a path stands: before it; after its first slash; after a later slash; in a
+-- name; after `{`; in a set; after `=`; in a selection; after `}`; past a byte that fits nowhere.
 pub data State : Type 0 where
   start root slash name setStart set selectionStart selection closed dead : State
 
--- "A path is `/`, or `/` then a prim name, then any run of: `/name`; `{set=selection}`; and, straight after `}`, a name with no slash. After
--- `}` a slash is malformed."
+-- "A path is `/`, or `/` then a prim name, then any run of: `/name`; `{set=selection}`; and,
+-- straight after `}`, a name with no slash. After `}` a slash is malformed."
 abbrev pub step : State → ℕ → State
 step start b = cond (eqb b solidus) root dead
 step root b = cond (isNameStart b) name dead
@@ -130,12 +133,14 @@ abbrev pub endsIn : ℕ → List ℕ → ℕ → Bool
 endsIn b p zero = false
 endsIn b p (suc k) = eqb (getD p k 0) b
 
--- "before the last `/`, or after the last `}` if that is later"; the slash that begins a path stays: "`/A` has parent `/`"
+-- "before the last `/`, or after the last `}` if that is later"; the slash that begins a path
+-- stays: "`/A` has parent `/`"
 unfoldable pub beforeName : List ℕ → ℕ → ℕ
 beforeName p k = max (max (beforeLast solidus p k) (afterLast closeBrace p k)) (min (afterLast solidus p k) 1)
 
--- "The parent of a path ending in `}` stops before the last `{`. Otherwise it stops before the last `/`, or after the last `}` if that is
--- later; `/A` has parent `/`; `/` has none." No parent is 0 bytes.
+-- "The parent of a path ending in `}` stops before the last `{`. Otherwise it stops before the last
+-- `/`, or after the last `}` if that is later; `/A` has parent `/`; `/` has none." No parent is 0
+-- bytes.
 unfoldable pub parentLength : List ℕ → ℕ → ℕ
 parentLength p k = cond (endsIn closeBrace p k) (beforeLast openBrace p k) (cond (leb k 1) 0 (beforeName p k))
 
@@ -164,7 +169,8 @@ appendName p w = p ++ (separator p ++ w)
 
 -- ---- `path_at_intro_depth`
 
--- "drops all trailing selections": how many of the first k bytes are left, and how many where the first k end inside a selection
+-- "drops all trailing selections": how many of the first k bytes are left, and how many where the
+-- first k end inside a selection
 abbrev pub withoutSelections : Bool → List ℕ → ℕ → ℕ
 withoutSelections inside p zero = 0
 withoutSelections inside p (suc k) =
@@ -194,7 +200,8 @@ samePath (x ∷ xs) (y ∷ ys) = eqb x y && samePath xs ys
 
 -- ---- Appending the last name of a child's path, into a lent buffer
 
--- Questions 1, 5 and 7: the buffer has 255 bytes; both paths are well formed and the child's ends in a name; 255 bytes suffice.
+-- Questions 1, 5 and 7: the buffer has 255 bytes; both paths are well formed and the child's ends
+-- in a name; 255 bytes suffice.
 unfoldable pub appendChildName : List ℕ → List ℕ → List ℕ → Appended
 appendChildName p child out =
     cond (not (eqb (length out) 255)) (Refused Size)

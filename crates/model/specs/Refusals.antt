@@ -1,5 +1,6 @@
--- Document 01, "The twelve questions": the number of each refusal, and the tests on nodes and graphs that the questions put. Questions 1 and 2
--- are about lent bytes; 8 to 12 stand with their definitions (Order, Erasing, Snapshot) and in Calls.antt.
+-- Document 01, "The twelve questions": the number of each refusal, and the tests on nodes and
+-- graphs that the questions put. Questions 1 and 2 are about lent bytes; 8 to 12 stand with their
+-- definitions (Order, Erasing, Snapshot) and in Calls.antt.
 use mathlib.Core.Bool.{Bool, not, _||_, _&&_, cond}
 use mathlib.Core.List.{List, [], _∷_}
 use Prim.Native.Nat.{ℕ, _+_}
@@ -58,7 +59,8 @@ hasRoom g x = ltb (size g) mostNodes && leb (pathBytes (g .nodes) + length (x .p
 
 -- ---- Question 6: "Are arc, flags and has-specs allowed?"
 
--- "Arc Root is for node 0 and for one child of it, the local root; anywhere else, or a second time, it fails question 6"
+-- "Arc Root is for node 0 and for one child of it, the local root; anywhere else, or a second time,
+-- it fails question 6"
 abbrev pub arcAllowed : Graph → Node → Bool
 arcAllowed g x =
     leb (x .arc) 6 && (not (eqb (x .arc) rootArc) || (eqb (size g) 0 || (eqb (x .parent) 0 && not (hasLocalRoot (g .nodes)))))

@@ -1,5 +1,5 @@
--- Document 01, "Snapshot": how a graph is written as bytes, and how bytes are read as records (question 12). The questions that each record
--- is put are in Refusals.antt.
+-- Document 01, "Snapshot": how a graph is written as bytes, and how bytes are read as records
+-- (question 12). The questions that each record is put are in Refusals.antt.
 use mathlib.Core.Bool.{Bool, _&&_, cond}
 use mathlib.Core.Option.{Option, none, some}
 use mathlib.Core.List.{List, [], _∷_, _++_}
@@ -24,8 +24,8 @@ value bs = valueFrom 0 bs
 
 -- ---- Writing
 
--- "arc, flags, stack, layer, parent, origin, depth, sibling number, restriction, spec_from, has-specs (0 or 1), path. Numbers have the widths
--- above, arc and has-specs one byte."
+-- "arc, flags, stack, layer, parent, origin, depth, sibling number, restriction, spec_from,
+-- has-specs (0 or 1), path. Numbers have the widths above, arc and has-specs one byte."
 unfoldable pub recordBody : Node → List ℕ
 recordBody x =
     bigEndian 1 (x .arc) ++ (bigEndian 1 (x .flags) ++ (bigEndian 4 (x .stack) ++ (bigEndian 4 (x .layer)

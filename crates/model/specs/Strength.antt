@@ -1,6 +1,7 @@
--- Document 01, "Strength": the comparison of two nodes and of two siblings. It reads a graph through a `View`, which has tests on paths
--- and prim counts and not these: so one law tells when two graphs compare alike (laws/proofs/StrengthCongruence.antt). Walks and comparisons are
--- by fuel; laws/proofs/StrengthLaws.antt has the same lines without.
+-- Document 01, "Strength": the comparison of two nodes and of two siblings. It reads a graph
+-- through a `View`, which has tests on paths and prim counts and not these: so one law tells when
+-- two graphs compare alike (laws/proofs/StrengthCongruence.antt). Walks and comparisons are by
+-- fuel; laws/proofs/StrengthLaws.antt has the same lines without.
 use mathlib.Core.Bool.{Bool, true, false, not, _||_, _&&_, cond}
 use mathlib.Core.List.{List, [], _∷_, _++_}
 use Prim.Native.Nat.{ℕ, zero, suc, _+_}
@@ -130,7 +131,8 @@ replaced u n = cond (isPropagatedSpecializes u n) (u .origin n) n
 abbrev pub isClassBasedArc : ℕ → Bool
 isClassBasedArc arc = eqb arc inheritArc || eqb arc specializeArc
 
--- "go up while the arc is Inherit or Specialize and the depth below introduction is still the first; after each step replace"
+-- "go up while the arc is Inherit or Specialize and the depth below introduction is still the
+-- first; after each step replace"
 abbrev pub classHierarchyFrom : View → ℕ → ℕ
 classHierarchyFrom u m = follow (λ n. not (isClassBasedArc (u .arc n) && u .sameDepthBelow m n)) (λ n. replaced u (u .parent n)) m
 
@@ -155,8 +157,8 @@ classDepth u n = cond (isAuthored u n) 0 (namespaceDepthForClassHierarchy u (u .
 abbrev pub impliedOver : View → ℕ → ℕ → Ordering
 impliedOver u a b = having (isImplied u a) (isImplied u b)
 
--- "2. Same origin: authored, sibling number, then node number; else implied over not implied, then node number." One origin and one parent:
--- both are authored, or neither is.
+-- "2. Same origin: authored, sibling number, then node number; else implied over not implied, then
+-- node number." One origin and one parent: both are authored, or neither is.
 unfoldable pub sameOriginLines : View → ℕ → ℕ → Ordering
 sameOriginLines u a b =
     cond (isAuthored u a || isAuthored u b) (first (smaller (u .sibling a) (u .sibling b)) (smaller a b)) (first (impliedOver u a b) (smaller a b))
@@ -190,7 +192,8 @@ specializesLines u nodes a b = first (depthLine u a b) (originLines u nodes a b)
 
 -- ---- Siblings, "first line that differs"
 
--- "3. Larger depth. 4. Node strength of the origins. 5. Smaller sibling number, then smaller node number."
+-- "3. Larger depth. 4. Node strength of the origins. 5. Smaller sibling number, then smaller node
+-- number."
 unfoldable pub plainLines : View → (ℕ → ℕ → Ordering) → ℕ → ℕ → Ordering
 plainLines u nodes a b =
     first (larger (u .depth a) (u .depth b))
@@ -213,7 +216,8 @@ chainUpTo parent (suc k) n = cond (eqb n 0) (n ∷ []) (chainUpTo parent k (pare
 abbrev pub chain : (ℕ → ℕ) → ℕ → List ℕ
 chain parent n = chainUpTo parent n n
 
--- what is said of two chains: that they are one, that one ends first and so is an ancestor's, or what is said of the siblings where they part
+-- what is said of two chains: that they are one, that one ends first and so is an ancestor's, or
+-- what is said of the siblings where they part
 abbrev pub partingBy : {A : Type 0} → A → A → A → (ℕ → ℕ → A) → List ℕ → List ℕ → A
 partingBy same above below siblings [] [] = same
 partingBy same above below siblings [] (y ∷ ys) = above
@@ -226,7 +230,8 @@ parting siblings xs ys = partingBy Equal Less Greater siblings xs ys
 unfoldable pub nodesBy : (ℕ → ℕ) → (ℕ → ℕ → Ordering) → ℕ → ℕ → Ordering
 nodesBy parent siblings a b = parting siblings (chain parent a) (chain parent b)
 
--- "Node strength and sibling strength call on each other through origins": at most k times. Node 0 has no sibling.
+-- "Node strength and sibling strength call on each other through origins": at most k times. Node 0
+-- has no sibling.
 abbrev pub siblingsUpTo : View → ℕ → ℕ → ℕ → Ordering
 siblingsUpTo u zero a b = smaller a b
 siblingsUpTo u (suc k) a b =

@@ -1,5 +1,6 @@
-// The types that every crate shares. What they mean is in specs/: Refusals.antt gives each refusal its number, Answers.antt each answer its
-// refusal and its value, Path.antt says what the answers about a path are.
+// The types that every crate shares. What they mean is in specs/: Refusals.antt gives each refusal
+// its number, Answers.antt each answer its refusal and its value, Path.antt says what the answers
+// about a path are.
 ghost use mathlib.Core.Path.{_≡_};
 ghost use mathlib.Core.Bool.{not};
 ghost use lib.Dec.{eqb};
@@ -99,30 +100,31 @@ pub enum Appended {
 }
 
 // The answer of a call that gives a number: a node's, a count, a depth.
-pub enum Numbered {
+pub enum NumberResult {
     Number(u32),
     Refused(Refusal),
 }
 
 // The answer of a comparison.
-pub enum Compared {
+pub enum OrderingResult {
     As(Ordering),
     Refused(Refusal),
 }
 
 // The answer of a test of one node or of two.
-pub enum Tested {
+pub enum BoolResult {
     Is(bool),
     Refused(Refusal),
 }
 
 // The answer of a call that gives nothing.
-pub enum Finished {
+pub enum UnitResult {
     Done,
     Refused(Refusal),
 }
 
-// What document 01's lines say of two siblings: an answer, or the strength of two nodes with a lower sum, and the answer where those are Equal.
+// What document 01's lines say of two siblings: an answer, or the strength of two nodes with a
+// lower sum, and the answer where those are Equal.
 pub enum Verdict {
     Settled(Ordering),
     Ask(u32, u32, Ordering),

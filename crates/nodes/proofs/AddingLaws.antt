@@ -1,5 +1,5 @@
--- The questions that the two calls put are document 01's: `start-accepted`, `add-accepted`; the records that they append are the definitions' nodes:
--- `start-node`, `added-node`. Assumes nothing.
+-- The questions that the two calls put are document 01's: `start-accepted`, `add-accepted`; the
+-- records that they append are the definitions' nodes: `start-node`, `added-node`. Assumes nothing.
 use mathlib.Core.Path.{_≡_, refl, sym, ap, _∙_}
 use mathlib.Core.Bool.{Bool, true, false, not, _&&_, cond, and-eq-true-iff}
 use mathlib.Core.List.{List, [], _∷_}
@@ -16,10 +16,10 @@ use Rattle.model.specs.Refusals.{refusalNumber, Question, ask, refusal, pathByt
 use Rattle.model.specs.Calls as calls
 use Rattle.model.specs.Calls.{hasNodeZero, initRoot, given, givenBelow, depthOr, defaultDepth, addedNode, rootNode, addChild}
 use Rattle.model.specs.Arena.{countIn, primCountIn, decode, encode}
-use Rattle.model.specs.ArenaCalls.{Opened, Readable, onArena, Wrote}
+use Rattle.model.specs.ArenaCalls.{ValidArena, ValidNode, onArena, Wrote}
 use Rattle.model.specs.declared.Refusal.{Refusal}
 use Rattle.model.specs.declared.Refusal.the-variants.{NodeZero, Path}
-use Rattle.model.specs.declared.Numbered.the-variants.{Number, Refused as NumberRefused}
+use Rattle.model.specs.declared.NumberResult.the-variants.{Number, Refused as NumberRefused}
 use Rattle.laws.proofs.ArenaCallLaws.{on-opened, wrote-decided-refused, wrote-decided}
 use Rattle.laws.proofs.AcceptedQuestions.{none-refused-accepted}
 use Rattle.laws.proofs.PathGrammar.{well-formed-length}
@@ -77,7 +77,7 @@ depth-same : (depth : Depth) (default read : ℕ) → read ≡ default → depth
 depth-same (Given k) default read e = refl
 depth-same Missing default read e = e
 
-module _ (bs : List ℕ) (o : Opened bs) (desc : NodeDesc) (path : List ℕ) (some : 0 < countIn bs) where
+module _ (bs : List ℕ) (o : ValidArena bs) (desc : NodeDesc) (path : List ℕ) (some : 0 < countIn bs) where
   abbrev d : calls.NodeDesc
   d = descOf desc path
 
@@ -85,7 +85,7 @@ module _ (bs : List ℕ) (o : Opened bs) (desc : NodeDesc) (path : List ℕ) (so
   g = decode bs
 
   -- a parent that is given is a node
-  pub parent-below : refusal (addQuestions g d) ≡ 0 → (desc .parent .0 ≡ invalid → ⊥) → Readable bs (desc .parent .0)
+  pub parent-below : refusal (addQuestions g d) ≡ 0 → (desc .parent .0 ≡ invalid → ⊥) → ValidNode bs (desc .parent .0)
   parent-below e h =
       let passes = none-refused-accepted (addQuestions g d) refl e in
       let both = and-eq-true-iff (givenBelow (size g) (desc .parent .0)) (givenBelow (size g) (desc .origin .0)) .0 (passes 4) in
@@ -143,7 +143,7 @@ module _ (bs : List ℕ) (o : Opened bs) (desc : NodeDesc) (path : List ℕ) (so
 
 -- ---- The ways that the calls end
 
-module _ (bs : List ℕ) (o : Opened bs) (d : calls.NodeDesc) where
+module _ (bs : List ℕ) (o : ValidArena bs) (d : calls.NodeDesc) where
   pub add-to-none : countIn bs ≡ 0 → Wrote (onArena (addChild d) bs) bs (NumberRefused NodeZero) bs
   unfolding addChild
   add-to-none e =
@@ -163,7 +163,7 @@ module _ (bs : List ℕ) (o : Opened bs) (d : calls.NodeDesc) where
     unfolding addChild
     add-done after n e c a = rw (on-opened bs (addChild d) o) (wrote-decided (hasNodeZero (decode bs) ∷ addQuestions (decode bs) d) (decode bs) _ _ bs after n (asked ∙ e) (c ∙ sym (sizes bs o)) a)
 
-module _ (bs : List ℕ) (o : Opened bs) (stack layer : ℕ) (path : List ℕ) where
+module _ (bs : List ℕ) (o : ValidArena bs) (stack layer : ℕ) (path : List ℕ) where
   abbrev startQuestions : List Question
   startQuestions = ask 3 (eqb (size (decode bs)) 0) ∷ ask 5 (wellFormed path) ∷ []
 

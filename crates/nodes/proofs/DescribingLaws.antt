@@ -1,5 +1,6 @@
--- The questions that a node to be added is put are document 01's: `add-questions`, `desc-checked`; and the sum of the path bytes, one node after the
--- other: `bytes-start`, `bytes-step`, `bytes-end`. Assumes nothing.
+-- The questions that a node to be added is put are document 01's: `add-questions`, `desc-checked`;
+-- and the sum of the path bytes, one node after the other: `bytes-start`, `bytes-step`,
+-- `bytes-end`. Assumes nothing.
 use mathlib.Core.Path.{_≡_, refl, sym, ap, _∙_}
 use mathlib.Core.Bool.{Bool, true, false, not, _||_, _&&_, cond}
 use mathlib.Core.List.{List, [], _∷_}
@@ -17,7 +18,7 @@ use Rattle.model.specs.Refusals.{ask, refusal, pathBytes, hasRoom, arcAllowed}
 use Rattle.model.specs.Calls as calls
 use Rattle.model.specs.Calls.{given, givenBelow, addedNode}
 use Rattle.model.specs.Arena.{countIn, recordLengthIn, nodeIn, tabulate, decode, localRootIn}
-use Rattle.model.specs.ArenaCalls.{Opened, Readable}
+use Rattle.model.specs.ArenaCalls.{ValidArena, ValidNode}
 use Rattle.arena.proofs.HeldArenas.{held}
 use Rattle.arena.proofs.ArenaBack.{fresh-legal, fresh-nodes}
 use Rattle.arena.proofs.SlotLaws.{path-length}
@@ -40,7 +41,7 @@ module _ (bs : List ℕ) where
       let whole : countIn bs - 0 ≡ countIn bs = omega arith in
       ap (λ (k : ℕ). pathBytes (tabulate (nodeIn bs) 0 k)) whole
 
-  pub bytes-step : (n : ℕ) → Readable bs n → bytesFrom n ≡ (recordLengthIn bs n - 27) + bytesFrom (n + 1)
+  pub bytes-step : (n : ℕ) → ValidNode bs n → bytesFrom n ≡ (recordLengthIn bs n - 27) + bytesFrom (n + 1)
   bytes-step n r =
       let more : countIn bs - n ≡ suc (countIn bs - (n + 1)) = omega (arith, r .below) in
       let long : recordLengthIn bs n - 27 ≡ length (nodeIn bs n .path) = omega (arith, path-length bs n (has-path bs n r)) in
@@ -53,14 +54,14 @@ module _ (bs : List ℕ) where
       let none : countIn bs - n ≡ 0 = omega arith in
       ap (λ (k : ℕ). pathBytes (tabulate (nodeIn bs) n k)) none
 
-  pub few-bytes : Opened bs → pathBytes (decode bs .nodes) ≤ 32768
+  pub few-bytes : ValidArena bs → pathBytes (decode bs .nodes) ≤ 32768
   few-bytes o =
       let all = held bs (o .holds) in
       rw (fresh-nodes bs all) at (fresh-legal bs all .few-path-bytes)
 
 -- ---- The local root
 
-has-root : (bs : List ℕ) → Opened bs → 0 < countIn bs → not (eqb (localRootIn bs) 0) ≡ hasLocalRoot (decode bs .nodes)
+has-root : (bs : List ℕ) → ValidArena bs → 0 < countIn bs → not (eqb (localRootIn bs) 0) ≡ hasLocalRoot (decode bs .nodes)
 has-root bs o h = ap (λ (n : ℕ). not (eqb n 0)) (root-held bs o h) ∙ root-found (decode bs .nodes) (length (decode bs .nodes))
 
 -- ---- The questions
@@ -115,14 +116,15 @@ pub turned : (t : Bool) (a b : ℕ) → cond t a b ≡ cond (not t) b a
 turned true a b = refl
 turned false a b = refl
 
-module _ (bs : List ℕ) (o : Opened bs) (desc : NodeDesc) (path : List ℕ) (some : 0 < countIn bs) where
+module _ (bs : List ℕ) (o : ValidArena bs) (desc : NodeDesc) (path : List ℕ) (some : 0 < countIn bs) where
   abbrev d : calls.NodeDesc
   d = descOf desc path
 
   abbrev g : Graph
   g = decode bs
 
-  -- the check of a record, put the node with what was missing put in, has put it `addChild`'s questions
+  -- the check of a record, put the node with what was missing put in, has put it `addChild`'s
+  -- questions
   pub desc-checked : (count sum parent origin told : ℕ) (root : Bool) (r : Checked) → count ≡ countIn bs → sum ≡ pathBytes (g .nodes)
       → root ≡ not (eqb (localRootIn bs) 0) → parent ≡ numberOr (desc .parent .0) 0 → origin ≡ numberOr (desc .origin .0) parent
       → told ≡ specsTold (desc .flags) (desc .«has_specs»)

@@ -1,4 +1,5 @@
--- The answers of the calls that hand back a path, a node or the header, beside laws/proofs/ArenaCallLaws.antt. Assumes nothing.
+-- The answers of the calls that hand back a path, a node or the header, beside
+-- laws/proofs/ArenaCallLaws.antt. Assumes nothing.
 use mathlib.Core.Path.{_≡_, sym, _∙_}
 use mathlib.Core.List.{List, []}
 use Prim.Native.Nat.{ℕ}
@@ -7,7 +8,7 @@ use borrow.Author.Tests.{eq-eqb, ne-eqb}
 use Rattle.model.specs.Refusals.{refusalNumber, Question, refusal}
 use Rattle.model.specs.Calls.{readsNode}
 use Rattle.model.specs.Arena.{decode}
-use Rattle.model.specs.ArenaCalls.{Opened, askArena}
+use Rattle.model.specs.ArenaCalls.{ValidArena, askArena}
 use Rattle.model.specs.declared.Refusal.{Refusal}
 use Rattle.laws.proofs.ArenaCallLaws.{refusal-some, asked-on}
 use Rattle.arena.specs.declared.Node.{Node}
@@ -35,7 +36,7 @@ one-node bs n x e s = record { refused = sym e; node = λ y q. same y (cc) }
 pub no-graph : (bs : List ℕ) (r : Refusal) → refusalNumber r ≡ refusal (askArena bs []) → GraphAnswered bs (GraphRefused r)
 no-graph bs r e = record { refused = e; graph = λ x q. absurd (let z : _≡_ {A = ℕ} 0 1 = cc in omega arith) }
 
-pub one-graph : (bs : List ℕ) (x : GraphInfo) → Opened bs → GraphShown (decode bs) x → GraphAnswered bs (GraphOf x)
+pub one-graph : (bs : List ℕ) (x : GraphInfo) → ValidArena bs → GraphShown (decode bs) x → GraphAnswered bs (GraphOf x)
 one-graph bs x o s = record { refused = sym (asked-on bs [] o); graph = λ y q. same y (cc) }
   where
     same : (y : GraphInfo) → x ≡ y → GraphShown (decode bs) y

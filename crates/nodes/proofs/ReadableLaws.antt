@@ -1,4 +1,5 @@
--- What the fields of an arena that holds a graph say of it: of one node (`shown`) and of the header (`graph-shown`). Assumes nothing.
+-- What the fields of an arena that holds a graph say of it: of one node (`shown`) and of the header
+-- (`graph-shown`). Assumes nothing.
 use mathlib.Core.Path.{_≡_, refl, sym, ap, _∙_}
 use mathlib.Core.Bool.{Bool, true, false, not, cond}
 use mathlib.Core.List.{List}
@@ -12,7 +13,7 @@ use Rattle.model.specs.Node as model
 use Rattle.model.specs.Node.{invalid}
 use Rattle.model.specs.Graph.{isLocalRoot}
 use Rattle.model.specs.Arena.{countIn, localRootBelow, localRootOf, localRootIn, orderedIn, finalizedIn, shallowIn, decode}
-use Rattle.model.specs.ArenaCalls.{Opened, Readable}
+use Rattle.model.specs.ArenaCalls.{ValidArena, ValidNode}
 use Rattle.arena.specs.declared.Node.{Node}
 use Rattle.arena.specs.Slot.{Loaded}
 use Rattle.arena.proofs.SlotLaws.{loaded-node, path-length}
@@ -24,7 +25,7 @@ use Rattle.nodes.specs.Queries.{NodeShown, localRootOr, GraphShown}
 
 -- ---- One node
 
-pub shown : (bs : List ℕ) (n : ℕ) (r : Readable bs n) (x : Node) → Loaded bs n x → NodeShown (decode bs) n x
+pub shown : (bs : List ℕ) (n : ℕ) (r : ValidNode bs n) (x : Node) → Loaded bs n x → NodeShown (decode bs) n x
 shown bs n r x l =
     let every = all bs n r in
     let node = every .node n (r .below) in
@@ -50,7 +51,7 @@ none-or-found ns k = rw (sym (root-found ns k)) (turned (eqb (localRootBelow ns 
     turned true = refl
     turned false = refl
 
-module _ (bs : List ℕ) (o : Opened bs) where
+module _ (bs : List ℕ) (o : ValidArena bs) where
   pub root-read : (root : ℕ) → root ≡ cond (eqb (countIn bs) 0) 0 (localRootIn bs) → cond (eqb root 0) invalid root ≡ localRootOr (decode bs)
   root-read root e = go (eqb (countIn bs) 0) refl e
     where

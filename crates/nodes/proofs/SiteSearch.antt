@@ -1,5 +1,6 @@
--- The lowest node that uses a site, node after node: from node 0 on it is the definition's (`lowest-starts`), one node further on (`lowest-steps`), and none
--- is left at the count (`lowest-ends`). Assumes nothing.
+-- The lowest node that uses a site, node after node: from node 0 on it is the definition's
+-- (`lowest-starts`), one node further on (`lowest-steps`), and none is left at the count
+-- (`lowest-ends`). Assumes nothing.
 use mathlib.Core.Path.{_≡_, sym, ap, _∙_}
 use mathlib.Core.Bool.{cond}
 use mathlib.Core.List.{List}

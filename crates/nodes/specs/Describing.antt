@@ -1,4 +1,5 @@
--- How the code's `NodeDesc` is document 01's (model/specs/Calls.antt), what its check answers, and the record that it becomes.
+-- How the code's `NodeDesc` is document 01's (model/specs/Calls.antt), what its check answers, and
+-- the record that it becomes.
 use mathlib.Core.Path.{_≡_}
 use mathlib.Core.Bool.{_&&_, cond}
 use mathlib.Core.Option.{Option, none, some}

@@ -1,5 +1,6 @@
--- What the calls that only read answer, beside model/specs/ArenaCalls.antt's `Answered`: a path handed back, a node, and what the header tells. The
--- definitions that they cite are document 01's, in model/specs.
+-- What the calls that only read answer, beside model/specs/ArenaCalls.antt's `Answered`: a path
+-- handed back, a node, and what the header tells. The definitions that they cite are document 01's,
+-- in model/specs.
 use mathlib.Core.Path.{_≡_}
 use mathlib.Core.Bool.{cond}
 use mathlib.Core.List.{List, []}
@@ -32,7 +33,8 @@ abbrev pub nodeReadRefusal : NodeRead → ℕ
 nodeReadRefusal (NodeRecord x) = 0
 nodeReadRefusal (NodeRefused r) = refusalNumber r
 
--- x has the fields of node n and its links: the first and last of its children, and the one after it among its parent's; `invalid` for none
+-- x has the fields of node n and its links: the first and last of its children, and the one after
+-- it among its parent's; `invalid` for none
 pub record NodeShown (g : Graph) (n : ℕ) (x : Node) : Type 0 where
   pub fields : nodeOf x (nodeAt (g .nodes) n .path) ≡ nodeAt (g .nodes) n
   pub «first-child» : x .«first_child» .0 ≡ firstOf (childrenOf g n)

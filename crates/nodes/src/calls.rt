@@ -1,18 +1,21 @@
-// The calls that start a graph and add to it, that read the header or one node, and that look for a site. None has a `requires`: each puts its questions in
-// document 01's order and is refused by the first whose answer is no; then no byte has changed, because nothing is written before all have passed. A path
-// is handed back as a part of the arena, and no bytes of it where the call is refused.
-// The calls and their questions are in model/specs/Calls.antt, on an arena as model/specs/ArenaCalls.antt has it; specs/Adding.antt has node 0's record,
-// specs/Queries.antt says what the reading calls answer.
+// The calls that start a graph and add to it, that read the header or one node, and that look for a
+// site. None has a `requires`: each puts its questions in document 01's order and is refused by the
+// first whose answer is no; then no byte has changed, because nothing is written before all have
+// passed. A path is handed back as a part of the arena, and no bytes of it where the call is
+// refused.
+// The calls and their questions are in model/specs/Calls.antt, on an arena as
+// model/specs/ArenaCalls.antt has it; specs/Adding.antt has node 0's record, specs/Queries.antt
+// says what the reading calls answer.
 use crate::description::NodeDesc;
-use model::Finished;
 use model::NodeId;
-use model::Numbered;
+use model::NumberResult;
 use model::PrimCount;
 use model::Refusal;
+use model::UnitResult;
 use validate::Checked;
 ghost use mathlib.Core.Path.{_≡_};
 ghost use Prim.Native.Nat.{_≤_};
-ghost use Rattle.model.specs.ArenaCalls.{onArena, Wrote, askArena, Answered, Opened, Readable};
+ghost use Rattle.model.specs.ArenaCalls.{onArena, Wrote, askArena, Answered, ValidArena, ValidNode};
 ghost use Rattle.model.specs.Calls.{initRoot, addChild, readsNode};
 ghost use Rattle.nodes.specs.Describing.{descOf};
 ghost use Rattle.nodes.specs.Adding.{startRecord};
@@ -49,22 +52,23 @@ fn start_record(stack: u32, layer: u32, prims: u16, path_length: usize) -> arena
     }
 }
 
-// Starts a graph in an arena that holds the empty one, and answers its number, 0. Refused 1, 2, 3 where there is a node 0, 5.
-pub fn init_root(arena: &mut [u8], stack: u32, layer: u32, path: &[u8]) -> Numbered
+// Starts a graph in an arena that holds the empty one, and answers its number, 0. Refused 1, 2, 3
+// where there is a node 0, 5.
+pub fn init_root(arena: &mut [u8], stack: u32, layer: u32, path: &[u8]) -> NumberResult
     ensures { λ r. ⌜ Wrote (onArena (initRoot stack layer (now (path .entry))) (now (arena .entry))) (now (arena .entry)) r (now (arena .exit)) ⌝ }
 {
     if arena.len() != 327744 {
-        return Numbered::Refused(Refusal::Size);
+        return NumberResult::Refused(Refusal::Size);
     }
     if !validate::is_graph(arena) {
-        return Numbered::Refused(Refusal::NotAGraph);
+        return NumberResult::Refused(Refusal::NotAGraph);
     }
     if arena::count(arena) != 0 {
-        return Numbered::Refused(Refusal::NodeZero);
+        return NumberResult::Refused(Refusal::NodeZero);
     }
     let read = path::prim_count(path);
     let PrimCount::Names(prims) = read else {
-        return Numbered::Refused(Refusal::Path);
+        return NumberResult::Refused(Refusal::Path);
     };
     child_lists::append_node(
         arena,
@@ -72,31 +76,31 @@ pub fn init_root(arena: &mut [u8], stack: u32, layer: u32, path: &[u8]) -> Numbe
         start_record(stack, layer, prims, path.len()),
         path,
     );
-    Numbered::Number(0)
+    NumberResult::Number(0)
 }
 
 // Adds the node as the last child of its parent and answers its number. Refused 1 to 7.
-pub fn add_child(arena: &mut [u8], desc: NodeDesc, path: &[u8]) -> Numbered
+pub fn add_child(arena: &mut [u8], desc: NodeDesc, path: &[u8]) -> NumberResult
     ensures { λ r. ⌜ Wrote (onArena (addChild (descOf desc (now (path .entry)))) (now (arena .entry))) (now (arena .entry)) r (now (arena .exit)) ⌝ }
 {
     if arena.len() != 327744 {
-        return Numbered::Refused(Refusal::Size);
+        return NumberResult::Refused(Refusal::Size);
     }
     if !validate::is_graph(arena) {
-        return Numbered::Refused(Refusal::NotAGraph);
+        return NumberResult::Refused(Refusal::NotAGraph);
     }
     let count = arena::count(arena);
     if count == 0 {
-        return Numbered::Refused(Refusal::NodeZero);
+        return NumberResult::Refused(Refusal::NodeZero);
     }
     let checked = crate::description::check_desc(arena, count, desc, path);
     match checked {
         Checked::Accepted(prims) => {
             let node = crate::description::added_record(arena, desc, prims, path.len());
             child_lists::append_node(arena, count, node, path);
-            Numbered::Number(count)
+            NumberResult::Number(count)
         }
-        Checked::Refused(refusal) => Numbered::Refused(refusal),
+        Checked::Refused(refusal) => NumberResult::Refused(refusal),
     }
 }
 
@@ -106,40 +110,41 @@ pub fn node(arena: &[u8], n: u32) -> NodeRead
 {
     let asked = validate::ask_node(arena, n);
     match asked {
-        Finished::Done => NodeRead::Node(arena::load_node(arena, n)),
-        Finished::Refused(refusal) => NodeRead::Refused(refusal),
+        UnitResult::Done => NodeRead::Node(arena::load_node(arena, n)),
+        UnitResult::Refused(refusal) => NodeRead::Refused(refusal),
     }
 }
 
-// The path of node n, a part of the arena. Refused as `node` is, which has the refusal: then it is no bytes.
+// The path of node n, a part of the arena. Refused as `node` is, which has the refusal: then it is
+// no bytes.
 pub fn path(arena: &[u8], n: u32) -> &[u8]
     ensures { λ r. ⌜ now r ≡ handed (askArena (now (arena .entry)) (readsNode (decode (now (arena .entry))) n)) (nodeAt (decode (now (arena .entry)) .nodes) n .path) ⌝ }
 {
     let asked = validate::ask_node(arena, n);
-    let Finished::Done = asked else {
+    let UnitResult::Done = asked else {
         return &arena[..0];
     };
     arena::path(arena, n)
 }
 
 // The parent's prim count less the node's depth, at least 0. Refused 1 to 4.
-pub fn depth_below_introduction(arena: &[u8], n: u32) -> Numbered
+pub fn depth_below_introduction(arena: &[u8], n: u32) -> NumberResult
     ensures { λ r. ⌜ Answered (askArena (now (arena .entry)) (readsNode (decode (now (arena .entry))) n)) (depthBelowIntroduction (decode (now (arena .entry)) .nodes) n) r ⌝ }
 {
     let asked = validate::ask_node(arena, n);
     match asked {
-        Finished::Done => Numbered::Number(view::depth_below(arena, n) as u32),
-        Finished::Refused(refusal) => Numbered::Refused(refusal),
+        UnitResult::Done => NumberResult::Number(view::depth_below(arena, n) as u32),
+        UnitResult::Refused(refusal) => NumberResult::Refused(refusal),
     }
 }
 
-// The path of node n as it was at its introduction: the front part of its path. Refused as `depth_below_introduction` is, which has the refusal: then it
-// is no bytes.
+// The path of node n as it was at its introduction: the front part of its path. Refused as
+// `depth_below_introduction` is, which has the refusal: then it is no bytes.
 pub fn path_at_introduction(arena: &[u8], n: u32) -> &[u8]
     ensures { λ r. ⌜ now r ≡ handed (askArena (now (arena .entry)) (readsNode (decode (now (arena .entry))) n)) (pathAtIntroduction (decode (now (arena .entry)) .nodes) n) ⌝ }
 {
     let asked = validate::ask_node(arena, n);
-    let Finished::Done = asked else {
+    let UnitResult::Done = asked else {
         return &arena[..0];
     };
     let depth = view::depth_below(arena, n);
@@ -179,7 +184,7 @@ fn root_or_none(root: u32) -> NodeId
 
 // The local root in the header; of an empty graph it is not read.
 fn stored_root(arena: &[u8], count: u32) -> u32
-    requires { ⌜ Opened (now arena) ⌝ }
+    requires { ⌜ ValidArena (now arena) ⌝ }
     ensures { λ r. ⌜ r ≡ cond (eqb count 0) 0 (localRootIn (now (arena .entry))) ⌝ }
 {
     if count == 0 {
@@ -190,7 +195,7 @@ fn stored_root(arena: &[u8], count: u32) -> u32
 
 // The header of an arena that holds a graph.
 fn read_info(arena: &[u8], count: u32) -> GraphInfo
-    requires { ⌜ Opened (now arena) × (count ≡ countIn (now arena)) ⌝ }
+    requires { ⌜ ValidArena (now arena) × (count ≡ countIn (now arena)) ⌝ }
     ensures { λ r. ⌜ GraphShown (decode (now (arena .entry))) r ⌝ }
 {
     GraphInfo {
@@ -208,8 +213,8 @@ pub fn graph_info(arena: &[u8]) -> GraphRead
 {
     let counted = validate::count(arena);
     match counted {
-        Numbered::Number(nodes) => GraphRead::Graph(read_info(arena, nodes)),
-        Numbered::Refused(refusal) => GraphRead::Refused(refusal),
+        NumberResult::Number(nodes) => GraphRead::Graph(read_info(arena, nodes)),
+        NumberResult::Refused(refusal) => GraphRead::Refused(refusal),
     }
 }
 
@@ -225,7 +230,7 @@ fn contributes(flags: u8) -> bool
 
 // Whether node n, neither INERT nor CULLED, has that stack and path.
 fn uses(arena: &[u8], n: u32, stack: u32, path: &[u8]) -> bool
-    requires { ⌜ Readable (now arena) n ⌝ }
+    requires { ⌜ ValidNode (now arena) n ⌝ }
     ensures { λ r. ⌜ r ≡ usesSite stack (now (path .entry)) (nodeIn (now (arena .entry)) n) ⌝ }
 {
     if !contributes(arena::flags(arena, n)) {
@@ -239,7 +244,7 @@ fn uses(arena: &[u8], n: u32, stack: u32, path: &[u8]) -> bool
 
 // The lowest of `count` nodes that uses the site, 4,294,967,295 where none does.
 fn lowest(arena: &[u8], count: u32, stack: u32, path: &[u8]) -> u32
-    requires { ⌜ Opened (now arena) × (count ≡ countIn (now arena)) ⌝ }
+    requires { ⌜ ValidArena (now arena) × (count ≡ countIn (now arena)) ⌝ }
     ensures { λ r. ⌜ r ≡ nodeUsingSite stack (now (path .entry)) (decode (now (arena .entry))) ⌝ }
 {
     let mut n: u32 = 0;
@@ -252,27 +257,28 @@ fn lowest(arena: &[u8], count: u32, stack: u32, path: &[u8]) -> u32
     4294967295
 }
 
-// The lowest node, neither INERT nor CULLED, that has that stack and path; 4,294,967,295 where none does. Refused 1, 2, 3 and 5.
-pub fn node_using_site(arena: &[u8], stack: u32, path: &[u8]) -> Numbered
+// The lowest node, neither INERT nor CULLED, that has that stack and path; 4,294,967,295 where none
+// does. Refused 1, 2, 3 and 5.
+pub fn node_using_site(arena: &[u8], stack: u32, path: &[u8]) -> NumberResult
     ensures { λ r. ⌜ Answered (askArena (now (arena .entry)) (calls.usesSite (decode (now (arena .entry))) (now (path .entry)))) (nodeUsingSite stack (now (path .entry)) (decode (now (arena .entry)))) r ⌝ }
 {
     let counted = validate::count(arena);
     match counted {
-        Numbered::Number(nodes) => lowest_asked(arena, nodes, stack, path),
-        Numbered::Refused(refusal) => Numbered::Refused(refusal),
+        NumberResult::Number(nodes) => lowest_asked(arena, nodes, stack, path),
+        NumberResult::Refused(refusal) => NumberResult::Refused(refusal),
     }
 }
 
 // The same of an arena that holds a graph: questions 3 and 5.
-fn lowest_asked(arena: &[u8], count: u32, stack: u32, path: &[u8]) -> Numbered
-    requires { ⌜ Opened (now arena) × (count ≡ countIn (now arena)) ⌝ }
+fn lowest_asked(arena: &[u8], count: u32, stack: u32, path: &[u8]) -> NumberResult
+    requires { ⌜ ValidArena (now arena) × (count ≡ countIn (now arena)) ⌝ }
     ensures { λ r. ⌜ Answered (calls.usesSite (decode (now (arena .entry))) (now (path .entry))) (nodeUsingSite stack (now (path .entry)) (decode (now (arena .entry)))) r ⌝ }
 {
     if count == 0 {
-        return Numbered::Refused(Refusal::NodeZero);
+        return NumberResult::Refused(Refusal::NodeZero);
     }
     if !path::is_well_formed(path) {
-        return Numbered::Refused(Refusal::Path);
+        return NumberResult::Refused(Refusal::Path);
     }
-    Numbered::Number(lowest(arena, count, stack, path))
+    NumberResult::Number(lowest(arena, count, stack, path))
 }

@@ -1,5 +1,7 @@
-// A node that is to be added, `NodeDesc`: what is missing of it, questions 4 to 7 of document 01, and its record. No byte is written, and no arena
-// checked: the caller has put the questions before these. specs/Describing.antt ties `NodeDesc` to that of model/specs/Calls.antt and has the record.
+// A node that is to be added, `NodeDesc`: what is missing of it, questions 4 to 7 of document 01,
+// and its record. No byte is written, and no arena checked: the caller has put the questions before
+// these. specs/Describing.antt ties `NodeDesc` to that of model/specs/Calls.antt and has the
+// record.
 use model::NodeId;
 use validate::Checked;
 ghost use mathlib.Core.Path.{_≡_};
@@ -7,7 +9,7 @@ ghost use mathlib.Core.Bool.{cond};
 ghost use Prim.Native.Nat.{_≤_, _<_};
 ghost use lib.Dec.{eqb};
 ghost use Rattle.model.specs.Arena.{countIn, primCountIn, decode};
-ghost use Rattle.model.specs.ArenaCalls.{Opened};
+ghost use Rattle.model.specs.ArenaCalls.{ValidArena};
 ghost use Rattle.model.specs.Node.{invalid};
 ghost use Rattle.model.specs.Refusals.{pathBytes};
 ghost use Rattle.nodes.specs.Describing.{numberOr, depthGiven, specsTold, descOf, DescChecked, addedRecord};
@@ -18,8 +20,8 @@ pub enum Depth {
     Missing,
 }
 
-// A node to be added. `NodeId::INVALID` stands for a missing parent, which makes it a root site, and for a missing origin. Its path is handed over
-// beside it.
+// A node to be added. `NodeId::INVALID` stands for a missing parent, which makes it a root site,
+// and for a missing origin. Its path is handed over beside it.
 pub struct NodeDesc {
     pub arc: u8,
     pub flags: u8,
@@ -56,7 +58,7 @@ fn depth_or(depth: Depth, missing: u16) -> u16
 
 // How many bytes the paths of `count` nodes have together.
 fn path_bytes(arena: &[u8], count: u32) -> u32
-    requires { ⌜ Opened (now arena) × (count ≡ countIn (now arena)) ⌝ }
+    requires { ⌜ ValidArena (now arena) × (count ≡ countIn (now arena)) ⌝ }
     ensures { λ r. ⌜ (r ≡ pathBytes (decode (now (arena .entry)) .nodes)) × (r ≤ 32768) ⌝ }
 {
     let mut sum: u32 = 0;
@@ -68,7 +70,8 @@ fn path_bytes(arena: &[u8], count: u32) -> u32
     sum
 }
 
-// What the check of a record is told of has-specs: 2, which none may have, where CULLED is set, because a culled node may be read but not added.
+// What the check of a record is told of has-specs: 2, which none may have, where CULLED is set,
+// because a culled node may be read but not added.
 fn specs_told(flags: u8, has_specs: u8) -> u8
     ensures { λ r. ⌜ r ≡ specsTold flags «has_specs» ⌝ }
 {
@@ -78,9 +81,10 @@ fn specs_told(flags: u8, has_specs: u8) -> u8
     has_specs
 }
 
-// Questions 4 to 7 of a node that is to be added to a graph of `count` nodes: its prim count where all pass.
+// Questions 4 to 7 of a node that is to be added to a graph of `count` nodes: its prim count where
+// all pass.
 pub fn check_desc(arena: &[u8], count: u32, desc: NodeDesc, path: &[u8]) -> Checked
-    requires { ⌜ Opened (now arena) × (count ≡ countIn (now arena)) × (0 < count) ⌝ }
+    requires { ⌜ ValidArena (now arena) × (count ≡ countIn (now arena)) × (0 < count) ⌝ }
     ensures { λ r. ⌜ DescChecked (decode (now (arena .entry))) (descOf desc (now (path .entry))) r ⌝ }
 {
     let parent = number_or(desc.parent, 0);
@@ -101,7 +105,7 @@ pub fn check_desc(arena: &[u8], count: u32, desc: NodeDesc, path: &[u8]) -> Chec
 
 // The prim count of the parent's path, or of the node's own for a root site.
 fn default_depth(arena: &[u8], parent: NodeId, prims: u8) -> u16
-    requires { ⌜ Opened (now arena) ⌝ }
+    requires { ⌜ ValidArena (now arena) ⌝ }
     requires { ⌜ ((parent .0 ≡ invalid → ⊥) → parent .0 < 1024) ⌝ }
     ensures { λ r. ⌜ r ≡ cond (eqb (parent .0) invalid) prims (primCountIn (now (arena .entry)) (parent .0)) ⌝ }
 {
@@ -113,7 +117,7 @@ fn default_depth(arena: &[u8], parent: NodeId, prims: u8) -> u16
 
 // The record of the node, with what was missing put in. It has no links yet.
 pub fn added_record(arena: &[u8], desc: NodeDesc, prims: u8, path_length: usize) -> arena::Node
-    requires { ⌜ Opened (now arena) ⌝ }
+    requires { ⌜ ValidArena (now arena) ⌝ }
     requires { ⌜ ((desc .parent .0 ≡ invalid → ⊥) → desc .parent .0 < 1024) ⌝ }
     requires { ⌜ «path_length» ≤ 255 ⌝ }
     ensures { λ r. ⌜ r ≡ addedRecord (now (arena .entry)) desc prims «path_length» ⌝ }

@@ -1,19 +1,22 @@
-// The command `order` (document 01): reads a snapshot of at most 65,536 bytes from standard input, orders its graph, and prints the listing, or
-// `refused` and the number of the first question whose answer is no. A byte more is refused 12. Where the input cannot be read, or the output not
-// written, it says so on standard error: a part of a snapshot is never taken for the whole, nor a read that failed for an empty one.
-// Proved is that every function is safe and ends. The listing is listing's, the order prim_graph's, each proved there.
+// The command `order` (document 01): reads a snapshot of at most 65,536 bytes from standard input,
+// orders its graph, and prints the listing, or `refused` and the number of the first question whose
+// answer is no. A byte more is refused 12. Where the input cannot be read, or the output not
+// written, it says so on standard error: a part of a snapshot is never taken for the whole, nor a
+// read that failed for an empty one.
+// Proved is that every function is safe and ends. The listing is listing's, the order prim_graph's,
+// each proved there.
 use command_io::Input;
-use model::Finished;
-use model::Numbered;
+use model::NumberResult;
 use model::Refusal;
+use model::UnitResult;
 
 // Prints the listing of an ordered graph.
 fn print_listing(arena: &[u8]) {
     let mut text = command_io::zeros();
     let listed = listing::write_listing(arena, &mut text);
     match listed {
-        Numbered::Number(length) => command_io::print(b"order", &text[..length as usize]),
-        Numbered::Refused(refusal) => command_io::print_refusal(b"order", refusal),
+        NumberResult::Number(length) => command_io::print(b"order", &text[..length as usize]),
+        NumberResult::Refused(refusal) => command_io::print_refusal(b"order", refusal),
     }
 }
 
@@ -21,12 +24,12 @@ fn print_listing(arena: &[u8]) {
 fn order(snapshot: &[u8]) {
     let mut arena = command_io::zeros();
     let read = prim_graph::read_snapshot(&mut arena, snapshot);
-    if let Numbered::Refused(refusal) = read {
+    if let NumberResult::Refused(refusal) = read {
         command_io::print_refusal(b"order", refusal);
         return;
     }
     let ordered = prim_graph::finalize_strength_order(&mut arena);
-    if let Finished::Refused(refusal) = ordered {
+    if let UnitResult::Refused(refusal) = ordered {
         command_io::print_refusal(b"order", refusal);
         return;
     }

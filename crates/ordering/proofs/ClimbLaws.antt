@@ -1,5 +1,5 @@
--- Climbing by next siblings and parents: parents are lower, so any fuel above the node is enough, and what each turn of `climb`'s loop keeps.
--- Assumes nothing.
+-- Climbing by next siblings and parents: parents are lower, so any fuel above the node is enough,
+-- and what each turn of `climb`'s loop keeps. Assumes nothing.
 use mathlib.Core.Path.{_≡_, refl, sym, ap, _∙_}
 use mathlib.Core.Bool.{Bool, true, false, cond}
 use Prim.Native.Nat.{ℕ, zero, suc, _+_, _≤_, _<_}

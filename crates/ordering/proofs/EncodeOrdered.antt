@@ -1,6 +1,7 @@
--- In an arena that holds a graph, encoding a graph of the same nodes is to store its marks, its links and its order, since the count, the local root
--- and each node's record are there: `encode-same-nodes`. Its links are there too where its lists are those of the arena's graph: `links-there`.
--- Assumes nothing.
+-- In an arena that holds a graph, encoding a graph of the same nodes is to store its marks, its
+-- links and its order, since the count, the local root and each node's record are there:
+-- `encode-same-nodes`. Its links are there too where its lists are those of the arena's graph:
+-- `links-there`. Assumes nothing.
 use mathlib.Core.Path.{_≡_, refl, sym, ap, _∙_}
 use mathlib.Core.Bool.{Bool, true, false, cond}
 use mathlib.Core.List.{List, [], _∷_, _++_}
@@ -17,7 +18,7 @@ use Rattle.model.specs.Graph.{Graph, size, nodeAt, childrenOf}
 use Rattle.model.specs.Path.{primCount}
 use Rattle.model.specs.Snapshot.{bigEndian, value, recordBytes}
 use Rattle.model.specs.Arena.{arenaBytes, slotAt, nextSiblingIn, firstOf, lastOf, afterIn, linkBytes, siteBytes, slotStored, slotsStored, orderStored, headerBytes, rootStored, localRootOf, decode, encode}
-use Rattle.model.specs.ArenaCalls.{Opened}
+use Rattle.model.specs.ArenaCalls.{ValidArena}
 use Rattle.laws.proofs.BigEndianLaws.{Bytes}
 use Rattle.laws.proofs.StoredLaws.{length-stored, part-after-stored, stored-field-same, stored-next, stored-there}
 use Rattle.arena.specs.Header.{marksStored}
@@ -28,7 +29,7 @@ use Rattle.arena.proofs.HeldEncodable.{held-encodable}
 use Rattle.arena.proofs.ReadNodes.{sizes}
 use Rattle.child_lists.proofs.LinkStores.{linksOf, links-keep-site}
 
-module _ (bs : List ℕ) (bytes : Bytes bs) (o : Opened bs) (h : Graph) (same : h .nodes ≡ decode bs .nodes) (some-node : 0 < size (decode bs)) where
+module _ (bs : List ℕ) (bytes : Bytes bs) (o : ValidArena bs) (h : Graph) (same : h .nodes ≡ decode bs .nodes) (some-node : 0 < size (decode bs)) where
   abbrev g : Graph
   g = decode bs
 

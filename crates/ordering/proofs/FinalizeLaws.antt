@@ -1,4 +1,5 @@
--- The ways that ordering a graph ends: refused (`finalize-refused`, `no-order`) and done (`finalize-again`, `finalize-done`). Assumes nothing.
+-- The ways that ordering a graph ends: refused (`finalize-refused`, `no-order`) and done
+-- (`finalize-again`, `finalize-done`). Assumes nothing.
 use mathlib.Core.Path.{_≡_, refl, sym, ap, _∙_}
 use mathlib.Core.Bool.{Bool, true, false, _||_, cond}
 use mathlib.Core.List.{List, [], _∷_}
@@ -10,10 +11,10 @@ use Rattle.model.specs.Order.{hasOrder, ordering}
 use Rattle.model.specs.Refusals.{refusalNumber, Question, ask, refusal}
 use Rattle.model.specs.Calls.{unchanged, settled, decided, hasNodeZero, finalizeStrengthOrder}
 use Rattle.model.specs.Arena.{countIn, finalizedIn, decode, encode, holdsGraph}
-use Rattle.model.specs.ArenaCalls.{isArena, Opened, onArena, askArena}
+use Rattle.model.specs.ArenaCalls.{isArena, ValidArena, onArena, askArena}
 use Rattle.model.specs.declared.Refusal.{Refusal}
 use Rattle.model.specs.declared.Refusal.the-variants.{NoOrder}
-use Rattle.model.specs.declared.Finished.the-variants.{Done, Refused}
+use Rattle.model.specs.declared.UnitResult.the-variants.{Done, Refused}
 use Rattle.laws.proofs.BigEndianLaws.{Bytes}
 use Rattle.laws.proofs.ArenaCallLaws.{refusal-some, asked-on, on-opened, decided-accepted}
 use Rattle.arena.proofs.ArenaBack.{encode-decode}
@@ -52,7 +53,7 @@ finalize-refused bs r e =
     let q = e ∙ sym (finalize-asks bs) in
     record { refused = q; arena = rw (ne-eqb (onArena finalizeStrengthOrder bs .refused) 0 (λ z. refusal-some r (q ∙ z))) }
 
-module _ (bs : List ℕ) (o : Opened bs) (some : 0 < countIn bs) where
+module _ (bs : List ℕ) (o : ValidArena bs) (some : 0 < countIn bs) where
   abbrev result : Bool → Graph
   result finalized = cond finalized (decode bs) (ordering (decode bs))
 

@@ -1,4 +1,5 @@
--- The ways that reading the whole order ends: refused (`list-refused`, `list-not-buffer`) and written (`list-done`). Assumes nothing.
+-- The ways that reading the whole order ends: refused (`list-refused`, `list-not-buffer`) and
+-- written (`list-done`). Assumes nothing.
 use mathlib.Core.Path.{_≡_, refl, sym, ap, _∙_}
 use mathlib.Core.Bool.{Bool, true, false, _&&_}
 use mathlib.Core.List.{List, _∷_}
@@ -9,10 +10,10 @@ use Rattle.model.specs.Bytes.{stored}
 use Rattle.model.specs.Refusals.{refusalNumber, ask, refusal}
 use Rattle.model.specs.Calls.{readsOrder}
 use Rattle.model.specs.Arena.{countIn, decode, holdsGraph}
-use Rattle.model.specs.ArenaCalls.{isArena, Opened, askArena}
+use Rattle.model.specs.ArenaCalls.{isArena, ValidArena, askArena}
 use Rattle.model.specs.declared.Refusal.{Refusal}
 use Rattle.model.specs.declared.Refusal.the-variants.{Size}
-use Rattle.model.specs.declared.Numbered.the-variants.{Number, Refused}
+use Rattle.model.specs.declared.NumberResult.the-variants.{Number, Refused}
 use Rattle.laws.proofs.ArenaCallLaws.{refusal-some, answered-refused, answered-number, asked-on}
 use Rattle.arena.proofs.ReadNodes.{node-zero}
 use Rattle.ordering.specs.OrderReading.{entriesIn, orderBytes, listQuestions, OrderWritten}
@@ -43,7 +44,7 @@ module _ (bs out : List ℕ) where
         go true = refl
         go false = refl
 
-    module _ (o : Opened bs) where
+    module _ (o : ValidArena bs) where
       pub list-asks-own : refusal (listQuestions bs out) ≡ refusal (readsOrder (decode bs))
       list-asks-own = list-asks ∙ asked-on bs (readsOrder (decode bs)) o
 

@@ -1,5 +1,5 @@
--- The entries of the order in an arena: those of its graph (`order-entries`, `entry-read`), and their bytes, which grow at the end by an entry
--- (`Listed`). Assumes nothing.
+-- The entries of the order in an arena: those of its graph (`order-entries`, `entry-read`), and
+-- their bytes, which grow at the end by an entry (`Listed`). Assumes nothing.
 use mathlib.Core.Path.{_≡_, refl, sym, ap, _∙_}
 use mathlib.Core.Bool.{true}
 use mathlib.Core.List.{List, [], _∷_, _++_, append-assoc, append-nil}
@@ -12,7 +12,7 @@ use lib.ListN.{length, getD, length-append}
 use Rattle.model.specs.Bytes.{stored}
 use Rattle.model.specs.Snapshot.{bigEndian}
 use Rattle.model.specs.Arena.{countIn, orderedIn, orderEntryIn, tabulate, decode}
-use Rattle.model.specs.ArenaCalls.{Opened}
+use Rattle.model.specs.ArenaCalls.{ValidArena}
 use Rattle.laws.proofs.StoredLaws.{length-stored, stored-next}
 use Rattle.arena.proofs.HeldArenas.{held}
 use Rattle.arena.proofs.TabulateLaws.{tabulate-length, tabulate-at}
@@ -74,7 +74,7 @@ pub record Listed (bs before after : List ℕ) (n : ℕ) : Type 0 where
   pub within : n ≤ countIn bs
   pub bytes : after ≡ stored 0 (bytesBefore bs n) before
 
-module _ (bs out : List ℕ) (o : Opened bs) (large : length out ≡ 4096) where
+module _ (bs out : List ℕ) (o : ValidArena bs) (large : length out ≡ 4096) where
   pub few : countIn bs ≤ 1024
   few = held bs (o .holds) .few
 

@@ -1,6 +1,7 @@
--- Marks, the links of the sorted lists and the walk of these links, written into the arena that holds a graph, leave the ordered graph:
--- `walk-written`; and what the walk asks: `walkable`. The links are those stored of the lists in arrays (`lists-stored`), or stand there
--- already (`links-stand`). Assumes nothing.
+-- Marks, the links of the sorted lists and the walk of these links, written into the arena that
+-- holds a graph, leave the ordered graph: `walk-written`; and what the walk asks: `walkable`. The
+-- links are those stored of the lists in arrays (`lists-stored`), or stand there already
+-- (`links-stand`). Assumes nothing.
 use mathlib.Core.Path.{_≡_, refl, sym, ap, subst, _∙_}
 use mathlib.Core.Bool.{true}
 use mathlib.Core.List.{List, []}
@@ -12,7 +13,7 @@ use Rattle.model.specs.Graph.{Graph, size, childrenOf}
 use Rattle.model.specs.Order.{sort, walk, isStronger, sortedChildren, hasOrder, ordering}
 use Rattle.model.specs.Strength.{view, viewOf}
 use Rattle.model.specs.Arena.{arenaBytes, countIn, firstChildIn, nextSiblingIn, firstOf, afterIn, orderStored, decode, encode}
-use Rattle.model.specs.ArenaCalls.{Opened, Readable}
+use Rattle.model.specs.ArenaCalls.{ValidArena, ValidNode}
 use Rattle.laws.proofs.BigEndianLaws.{Bytes}
 use Rattle.laws.proofs.Trees.{Tree, tree-sorted}
 use Rattle.laws.proofs.OrderLaws.{children-ordering, children-stay, sorted-has-order, stronger-antisymmetric}
@@ -39,13 +40,13 @@ use Rattle.ordering.proofs.EncodeOrdered.{marked-length, marked-sibling
 -- an arena of n nodes whose graph has an order
 pub record Orderable (bs : List ℕ) (n : ℕ) : Type 0 where
   pub bytes : Bytes bs
-  pub opened : Opened bs
+  pub opened : ValidArena bs
   pub counted : n ≡ countIn bs
   pub some-node : 0 < n
   pub has-order : hasOrder (decode bs) ≡ true
 
 -- its lists stand in it
-pub standing-has-order : (bs : List ℕ) → Bytes bs → Opened bs → Stands (decode bs) true → hasOrder (decode bs) ≡ true
+pub standing-has-order : (bs : List ℕ) → Bytes bs → ValidArena bs → Stands (decode bs) true → hasOrder (decode bs) ≡ true
 standing-has-order bs bytes o stands =
     sorted-has-order (decode bs) (stronger-antisymmetric (decode bs)) (held-encodable bs bytes (o .whole) (o .holds) .legal .lengths) (stands .sorted refl)
 
@@ -79,16 +80,16 @@ module _ (bs : List ℕ) (n : ℕ) (ready : Orderable bs n) where
 
   -- ---- Marks and links
 
-  marks-right : marksWritten bs ≡ marksStored (h .ordered) (h .finalized) (h .shallow) bs
+  state-valid : marksWritten bs ≡ marksStored (h .ordered) (h .finalized) (h .shallow) bs
   unfolding ordering decode
-  marks-right = refl
+  state-valid = refl
 
   same-nodes : h .nodes ≡ g .nodes
   unfolding ordering
   same-nodes = refl
 
   pub marks-whole : length (marksWritten bs) ≡ arenaBytes
-  marks-whole = ap length marks-right ∙ marked-length bs (ready .bytes) (ready .opened) h same-nodes (omega (arith, sized, ready .some-node))
+  marks-whole = ap length state-valid ∙ marked-length bs (ready .bytes) (ready .opened) h same-nodes (omega (arith, sized, ready .some-node))
 
   -- the arena when these are written
   abbrev pub linked : List ℕ
@@ -100,7 +101,7 @@ module _ (bs : List ℕ) (n : ℕ) (ready : Orderable bs n) where
   written : encode h bs ≡ orderStored (h .order) 0 linked
   written =
       encode-same-nodes bs (ready .bytes) (ready .opened) h same-nodes (omega (arith, sized, ready .some-node))
-      ∙ ap (λ (s : List ℕ). orderStored (h .order) 0 (linksOf h (size g) s)) (sym marks-right)
+      ∙ ap (λ (s : List ℕ). orderStored (h .order) 0 (linksOf h (size g) s)) (sym state-valid)
 
   -- ---- The walk of these links
 
@@ -113,7 +114,7 @@ module _ (bs : List ℕ) (n : ℕ) (ready : Orderable bs n) where
       rw written
       (order-same-links (h .order) 0 linked linked-length (omega (arith, order-below h ok-then .0, ap length same-nodes, sized, few)))
 
-  readable : (x : ℕ) → x < n → Readable (encode h bs) x
+  readable : (x : ℕ) → x < n → ValidNode (encode h bs) x
   readable x l = record {
     opened = record {
       whole = length-encode h bs ok-then (ready .opened .whole) ∙ ready .opened .whole;
@@ -165,8 +166,8 @@ module _ (bs : List ℕ) (n : ℕ) (ready : Orderable bs n) where
 
   pub links-stand : Stands g true → marksWritten bs ≡ linked
   links-stand stands =
-      sym (ap (linksOf h (size g)) marks-right
-      ∙ links-there bs (ready .bytes) (ready .opened) h same-nodes (omega (arith, sized, ready .some-node)) stay (size g) (omega arith) ∙ sym marks-right)
+      sym (ap (linksOf h (size g)) state-valid
+      ∙ links-there bs (ready .bytes) (ready .opened) h same-nodes (omega (arith, sized, ready .some-node)) stay (size g) (omega arith) ∙ sym state-valid)
     where
       stay : (v : ℕ) → childrenOf h v ≡ childrenOf g v
       stay v = children-ordering g v ∙ children-stay g (stronger-antisymmetric g) (ok .legal .lengths) (stands .sorted refl) v
@@ -199,7 +200,7 @@ module _ (bs : List ℕ) (n : ℕ) (ready : Orderable bs n) where
     lists-stored marked-bytes =
         ap (λ (k : ℕ). listsStored sorted ends k (marksWritten bs)) sized
         ∙ lists-right h sorted ends linkable (marksWritten bs) marked-bytes marks-whole
-        (ap (λ (s : List ℕ). nextSiblingIn s 0) marks-right ∙ marked-sibling bs (ready .bytes) (ready .opened) h same-nodes some 0 ∙ alone)
+        (ap (λ (s : List ℕ). nextSiblingIn s 0) state-valid ∙ marked-sibling bs (ready .bytes) (ready .opened) h same-nodes some 0 ∙ alone)
       where
         some : 0 < size g
         some = omega (arith, sized, ready .some-node)

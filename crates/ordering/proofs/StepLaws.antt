@@ -1,5 +1,6 @@
--- The walk without a stack: what is left of a tree's walk at a node, and the step to the next (`left-step`). So the steps from node 0 are nodes
--- (`step-node`), and they are the walk (`step-walk`). Assumes nothing.
+-- The walk without a stack: what is left of a tree's walk at a node, and the step to the next
+-- (`left-step`). So the steps from node 0 are nodes (`step-node`), and they are the walk
+-- (`step-walk`). Assumes nothing.
 use mathlib.Core.Path.{_≡_, refl, sym, ap, subst, _∙_}
 use mathlib.Core.Bool.{Bool, true, false, cond}
 use mathlib.Core.List.{List, [], _∷_, _++_, append-assoc, append-nil}

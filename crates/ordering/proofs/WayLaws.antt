@@ -1,5 +1,6 @@
--- Storing the walk while it is walked: an order entry is no link, so each step is the one that the arena had at first (`SameLinks`); and the state of
--- `write_walk`'s loop (`Walking`), with its start, its step and its end. Assumes nothing.
+-- Storing the walk while it is walked: an order entry is no link, so each step is the one that the
+-- arena had at first (`SameLinks`); and the state of `write_walk`'s loop (`Walking`), with its
+-- start, its step and its end. Assumes nothing.
 use mathlib.Core.Path.{_≡_, refl, sym, ap, _∙_, fun-ext}
 use mathlib.Core.Logic.{inl, inr}
 use mathlib.Core.List.{List, [], _∷_}

@@ -23,7 +23,8 @@ marksWritten bs = marksStored true (not (eqb (shallowIn bs) 1)) (eqb (shallowIn 
 
 -- ---- The walk, by first children, next siblings and parents
 
--- from x, whose children are done, to the next: its sibling, or its parent's, and so on; x + 1 is enough fuel, since parents are lower
+-- from x, whose children are done, to the next: its sibling, or its parent's, and so on; x + 1 is
+-- enough fuel, since parents are lower
 abbrev pub onward : (ℕ → ℕ) → (ℕ → ℕ) → ℕ → ℕ → ℕ
 onward next up zero x = invalid
 onward next up (suc k) x = cond (eqb x 0) invalid (cond (eqb (next x) invalid) (onward next up k (up x)) (next x))

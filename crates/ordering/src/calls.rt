@@ -1,12 +1,13 @@
-// The calls that order a graph and read its order, all of it or one entry. None has a `requires`: each puts its questions, the size of each buffer and whether
-// the arena holds a graph first, and is refused by the first whose answer is no; then every lent byte is as it was.
+// The calls that order a graph and read its order, all of it or one entry. None has a `requires`:
+// each puts its questions, the size of each buffer and whether the arena holds a graph first, and
+// is refused by the first whose answer is no; then every lent byte is as it was.
 // specs/Finalizing.antt and OrderReading.antt say what each answers and leaves.
-use model::Finished;
-use model::Numbered;
+use model::NumberResult;
 use model::Refusal;
+use model::UnitResult;
 ghost use mathlib.Core.Path.{_≡_};
 ghost use Rattle.model.specs.Arena.{countIn, arenaBytes, decode};
-ghost use Rattle.model.specs.ArenaCalls.{Opened, askArena, Answered};
+ghost use Rattle.model.specs.ArenaCalls.{ValidArena, askArena, Answered};
 ghost use Rattle.ordering.specs.Finalizing.{Finalized};
 ghost use lib.ListN.{length, getD};
 ghost use Rattle.model.specs.Bytes.{stored};
@@ -14,31 +15,31 @@ ghost use Rattle.model.specs.Calls.{readsEntry};
 ghost use Rattle.ordering.specs.OrderReading.{entriesIn, orderBytes, OrderWritten};
 
 // Sorts each child list and walks them; a finalized graph is left as it is. Refused 1, 2, 3 and 9.
-pub fn finalize_strength_order(arena: &mut [u8]) -> Finished
+pub fn finalize_strength_order(arena: &mut [u8]) -> UnitResult
     ensures { λ r. ⌜ Finalized (now (arena .entry)) r (now (arena .exit)) ⌝ }
 {
     let counted = validate::count(arena);
     match counted {
-        Numbered::Number(nodes) => finalize_asked(arena, nodes),
-        Numbered::Refused(refusal) => Finished::Refused(refusal),
+        NumberResult::Number(nodes) => finalize_asked(arena, nodes),
+        NumberResult::Refused(refusal) => UnitResult::Refused(refusal),
     }
 }
 
 // The same of an arena that holds a graph: questions 3 and 9.
-fn finalize_asked(arena: &mut [u8], count: u32) -> Finished
-    requires { ⌜ Opened (now arena) × (count ≡ countIn (now arena)) ⌝ }
+fn finalize_asked(arena: &mut [u8], count: u32) -> UnitResult
+    requires { ⌜ ValidArena (now arena) × (count ≡ countIn (now arena)) ⌝ }
     ensures { λ r. ⌜ Finalized (now (arena .entry)) r (now (arena .exit)) ⌝ }
 {
     if count == 0 {
-        return Finished::Refused(Refusal::NodeZero);
+        return UnitResult::Refused(Refusal::NodeZero);
     }
     if arena::finalized(arena) == 1 {
-        return Finished::Done;
+        return UnitResult::Done;
     }
     if !crate::writing::order_graph(arena) {
-        return Finished::Refused(Refusal::NoOrder);
+        return UnitResult::Refused(Refusal::NoOrder);
     }
-    Finished::Done
+    UnitResult::Done
 }
 
 // Question 10: whether the order counts.
@@ -49,39 +50,40 @@ fn is_ordered(arena: &[u8]) -> bool
     arena::ordered(arena) == 1
 }
 
-// Writes the order to the front of `out`, which has 4,096 bytes: a node's number in 4 bytes each, and answers how many nodes it has. Refused 1, 2, 3 and 10.
-pub fn strength_order(arena: &[u8], out: &mut [u8]) -> Numbered
+// Writes the order to the front of `out`, which has 4,096 bytes: a node's number in 4 bytes each,
+// and answers how many nodes it has. Refused 1, 2, 3 and 10.
+pub fn strength_order(arena: &[u8], out: &mut [u8]) -> NumberResult
     ensures { λ r. ⌜ OrderWritten (now (arena .entry)) (now (out .entry)) r (now (out .exit)) ⌝ }
 {
     if out.len() != 4096 {
-        return Numbered::Refused(Refusal::Size);
+        return NumberResult::Refused(Refusal::Size);
     }
     let counted = validate::count(arena);
     match counted {
-        Numbered::Number(nodes) => order_asked(arena, nodes, out),
-        Numbered::Refused(refusal) => Numbered::Refused(refusal),
+        NumberResult::Number(nodes) => order_asked(arena, nodes, out),
+        NumberResult::Refused(refusal) => NumberResult::Refused(refusal),
     }
 }
 
 // The same of an arena that holds a graph: questions 3 and 10.
-fn order_asked(arena: &[u8], count: u32, out: &mut [u8]) -> Numbered
-    requires { ⌜ Opened (now arena) × (count ≡ countIn (now arena)) ⌝ }
+fn order_asked(arena: &[u8], count: u32, out: &mut [u8]) -> NumberResult
+    requires { ⌜ ValidArena (now arena) × (count ≡ countIn (now arena)) ⌝ }
     requires { ⌜ length (now out) ≡ 4096 ⌝ }
     ensures { λ r. ⌜ OrderWritten (now (arena .entry)) (now (out .entry)) r (now (out .exit)) ⌝ }
 {
     if count == 0 {
-        return Numbered::Refused(Refusal::NodeZero);
+        return NumberResult::Refused(Refusal::NodeZero);
     }
     if !is_ordered(arena) {
-        return Numbered::Refused(Refusal::NotOrdered);
+        return NumberResult::Refused(Refusal::NotOrdered);
     }
     write_entries(arena, count, out);
-    Numbered::Number(count)
+    NumberResult::Number(count)
 }
 
 // Writes the entries of the order, one after the other.
 fn write_entries(arena: &[u8], count: u32, out: &mut [u8])
-    requires { ⌜ Opened (now arena) × (count ≡ countIn (now arena)) × (length (now out) ≡ 4096) ⌝ }
+    requires { ⌜ ValidArena (now arena) × (count ≡ countIn (now arena)) × (length (now out) ≡ 4096) ⌝ }
     ensures { λ _. ⌜ now (out .exit) ≡ stored 0 (orderBytes (entriesIn (now (arena .entry)))) (now (out .entry)) ⌝ }
 {
     let mut n: u32 = 0;
@@ -91,30 +93,31 @@ fn write_entries(arena: &[u8], count: u32, out: &mut [u8])
     }
 }
 
-// The node at a place of the order. Refused 1, 2, 3, 4 where the place is not below the count, and 10.
-pub fn order_entry(arena: &[u8], place: u32) -> Numbered
+// The node at a place of the order. Refused 1, 2, 3, 4 where the place is not below the count, and
+// 10.
+pub fn order_entry(arena: &[u8], place: u32) -> NumberResult
     ensures { λ r. ⌜ Answered (askArena (now (arena .entry)) (readsEntry (decode (now (arena .entry))) place)) (getD (decode (now (arena .entry)) .order) place 0) r ⌝ }
 {
     let counted = validate::count(arena);
     match counted {
-        Numbered::Number(nodes) => entry_asked(arena, nodes, place),
-        Numbered::Refused(refusal) => Numbered::Refused(refusal),
+        NumberResult::Number(nodes) => entry_asked(arena, nodes, place),
+        NumberResult::Refused(refusal) => NumberResult::Refused(refusal),
     }
 }
 
 // The same of an arena that holds a graph: questions 3, 4 and 10.
-fn entry_asked(arena: &[u8], count: u32, place: u32) -> Numbered
-    requires { ⌜ Opened (now arena) × (count ≡ countIn (now arena)) ⌝ }
+fn entry_asked(arena: &[u8], count: u32, place: u32) -> NumberResult
+    requires { ⌜ ValidArena (now arena) × (count ≡ countIn (now arena)) ⌝ }
     ensures { λ r. ⌜ Answered (readsEntry (decode (now (arena .entry))) place) (getD (decode (now (arena .entry)) .order) place 0) r ⌝ }
 {
     if count == 0 {
-        return Numbered::Refused(Refusal::NodeZero);
+        return NumberResult::Refused(Refusal::NodeZero);
     }
     if place >= count {
-        return Numbered::Refused(Refusal::Node);
+        return NumberResult::Refused(Refusal::Node);
     }
     if !is_ordered(arena) {
-        return Numbered::Refused(Refusal::NotOrdered);
+        return NumberResult::Refused(Refusal::NotOrdered);
     }
-    Numbered::Number(arena::order_entry(arena, place))
+    NumberResult::Number(arena::order_entry(arena, place))
 }

@@ -1,5 +1,6 @@
-// The walk, parent first, by the links in the arena: no stack, since a parent is read there too. Its entries are stored on the way; they are no links.
-// Of one node it is kept where the walk goes on from there, so that a long way up is not climbed that was just walked down.
+// The walk, parent first, by the links in the arena: no stack, since a parent is read there too.
+// Its entries are stored on the way; they are no links. Of one node it is kept where the walk goes
+// on from there, so that a long way up is not climbed that was just walked down.
 ghost use mathlib.Core.Path.{_≡_};
 ghost use Prim.Native.Nat.{_+_};
 ghost use Rattle.model.specs.Arena.{nextSiblingIn};
@@ -12,7 +13,8 @@ struct Ahead {
     next: u32,
 }
 
-// From a node whose children are all done to the next of the walk: its sibling, or its parent's, and so on; 4,294,967,295 where the walk ends.
+// From a node whose children are all done to the next of the walk: its sibling, or its parent's,
+// and so on; 4,294,967,295 where the walk ends.
 fn climb(arena: &[u8], from: u32, known: Ahead) -> u32
     requires { ⌜ Climbable (now arena) from × Knows (now arena) known ⌝ }
     ensures { λ r. ⌜ r ≡ onward (nextSiblingIn (now (arena .entry))) (parentIn (now (arena .entry))) (from + 1) from ⌝ }
@@ -43,7 +45,8 @@ fn next_of(arena: &[u8], x: u32, known: Ahead) -> u32
     climb(arena, x, known)
 }
 
-// What is kept once the walk has come to x: where it goes on from x, if that is seen there or known of the parent; else what was kept.
+// What is kept once the walk has come to x: where it goes on from x, if that is seen there or known
+// of the parent; else what was kept.
 fn look_ahead(arena: &[u8], x: u32, known: Ahead) -> Ahead
     requires { ⌜ Climbable (now arena) x × Knows (now arena) known ⌝ }
     ensures { λ r. ⌜ Knows (now (arena .entry)) r ⌝ }
@@ -67,7 +70,8 @@ fn look_ahead(arena: &[u8], x: u32, known: Ahead) -> Ahead
     }
 }
 
-// Walks from node 0 and stores each node in the order. It steps before it stores, so that nothing is looked for after the last node.
+// Walks from node 0 and stores each node in the order. It steps before it stores, so that nothing
+// is looked for after the last node.
 pub(crate) fn write_walk(arena: &mut [u8], count: u32)
     requires { ⌜ Walkable (now arena) count ⌝ }
     ensures { λ _. ⌜ now (arena .exit) ≡ walkStored count (now (arena .entry)) ⌝ }

@@ -1,4 +1,5 @@
--- Reading from the back: the definitions at a place k, by the byte before it, as the loops go. Assumes nothing.
+-- Reading from the back: the definitions at a place k, by the byte before it, as the loops go.
+-- Assumes nothing.
 use mathlib.Core.Path.{_≡_, refl, sym, ap, _∙_}
 use mathlib.Core.Bool.{Bool, true, false, cond, false≢true}
 use mathlib.Core.List.{List}

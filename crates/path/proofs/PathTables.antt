@@ -1,5 +1,5 @@
--- What the tables hold, by one computed test each: bytes of a kind are read alike, and a row takes the steps of two kinds from each state. Then what a row does
--- to a reading. Assumes nothing.
+-- What the tables hold, by one computed test each: bytes of a kind are read alike, and a row takes
+-- the steps of two kinds from each state. Then what a row does to a reading. Assumes nothing.
 use mathlib.Core.Path.{_≡_, refl, sym, ap, subst, _∙_}
 use mathlib.Core.Bool.{Bool, true, false, not, _||_, _&&_, cond, and-eq-true-iff}
 use mathlib.Core.List.{List, [], _∷_}

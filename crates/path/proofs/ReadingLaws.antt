@@ -1,5 +1,6 @@
--- Reading from the front: one byte, a run of bytes, and where the reading fails. Each law is over the state, so that names, sets and
--- selections share it. Last, that reading a path from its start is `countPrims`. Assumes nothing.
+-- Reading from the front: one byte, a run of bytes, and where the reading fails. Each law is over
+-- the state, so that names, sets and selections share it. Last, that reading a path from its start
+-- is `countPrims`. Assumes nothing.
 use mathlib.Core.Path.{_≡_, refl, sym, ap, _∙_}
 use mathlib.Core.Bool.{Bool, true, false, not, _&&_, cond, false≢true, and-eq-true-iff, and-true, and-false}
 use mathlib.Core.List.{List, [], _∷_}

@@ -1,5 +1,6 @@
--- What the functions that read a path from its front promise each other. `reading` is the whole of it: what the reading comes to from a
--- state on, given the names met so far; from the start it is `countPrims`, but for the limit of 255 bytes (proofs/ReadingLaws.antt).
+-- What the functions that read a path from its front promise each other. `reading` is the whole of
+-- it: what the reading comes to from a state on, given the names met so far; from the start it is
+-- `countPrims`, but for the limit of 255 bytes (proofs/ReadingLaws.antt).
 use mathlib.Core.Path.{_≡_}
 use mathlib.Core.Bool.{Bool, true, false, not, _&&_, cond}
 use mathlib.Core.List.{List, [], _∷_}

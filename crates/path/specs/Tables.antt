@@ -1,5 +1,6 @@
--- The tables by which many paths are read, and what the functions that read by them promise each other. Bytes of one kind are read alike. What a name, a set or a
--- selection may hold is in the kinds' table alone.
+-- The tables by which many paths are read, and what the functions that read by them promise each
+-- other. Bytes of one kind are read alike. What a name, a set or a selection may hold is in the
+-- kinds' table alone.
 use mathlib.Core.Path.{_≡_}
 use mathlib.Core.Bool.{Bool, false, _||_, cond}
 use mathlib.Core.List.{List, [], _∷_, _++_}
@@ -71,7 +72,8 @@ numberOf closed = 7
 numberOf start = 8
 numberOf root = 9
 
--- `at` is reached in the state that the word has in its last six bits, with so many names met, by a reading of what follows the first slash
+-- `at` is reached in the state that the word has in its last six bits, with so many names met, by a
+-- reading of what follows the first slash
 pub record Reached (p : List ℕ) (at word met : ℕ) : Type 0 where
   pub state : State
   pub low : numberOf state < 8

@@ -1,5 +1,5 @@
-// Reading a path from its back: where its last name, its parent and its introduction path end. Each loop goes over the bytes that it leaves
-// out, so any number of steps up costs one pass.
+// Reading a path from its back: where its last name, its parent and its introduction path end. Each
+// loop goes over the bytes that it leaves out, so any number of steps up costs one pass.
 ghost use mathlib.Core.Path.{_≡_};
 ghost use mathlib.Core.Bool.{false};
 ghost use Prim.Native.Nat.{_<_, _≤_};

@@ -1,7 +1,10 @@
-// Paths on lent bytes: whether they are well formed, their prim count, parent, last name and introduction path, equality, and appending a
-// child's name. No public function has a `requires` on a path: on bytes that are none each answers what its definition gives for them. Only
-// `append_child_name` copies; every other path handed back is a part of the caller's. The definitions are in model/specs/Path.antt.
-// scan.rt reads one path from its front, tables.rt many by tables (rows.rt), back.rt from its end; join.rt writes one with a name appended.
+// Paths on lent bytes: whether they are well formed, their prim count, parent, last name and
+// introduction path, equality, and appending a child's name. No public function has a `requires` on
+// a path: on bytes that are none each answers what its definition gives for them. Only
+// `append_child_name` copies; every other path handed back is a part of the caller's. The
+// definitions are in model/specs/Path.antt.
+// scan.rt reads one path from its front, tables.rt many by tables (rows.rt), back.rt from its end;
+// join.rt writes one with a name appended.
 pub mod back;
 pub mod join;
 mod joining;
@@ -66,7 +69,8 @@ pub fn last_name(path: &[u8]) -> &[u8]
     &path[start..]
 }
 
-// The front part of the path as it was `depth` names ago, selections included; `/` where it had fewer.
+// The front part of the path as it was `depth` names ago, selections included; `/` where it had
+// fewer.
 pub fn path_at_intro_depth(path: &[u8], depth: u16) -> &[u8]
     ensures { λ r. ⌜ now r ≡ pathAtIntroDepth depth (now (path .entry)) ⌝ }
 {
@@ -91,8 +95,9 @@ pub fn same_path(a: &[u8], b: &[u8]) -> bool
     true
 }
 
-// Writes the path with the child's last name appended to the front of `out` and answers its length. Refused 1 unless `out` has 255 bytes, 5
-// where either is no path or the child's ends in no name, 7 where the new path passes 255 bytes; a refusal leaves `out` as it was.
+// Writes the path with the child's last name appended to the front of `out` and answers its length.
+// Refused 1 unless `out` has 255 bytes, 5 where either is no path or the child's ends in no name, 7
+// where the new path passes 255 bytes; a refusal leaves `out` as it was.
 pub fn append_child_name(path: &[u8], child: &[u8], out: &mut [u8]) -> Appended
     ensures { λ r. ⌜ r ≡ appendChildName (now (path .entry)) (now (child .entry)) (now (out .entry)) ⌝ }
     ensures { λ r. ⌜ now (out .exit) ≡ written r (now (path .entry)) (now (child .entry)) (now (out .entry)) ⌝ }

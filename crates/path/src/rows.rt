@@ -1,4 +1,5 @@
-// The two tables. A caller makes them once and lends them: a table that is indexed where it is a constant is laid out on the stack at each use.
+// The two tables. A caller makes them once and lends them: a table that is indexed where it is a
+// constant is laid out on the stack at each use.
 ghost use mathlib.Core.Path.{_≡_};
 ghost use Rattle.path.specs.Tables.{kindTable, pairTable};
 

@@ -1,5 +1,6 @@
-// Reading a path from its front, in runs: a name, a set or a selection is passed over by one loop that stays in it while its bytes come.
-// specs/PathReading.antt has what its functions promise each other.
+// Reading a path from its front, in runs: a name, a set or a selection is passed over by one loop
+// that stays in it while its bytes come. specs/PathReading.antt has what its functions promise each
+// other.
 use model::PrimCount;
 ghost use mathlib.Core.Path.{_≡_};
 ghost use mathlib.Core.Bool.{true, false};
@@ -14,7 +15,8 @@ pub enum Part {
     Malformed,
 }
 
-// What stands between two places of a path: a name, with its slash where it has one, or a selection.
+// What stands between two places of a path: a name, with its slash where it has one, or a
+// selection.
 pub enum Element {
     Name(usize),
     Selection(usize),

@@ -1,7 +1,10 @@
-// Reading many paths: two bytes by one row, by two tables that the caller makes once and lends, with no branch on a byte. A byte has a kind, and a pair of
-// kinds has a row; a row has for each state of the reading, at 7 times its number, the state reached, as 7 times its number, and a bit above that says whether a
-// name begins. So a state is the amount to shift a row by. One path alone is read quicker by scan.rt, for the tables take time to make.
-// specs/Tables.antt has the tables; proofs/PathTables.antt shows that a row takes the steps of model/specs/Path.antt.
+// Reading many paths: two bytes by one row, by two tables that the caller makes once and lends,
+// with no branch on a byte. A byte has a kind, and a pair of kinds has a row; a row has for each
+// state of the reading, at 7 times its number, the state reached, as 7 times its number, and a bit
+// above that says whether a name begins. So a state is the amount to shift a row by. One path alone
+// is read quicker by scan.rt, for the tables take time to make.
+// specs/Tables.antt has the tables; proofs/PathTables.antt shows that a row takes the steps of
+// model/specs/Path.antt.
 use crate::rows::kinds;
 use crate::rows::pairs;
 use model::PrimCount;
@@ -64,7 +67,8 @@ fn read_rest(kinds: &[u8], pairs: &[u64], path: &[u8], at: usize, state: u64, na
     read_last(kinds, pairs, path, at + 2, next, names + next / 64 % 2)
 }
 
-// The end of the reading of what follows the first slash, as one number. Two rows a turn, for a turn takes time of its own.
+// The end of the reading of what follows the first slash, as one number. Two rows a turn, for a
+// turn takes time of its own.
 fn read_behind_slash(kinds: &[u8], pairs: &[u64], path: &[u8]) -> u64
     requires { ⌜ Tables (now kinds) (now pairs) ⌝ }
     requires { ⌜ (1 ≤ length (now path)) × (length (now path) ≤ 255) ⌝ }
@@ -116,7 +120,8 @@ pub fn read_path(kinds: &[u8], pairs: &[u64], path: &[u8]) -> PrimCount
     ended(read_behind_slash(kinds, pairs, path))
 }
 
-// Whether the bytes, 1 to 255, are a path that has so many names: the number that the reading ends with is compared, and no count is made of it.
+// Whether the bytes, 1 to 255, are a path that has so many names: the number that the reading ends
+// with is compared, and no count is made of it.
 pub fn has_names(kinds: &[u8], pairs: &[u64], path: &[u8], names: u8) -> bool
     requires { ⌜ Tables (now kinds) (now pairs) ⌝ }
     requires { ⌜ (1 ≤ length (now path)) × (length (now path) ≤ 255) ⌝ }

@@ -1,11 +1,13 @@
-// The public library: each call of document 01 on an arena that the caller lends (docs/LAYOUT.md), 327,744 bytes. No call has a `requires`: any bytes
-// may be lent, any numbers and paths given. Each puts its questions in document 01's order; the first whose answer is no is the refusal, and then
-// every lent byte is as it was. What a call answers and leaves is its one function of model/specs/Calls.antt, made a call on bytes by
-// model/specs/ArenaCalls.antt.
-// Starting and adding are in crates/nodes, the count in crates/validate, what is read of the header or one node in crates/nodes, the node that uses a
-// site in crates/nodes, the comparisons in crates/strength, class hierarchies in crates/strength, ordering in crates/ordering, reading the
-// order in crates/ordering, culling and erasing in crates/erasing, appending a child's name in crates/deepening, reading and writing a snapshot in
-// crates/snapshot. Nothing is defined here.
+// The public library: each call of document 01 on an arena that the caller lends (docs/LAYOUT.md),
+// 327,744 bytes. No call has a `requires`: any bytes may be lent, any numbers and paths given. Each
+// puts its questions in document 01's order; the first whose answer is no is the refusal, and then
+// every lent byte is as it was. What a call answers and leaves is its one function of
+// model/specs/Calls.antt, made a call on bytes by model/specs/ArenaCalls.antt.
+// Starting and adding are in crates/nodes, the count in crates/validate, what is read of the header
+// or one node in crates/nodes, the node that uses a site in crates/nodes, the comparisons in
+// crates/strength, class hierarchies in crates/strength, ordering in crates/ordering, reading the
+// order in crates/ordering, culling and erasing in crates/erasing, appending a child's name in
+// crates/deepening, reading and writing a snapshot in crates/snapshot. Nothing is defined here.
 pub use deepening::calls::append_child_name_to_all_sites;
 pub use deepening::calls::seed_child;
 pub use erasing::calls::cull_subtrees_without_opinions;

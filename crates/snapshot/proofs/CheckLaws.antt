@@ -1,5 +1,6 @@
--- What the proof of the reader's second pass cites. Its state is `CheckedTo`: the reading from here, of the graph of the records that passed, is refused
--- as all of it is; and `path_bytes`, `has_root` and `prims` are those of that graph. Start, step and end. Assumes nothing.
+-- What the proof of the reader's second pass cites. Its state is `CheckedTo`: the reading from
+-- here, of the graph of the records that passed, is refused as all of it is; and `path_bytes`,
+-- `has_root` and `prims` are those of that graph. Start, step and end. Assumes nothing.
 use mathlib.Core.Path.{_≡_, refl, sym, ap, _∙_}
 use mathlib.Core.Logic.{_⊎_, inl, inr}
 use mathlib.Core.Bool.{Bool, false, _&&_, _||_, and-eq-true-iff}
@@ -21,7 +22,7 @@ use Rattle.model.specs.Snapshot.{field, readRecord}
 use Rattle.model.specs.Refusals.{refusalNumber, refusal, mostNodes, mostPathBytes, pathBytes, recordQuestions}
 use Rattle.model.specs.Calls.{Outcome, readIf, readOn, readOr12, readInto}
 use Rattle.model.specs.declared.Refusal.{Refusal}
-use Rattle.model.specs.declared.Finished.the-variants.{Done, Refused as FinishRefused}
+use Rattle.model.specs.declared.UnitResult.the-variants.{Done, Refused as FinishRefused}
 use Rattle.laws.proofs.PathLemmas.{length-snoc}
 use Rattle.laws.proofs.ListLaws.{any-below-cong}
 use Rattle.laws.proofs.SnapshotReadLaws.{built, built-nodes, record-passes}

@@ -1,5 +1,6 @@
--- What the proofs of the reader's first pass cite: a field that is there and one that is missing; a record that fits (`RecordAt`); the front of a snapshot
--- (`Front`); and the loop over the records, that the rest passes question 12 where all of it does (`Asked`). Assumes nothing.
+-- What the proofs of the reader's first pass cite: a field that is there and one that is missing; a
+-- record that fits (`RecordAt`); the front of a snapshot (`Front`); and the loop over the records,
+-- that the rest passes question 12 where all of it does (`Asked`). Assumes nothing.
 use mathlib.Core.Path.{_≡_, refl, sym, ap, _∙_}
 use mathlib.Core.Bool.{Bool, true, false, _&&_, cond, false≢true, true≢false}
 use mathlib.Core.Option.{Option, none, some}
@@ -13,7 +14,7 @@ use lib.Seq.{drop-drop}
 use borrow.Author.Tests.{leb-true, leb-false, le-leb, lt-leb, eqb-true, eq-eqb}
 use Rattle.model.specs.Node.{Node}
 use Rattle.model.specs.Snapshot.{value, field, readRecord, fitsRecord, before, readRecords, readSnapshot}
-use Rattle.model.specs.declared.Numbered.the-variants.{Number, Refused}
+use Rattle.model.specs.declared.NumberResult.the-variants.{Number, Refused}
 use Rattle.model.specs.declared.Refusal.the-variants.{Snapshot}
 use Rattle.laws.proofs.SnapshotLaws.{and-first, and-second}
 use Rattle.snapshot.specs.SnapshotReading.{fieldAt, lengthAt, countedAs, RecordAt}
@@ -101,11 +102,11 @@ pub record Front (bytes : List ℕ) : Type 0 where
   pub version : field 4 1 bytes ≡ 1
 
 -- its tests
-abbrev pub frontRight : List ℕ → Bool
-frontRight bytes = leb 7 (length bytes) && (eqb (4 + field 0 4 bytes) (length bytes) && eqb (field 4 1 bytes) 1)
+abbrev pub frontValid : List ℕ → Bool
+frontValid bytes = leb 7 (length bytes) && (eqb (4 + field 0 4 bytes) (length bytes) && eqb (field 4 1 bytes) 1)
 
 module _ (bytes : List ℕ) where
-  pub front-tested : frontRight bytes ≡ true → Front bytes
+  pub front-tested : frontValid bytes ≡ true → Front bytes
   front-tested e = record {
     header = leb-true 7 (length bytes) (search and-first);
     counted = eqb-true (4 + field 0 4 bytes) (length bytes) (search (and-first, and-second));
@@ -123,9 +124,9 @@ module _ (bytes : List ℕ) where
 
   pub front-wrong : (Front bytes → ⊥) → Refused Snapshot ≡ countedAs (readSnapshot bytes)
   unfolding readSnapshot
-  front-wrong wrong = go (frontRight bytes) refl
+  front-wrong wrong = go (frontValid bytes) refl
     where
-      go : (t : Bool) → frontRight bytes ≡ t → Refused Snapshot ≡ countedAs (cond t (readRecords (field 5 2 bytes) (drop 7 bytes)) none)
+      go : (t : Bool) → frontValid bytes ≡ t → Refused Snapshot ≡ countedAs (cond t (readRecords (field 5 2 bytes) (drop 7 bytes)) none)
       go true e = absurd (wrong (front-tested e))
       go false e = refl
 

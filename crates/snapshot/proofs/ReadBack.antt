@@ -1,5 +1,6 @@
--- What is written reads back: of an arena that holds a graph, the snapshot is accepted with the same nodes, the child lists in node order, not ordered,
--- shallow found anew; and an arena that it is read into holds that graph: `written-reads-back`. Assumes nothing.
+-- What is written reads back: of an arena that holds a graph, the snapshot is accepted with the
+-- same nodes, the child lists in node order, not ordered, shallow found anew; and an arena that it
+-- is read into holds that graph: `written-reads-back`. Assumes nothing.
 use mathlib.Core.Path.{_≡_, sym, ap, _∙_}
 use mathlib.Core.Bool.{true}
 use mathlib.Core.List.{List}
@@ -11,7 +12,7 @@ use Rattle.model.specs.Graph.{Graph, emptyGraph, size, nodeAt, isShallow}
 use Rattle.model.specs.Snapshot.{writeSnapshot}
 use Rattle.model.specs.Calls.{Outcome, readInto}
 use Rattle.model.specs.Arena.{arenaBytes, decode, encode, holdsGraph}
-use Rattle.model.specs.ArenaCalls.{left}
+use Rattle.model.specs.ArenaCalls.{arenaAfter}
 use Rattle.laws.proofs.BigEndianLaws.{Bytes}
 use Rattle.laws.proofs.SnapshotLaws.{NodesFit}
 use Rattle.laws.proofs.SnapshotReadLaws.{built, built-nodes, Fresh, Grows, grows-fresh, written-grows-back}
@@ -23,7 +24,7 @@ use Rattle.arena.proofs.HeldEncodable.{held-encodable}
 
 -- the arena `into`, after the snapshot of the graph g was read into it
 abbrev pub readBack : Graph → List ℕ → List ℕ
-readBack g into = left (readInto (writeSnapshot g) emptyGraph) into
+readBack g into = arenaAfter (readInto (writeSnapshot g) emptyGraph) into
 
 pub record ReadsBack (g : Graph) : Type 0 where
   pub accepted : readInto (writeSnapshot g) emptyGraph .refused ≡ 0
@@ -45,7 +46,7 @@ encodable-reads-back g ok =
     let read = written-grows-back g emptyGraph (ok .fit) grow in
     let fine = built-encodable (g .nodes) (ok .fit) grow in
     let same : readInto (writeSnapshot g) emptyGraph .graph ≡ built (g .nodes) = ap (λ (o : Outcome). o .graph) read in
-    let stored : (into : List ℕ) → readBack g into ≡ encode (built (g .nodes)) into = λ into. ap (λ (o : Outcome). left o into) read in
+    let stored : (into : List ℕ) → readBack g into ≡ encode (built (g .nodes)) into = λ into. ap (λ (o : Outcome). arenaAfter o into) read in
     record {
       accepted = ap (λ (o : Outcome). o .refused) read;
       count = ap (λ (o : Outcome). o .value) read;

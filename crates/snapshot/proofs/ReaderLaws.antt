@@ -1,4 +1,5 @@
--- What the reader's proof cites: what each pass answers, as what reading comes to. Refused by any of them, the arena keeps its bytes. Assumes nothing.
+-- What the reader's proof cites: what each pass answers, as what reading comes to. Refused by any
+-- of them, the arena keeps its bytes. Assumes nothing.
 use mathlib.Core.Path.{_≡_, refl, sym, ap, _∙_}
 use mathlib.Core.Option.{Option, none, some}
 use mathlib.Core.List.{List}
@@ -13,8 +14,8 @@ use Rattle.model.specs.Arena.{encode}
 use Rattle.model.specs.ArenaCalls.{Wrote}
 use Rattle.model.specs.declared.Refusal.{Refusal}
 use Rattle.model.specs.declared.Refusal.the-variants.{Snapshot}
-use Rattle.model.specs.declared.Numbered.the-variants.{Number, Refused}
-use Rattle.model.specs.declared.Finished.the-variants.{Refused as FinishRefused}
+use Rattle.model.specs.declared.NumberResult.the-variants.{Number, Refused}
+use Rattle.model.specs.declared.UnitResult.the-variants.{Refused as FinishRefused}
 use Rattle.laws.proofs.SnapshotReadLaws.{built-nodes, refused-read-keeps}
 use Rattle.laws.proofs.ArenaCallLaws.{refusal-some, wrote-refused, wrote-number}
 use Rattle.snapshot.specs.SnapshotReading.{countedAs, nodesOr, nodesRead, Exact, RecordsChecked}

@@ -1,4 +1,5 @@
--- The ways that the two calls on snapshots end: `read-not-arena`, `read-into`, and those of writing. Assumes nothing.
+-- The ways that the two calls on snapshots end: `read-not-arena`, `read-into`, and those of
+-- writing. Assumes nothing.
 use mathlib.Core.Path.{_≡_}
 use mathlib.Core.Bool.{true, false}
 use mathlib.Core.List.{List}
@@ -11,8 +12,8 @@ use Rattle.model.specs.Calls.{Outcome}
 use Rattle.model.specs.Arena.{arenaBytes, decode, holdsGraph}
 use Rattle.model.specs.ArenaCalls.{intoArena, Wrote}
 use Rattle.model.specs.declared.Refusal.the-variants.{Size, NotAGraph}
-use Rattle.model.specs.declared.Numbered.{Numbered}
-use Rattle.model.specs.declared.Numbered.the-variants.{Number, Refused}
+use Rattle.model.specs.declared.NumberResult.{NumberResult}
+use Rattle.model.specs.declared.NumberResult.the-variants.{Number, Refused}
 use Rattle.laws.proofs.ArenaCallLaws.{answered-refused, answered-number, wrote-refused}
 use Rattle.snapshot.specs.Snapshots.{writeQuestions, SnapshotWritten}
 
@@ -23,7 +24,7 @@ module _ (o : Outcome) (bs : List ℕ) where
       let e = ne-eqb (length bs) arenaBytes h in
       wrote-refused bs (intoArena o bs) Size (rw e) (rw e)
 
-  pub read-into : (r : Numbered) (after : List ℕ) → length bs ≡ arenaBytes → Wrote o bs r after → Wrote (intoArena o bs) bs r after
+  pub read-into : (r : NumberResult) (after : List ℕ) → length bs ≡ arenaBytes → Wrote o bs r after → Wrote (intoArena o bs) bs r after
   unfolding intoArena
   read-into r after h w = rw (eq-eqb (length bs) arenaBytes h) w
 

@@ -1,5 +1,6 @@
--- What the proofs of the reader's last pass cite. The loop's state is `Filled`: the arena is the encoding of the graph of the first n records. Start, step
--- and end; and that a record's node may be appended. Assumes nothing.
+-- What the proofs of the reader's last pass cite. The loop's state is `Filled`: the arena is the
+-- encoding of the graph of the first n records. Start, step and end; and that a record's node may
+-- be appended. Assumes nothing.
 use mathlib.Core.Path.{_≡_, refl, sym, ap, subst, _∙_}
 use mathlib.Core.List.{List, [], _∷_, foldl}
 use Prim.Native.Nat.{ℕ, zero, suc, _+_, _-_, _≤_, _<_}

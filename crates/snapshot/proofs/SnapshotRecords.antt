@@ -1,5 +1,6 @@
--- Record by record over bytes that pass question 12: the place of the next record (`Reached`), that it is whole (`record-here`), the node that it is
--- (`node-here`), and the place behind it (`reached-more`). Assumes nothing.
+-- Record by record over bytes that pass question 12: the place of the next record (`Reached`), that
+-- it is whole (`record-here`), the node that it is (`node-here`), and the place behind it
+-- (`reached-more`). Assumes nothing.
 use mathlib.Core.Path.{_≡_, refl, sym, ap, _∙_}
 use mathlib.Core.Bool.{Bool, true, false, cond}
 use mathlib.Core.Option.{Option, none, some}
@@ -12,17 +13,17 @@ use lib.Seq.{drop-cons, drop-drop, length-take-le}
 use Rattle.model.specs.Node.{Node, noNode}
 use Rattle.model.specs.Graph.{nodeAt}
 use Rattle.model.specs.Snapshot.{field, readRecord, fitsRecord, before, readRecords, readSnapshot}
-use Rattle.model.specs.declared.Numbered.the-variants.{Number}
+use Rattle.model.specs.declared.NumberResult.the-variants.{Number}
 use Rattle.snapshot.specs.SnapshotReading.{countedAs, nodesRead, Exact, RecordAt}
-use Rattle.snapshot.proofs.FieldLaws.{passes, length-here, fits-at, Front, frontRight, front-tested, front-right, passed-counted}
+use Rattle.snapshot.proofs.FieldLaws.{passes, length-here, fits-at, Front, frontValid, front-tested, front-right, passed-counted}
 
 -- ---- The front
 
 front-read : (bytes : List ℕ) (xs : List Node) → readSnapshot bytes ≡ some xs → Front bytes
 unfolding readSnapshot
-front-read bytes xs e = go (frontRight bytes) refl e
+front-read bytes xs e = go (frontValid bytes) refl e
   where
-    go : (t : Bool) → frontRight bytes ≡ t → cond t (readRecords (field 5 2 bytes) (drop 7 bytes)) none ≡ some xs → Front bytes
+    go : (t : Bool) → frontValid bytes ≡ t → cond t (readRecords (field 5 2 bytes) (drop 7 bytes)) none ≡ some xs → Front bytes
     go true q r = front-tested bytes q
     go false q r = let z : _≡_ {A = ℕ} 0 1 = cc in absurd (omega arith)
 

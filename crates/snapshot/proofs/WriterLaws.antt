@@ -1,5 +1,6 @@
--- What the writer's proofs cite: the bytes of the first records, which grow at the end by a slot's record (`records-more`); that a graph's snapshot fits
--- the lent bytes (`records-short`); and that the front before the records is the snapshot (`front-records`). Assumes nothing.
+-- What the writer's proofs cite: the bytes of the first records, which grow at the end by a slot's
+-- record (`records-more`); that a graph's snapshot fits the lent bytes (`records-short`); and that
+-- the front before the records is the snapshot (`front-records`). Assumes nothing.
 use mathlib.Core.Path.{_≡_, refl, sym, ap, _∙_}
 use mathlib.Core.List.{List, [], _∷_, _++_, append-assoc, append-nil}
 use Prim.Native.Nat.{ℕ, suc, _+_, _*_, _-_, _≤_, _<_}

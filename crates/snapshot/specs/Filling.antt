@@ -1,4 +1,5 @@
--- What the reader's last pass asks of its parts: the node of a record by value, a record that may be appended, and an arena that may be filled.
+-- What the reader's last pass asks of its parts: the node of a record by value, a record that may
+-- be appended, and an arena that may be filled.
 use mathlib.Core.Path.{_≡_}
 use mathlib.Core.List.{List}
 use Prim.Native.Nat.{ℕ, _≤_}
@@ -8,7 +9,7 @@ use Rattle.model.specs.Graph.{emptyGraph}
 use Rattle.model.specs.Snapshot.{field, readRecord}
 use Rattle.model.specs.Refusals.{refusal, recordQuestions}
 use Rattle.model.specs.Calls.{readInto}
-use Rattle.model.specs.ArenaCalls.{Opened}
+use Rattle.model.specs.ArenaCalls.{ValidArena}
 use Rattle.model.specs.Arena.{arenaBytes, countIn, decode}
 use Rattle.arena.specs.declared.Node.{Node}
 use Rattle.snapshot.specs.SnapshotReading.{nodesRead, Exact, Named}
@@ -49,7 +50,7 @@ NodeTaken body prims Taken.Missing = ⊥
 
 -- the arena holds n nodes, and the record passes the questions after them
 pub record CanAppendRecord (arena : List ℕ) (n : ℕ) (body : List ℕ) (prims : ℕ) : Type 0 where
-  pub opened : Opened arena
+  pub opened : ValidArena arena
   pub counted : n ≡ countIn arena
   pub accepted : refusal (recordQuestions (decode arena) (readRecord body)) ≡ 0
   pub named : prims ≡ primCount (readRecord body .path)

@@ -1,5 +1,6 @@
--- What the passes of the reader promise each other: a field or that it is missing; question 12 over all of the bytes; the nodes of bytes that pass it;
--- and the questions of the records. What reading comes to in the end is model/specs/Calls.antt's `readInto`.
+-- What the passes of the reader promise each other: a field or that it is missing; question 12 over
+-- all of the bytes; the nodes of bytes that pass it; and the questions of the records. What reading
+-- comes to in the end is model/specs/Calls.antt's `readInto`.
 use mathlib.Core.Path.{_≡_}
 use mathlib.Core.Bool.{Bool, cond}
 use mathlib.Core.Option.{Option, none, some}
@@ -12,11 +13,11 @@ use Rattle.model.specs.Node.{Node}
 use Rattle.model.specs.Graph.{emptyGraph, nodeAt}
 use Rattle.model.specs.Snapshot.{field, fitsRecord, readSnapshot}
 use Rattle.model.specs.Refusals.{Question}
-use Rattle.model.specs.Answers.{finishedRefusal}
+use Rattle.model.specs.Answers.{unitRefusal}
 use Rattle.model.specs.Calls.{readInto}
-use Rattle.model.specs.declared.Finished.{Finished}
-use Rattle.model.specs.declared.Numbered.{Numbered}
-use Rattle.model.specs.declared.Numbered.the-variants.{Number, Refused}
+use Rattle.model.specs.declared.UnitResult.{UnitResult}
+use Rattle.model.specs.declared.NumberResult.{NumberResult}
+use Rattle.model.specs.declared.NumberResult.the-variants.{Number, Refused}
 use Rattle.model.specs.declared.Refusal.the-variants.{Snapshot}
 use Rattle.validate.specs.RecordCheck.{questionsAt}
 use Rattle.snapshot.specs.declared.fields.Byte.{Byte}
@@ -51,7 +52,7 @@ lengthAt at bytes = cond (fitsRecord (drop at bytes)) (some (field at 2 bytes)) 
 
 -- ---- Question 12
 
-abbrev pub countedAs : Option (List Node) → Numbered
+abbrev pub countedAs : Option (List Node) → NumberResult
 countedAs none = Refused Snapshot
 countedAs (some xs) = Number (length xs)
 
@@ -85,6 +86,6 @@ abbrev pub Named : List Node → List ℕ → Type 0
 Named xs prims = (k : ℕ) → k < length xs → getD prims k 0 ≡ primCount (nodeAt xs k .path)
 
 -- the refusal of reading the bytes, or none and the prim counts
-pub record RecordsChecked (bytes : List ℕ) (r : Finished) (prims : List ℕ) : Type 0 where
-  pub refused : finishedRefusal r ≡ readInto bytes emptyGraph .refused
-  pub named : finishedRefusal r ≡ 0 → Named (nodesRead bytes) prims
+pub record RecordsChecked (bytes : List ℕ) (r : UnitResult) (prims : List ℕ) : Type 0 where
+  pub refused : unitRefusal r ≡ readInto bytes emptyGraph .refused
+  pub named : unitRefusal r ≡ 0 → Named (nodesRead bytes) prims

@@ -1,11 +1,12 @@
-// The reader's first two passes: question 12 over all of the bytes, and questions 4 to 7 record by record. They write nothing.
+// The reader's first two passes: question 12 over all of the bytes, and questions 4 to 7 record by
+// record. They write nothing.
 use crate::fields;
 use crate::fields::Byte;
 use crate::fields::Field;
 use crate::fields::Short;
-use model::Finished;
-use model::Numbered;
+use model::NumberResult;
 use model::Refusal;
+use model::UnitResult;
 use validate::Checked;
 ghost use mathlib.Core.Path.{_≡_};
 ghost use mathlib.Core.Bool.{_||_, _&&_};
@@ -17,8 +18,9 @@ ghost use Rattle.path.specs.Tables.{Tables};
 ghost use Rattle.validate.specs.RecordCheck.{RecordChecked};
 ghost use Rattle.snapshot.specs.SnapshotReading.{countedAs, Exact, RecordAt, questionsOf, RecordsChecked};
 
-// The rest of question 12: whether `count` records stand from byte 7 on, each as long as it says, and nothing behind them.
-fn check_record_lengths(bytes: &[u8], count: u32) -> Numbered
+// The rest of question 12: whether `count` records stand from byte 7 on, each as long as it says,
+// and nothing behind them.
+fn check_record_lengths(bytes: &[u8], count: u32) -> NumberResult
     requires { ⌜ 7 ≤ length (now bytes) ⌝ }
     ensures { λ r. ⌜ r ≡ countedAs (readRecords count (drop 7 (now (bytes .entry)))) ⌝ }
 {
@@ -26,35 +28,35 @@ fn check_record_lengths(bytes: &[u8], count: u32) -> Numbered
     let mut left = count;
     while 0 < left {
         let Short::Value(length) = fields::take_length(bytes, at) else {
-            return Numbered::Refused(Refusal::Snapshot);
+            return NumberResult::Refused(Refusal::Snapshot);
         };
         at += 2 + (length as usize);
         left -= 1;
     }
     if at < bytes.len() {
-        return Numbered::Refused(Refusal::Snapshot);
+        return NumberResult::Refused(Refusal::Snapshot);
     }
-    Numbered::Number(count)
+    NumberResult::Number(count)
 }
 
 // Question 12: how many records there are, where version, count and lengths are exact.
-pub fn check_lengths(bytes: &[u8]) -> Numbered
+pub fn check_lengths(bytes: &[u8]) -> NumberResult
     ensures { λ r. ⌜ r ≡ countedAs (readSnapshot (now (bytes .entry))) ⌝ }
 {
     let Field::Value(following) = fields::take_u32(bytes, 0) else {
-        return Numbered::Refused(Refusal::Snapshot);
+        return NumberResult::Refused(Refusal::Snapshot);
     };
     if 4 + (following as usize) != bytes.len() {
-        return Numbered::Refused(Refusal::Snapshot);
+        return NumberResult::Refused(Refusal::Snapshot);
     }
     let Byte::Value(version) = fields::take_u8(bytes, 4) else {
-        return Numbered::Refused(Refusal::Snapshot);
+        return NumberResult::Refused(Refusal::Snapshot);
     };
     if version != 1 {
-        return Numbered::Refused(Refusal::Snapshot);
+        return NumberResult::Refused(Refusal::Snapshot);
     }
     let Short::Value(count) = fields::take_u16(bytes, 5) else {
-        return Numbered::Refused(Refusal::Snapshot);
+        return NumberResult::Refused(Refusal::Snapshot);
     };
     check_record_lengths(bytes, count as u32)
 }
@@ -82,7 +84,8 @@ fn with_root(has_root: bool, n: u32, arc: u8) -> bool
     has_root
 }
 
-// Questions 4 to 7 of a record, where n nodes with `path_bytes` bytes of paths come before it. A field that is missing, which none is, refuses 12.
+// Questions 4 to 7 of a record, where n nodes with `path_bytes` bytes of paths come before it. A
+// field that is missing, which none is, refuses 12.
 fn check_one(
     kinds: &[u8],
     pairs: &[u64],
@@ -126,7 +129,7 @@ fn check_one(
 }
 
 // Questions 4 to 7, record by record: the first no, or the prim count of each path in `prims`.
-pub fn check_records(bytes: &[u8], count: u32, prims: &mut [u8]) -> Finished
+pub fn check_records(bytes: &[u8], count: u32, prims: &mut [u8]) -> UnitResult
     requires { ⌜ Exact (now bytes) count ⌝ }
     requires { ⌜ length (now prims) ≡ 1024 ⌝ }
     ensures { λ r. ⌜ RecordsChecked (now (bytes .entry)) r (now (prims .exit)) ⌝ }
@@ -142,7 +145,7 @@ pub fn check_records(bytes: &[u8], count: u32, prims: &mut [u8]) -> Finished
         let checked = check_one(&kinds, &pairs, record, n, path_bytes, has_root);
         match checked {
             Checked::Refused(refusal) => {
-                return Finished::Refused(refusal);
+                return UnitResult::Refused(refusal);
             }
             Checked::Accepted(prim_count) => {
                 prims[n as usize] = prim_count;
@@ -153,5 +156,5 @@ pub fn check_records(bytes: &[u8], count: u32, prims: &mut [u8]) -> Finished
             }
         }
     }
-    Finished::Done
+    UnitResult::Done
 }

@@ -1,4 +1,5 @@
-// The fields of a snapshot, by their width. Each read answers an enum: the field, or that the bytes end before it does.
+// The fields of a snapshot, by their width. Each read answers an enum: the field, or that the bytes
+// end before it does.
 ghost use mathlib.Core.Path.{_≡_};
 ghost use Prim.Native.Nat.{_≤_};
 ghost use lib.ListN.{length};

@@ -1,4 +1,5 @@
-// The reader's last pass: an arena is filled with the nodes of a snapshot that passed every question. It decides nothing.
+// The reader's last pass: an arena is filled with the nodes of a snapshot that passed every
+// question. It decides nothing.
 use crate::fields::Byte;
 use crate::fields::Field;
 use crate::fields::Short;
@@ -19,7 +20,8 @@ enum Ids {
     Missing,
 }
 
-// The depth, sibling number, restriction, spec_from and has-specs of a record, or that one is missing.
+// The depth, sibling number, restriction, spec_from and has-specs of a record, or that one is
+// missing.
 enum Tail {
     Values(u16, u16, u16, u16, u8),
     Missing,
@@ -128,7 +130,7 @@ fn clear(arena: &mut [u8])
     ensures { λ _. ⌜ now (arena .exit) ≡ encode emptyGraph (now (arena .entry)) ⌝ }
 {
     arena::write_count(arena, 0);
-    arena::write_marks(arena, false, false, false);
+    arena::write_state(arena, false, false, false);
 }
 
 // Fills the arena with the nodes of the snapshot, whose prim counts are in `prims`.

@@ -1,5 +1,6 @@
-// The writer: it copies the records of an arena into lent bytes, one after the other, and then stores the seven bytes before them. It puts no question and never
-// changes the arena. specs/Writing.antt has what it asks of its callers.
+// The writer: it copies the records of an arena into lent bytes, one after the other, and then
+// stores the seven bytes before them. It puts no question and never changes the arena.
+// specs/Writing.antt has what it asks of its callers.
 ghost use mathlib.Core.Path.{_≡_};
 ghost use Prim.Native.Nat.{_+_, _-_};
 ghost use lib.ListN.{length};

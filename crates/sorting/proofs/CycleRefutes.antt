@@ -1,4 +1,5 @@
--- Three siblings of an arena: any two are a pair to compare, and in a cycle they have no order (`cycle-refutes`). Assumes nothing.
+-- Three siblings of an arena: any two are a pair to compare, and in a cycle they have no order
+-- (`cycle-refutes`). Assumes nothing.
 use mathlib.Core.Path.{_≡_, sym, _∙_}
 use mathlib.Core.Bool.{true, false, false≢true}
 use mathlib.Core.List.{List}
@@ -8,7 +9,7 @@ use Rattle.model.specs.Graph.{size}
 use Rattle.model.specs.Strength.{viewOf}
 use Rattle.model.specs.Order.{isStronger, hasOrder}
 use Rattle.model.specs.Arena.{localRootIn, decode}
-use Rattle.model.specs.ArenaCalls.{Opened}
+use Rattle.model.specs.ArenaCalls.{ValidArena}
 use Rattle.laws.proofs.Trees.{Child, TreeOf}
 use Rattle.laws.proofs.OrderRings.{ring-no-order}
 use Rattle.arena.proofs.ReadNodes.{sizes}
@@ -17,7 +18,7 @@ use Rattle.certificate.specs.Certificate.{ChildOf}
 use Rattle.sorting.specs.Cycle.{Three}
 use Rattle.certificate.specs.Sorts.{Sorts}
 
-module _ (bs : List ℕ) (o : Opened bs) where
+module _ (bs : List ℕ) (o : ValidArena bs) where
   child-of : (v c : ℕ) → ChildOf bs v c → Child (size (decode bs)) (viewOf (decode bs) .parent) v c
   child-of v c h = (h .0, omega (arith, h .1, sizes bs o), h .2)
 

@@ -1,5 +1,6 @@
--- Where each node with a next sibling precedes it, every child list is sorted as it stands: the state of `stands`' loop, and its end
--- (`standing-ends`). A next sibling is a node (`next-readable`). Assumes nothing.
+-- Where each node with a next sibling precedes it, every child list is sorted as it stands: the
+-- state of `stands`' loop, and its end (`standing-ends`). A next sibling is a node
+-- (`next-readable`). Assumes nothing.
 use mathlib.Core.Path.{_≡_, refl, sym, ap, _∙_}
 use mathlib.Core.Bool.{Bool, true, false, cond}
 use mathlib.Core.List.{List, [], _∷_}
@@ -17,7 +18,7 @@ use Rattle.model.specs.Order.{isLess, Sorted, isStronger}
 use Rattle.model.specs.Places.{keyLines}
 use Rattle.model.specs.Strength.{View, first, smaller, plainLines, compareSiblingNodeStrength}
 use Rattle.model.specs.Arena.{countIn, nextSiblingIn, chainIn, childrenIn, firstChildIn, afterIn, firstOf, decode}
-use Rattle.model.specs.ArenaCalls.{Opened, Readable}
+use Rattle.model.specs.ArenaCalls.{ValidArena, ValidNode}
 use Rattle.laws.proofs.BigEndianLaws.{Bytes}
 use Rattle.laws.proofs.ListLaws.{pairs-imp}
 use Rattle.laws.proofs.SmallerLaws.{smaller-eq}
@@ -76,41 +77,41 @@ precedes-trans u a b c p q = record {
 
 -- ---- The loop
 
-abbrev pub Standing : List ℕ → ℕ → Type 0
-Standing bs k = (x : ℕ) → x < k → PrecedesNext bs x
+abbrev pub ValidNodeAndRoot : List ℕ → ℕ → Type 0
+ValidNodeAndRoot bs k = (x : ℕ) → x < k → PrecedesNext bs x
 
-pub standing-step : (bs : List ℕ) (k : ℕ) → Standing bs k → PrecedesNext bs k → Standing bs (k + 1)
+pub standing-step : (bs : List ℕ) (k : ℕ) → ValidNodeAndRoot bs k → PrecedesNext bs k → ValidNodeAndRoot bs (k + 1)
 standing-step bs k s good x h = go (eq-or-lt-of-le {n = x} {m = k} (omega arith))
   where
     go : (x ≡ k) ⊎ (x < k) → PrecedesNext bs x
     go (inl e) = rw e good
     go (inr less) = s x less
 
-module _ (bs : List ℕ) (bytes : Bytes bs) (o : Opened bs) where
+module _ (bs : List ℕ) (bytes : Bytes bs) (o : ValidArena bs) where
   tree : TreeOf (decode bs)
   tree = held-encodable bs bytes (o .whole) (o .holds) .legal .tree
 
   links : LegalView (size (decode bs)) (viewIn bs)
   links = held-encodable bs bytes (o .whole) (o .holds) .legal .links
 
-  pub next-readable : (x : ℕ) → x < countIn bs → (nextSiblingIn bs x ≡ invalid → ⊥) → Readable bs (nextSiblingIn bs x)
+  pub next-readable : (x : ℕ) → x < countIn bs → (nextSiblingIn bs x ≡ invalid → ⊥) → ValidNode bs (nextSiblingIn bs x)
   next-readable x h some =
       go (childrenOf (decode bs) (viewIn bs .parent x)) (children-in bs tree (viewIn bs .parent x)) (next-decode bs (held bs (o .holds)) x h)
     where
-      first-readable : (v : ℕ) (cs : List ℕ) → All (ChildIn bs v) cs → firstOf cs ≡ nextSiblingIn bs x → Readable bs (nextSiblingIn bs x)
+      first-readable : (v : ℕ) (cs : List ℕ) → All (ChildIn bs v) cs → firstOf cs ≡ nextSiblingIn bs x → ValidNode bs (nextSiblingIn bs x)
       first-readable v [] all e = absurd (some (sym e))
       first-readable v (c ∷ cs) all e = record { opened = o; below = omega (arith, all .0 .1, sizes bs o) }
 
-      go : (cs : List ℕ) → All (ChildIn bs (viewIn bs .parent x)) cs → afterIn x cs ≡ nextSiblingIn bs x → Readable bs (nextSiblingIn bs x)
+      go : (cs : List ℕ) → All (ChildIn bs (viewIn bs .parent x)) cs → afterIn x cs ≡ nextSiblingIn bs x → ValidNode bs (nextSiblingIn bs x)
       go [] all e = absurd (some (sym e))
       go (c ∷ cs) all e = split (eqb c x) e (go cs (all .1))
         where
           split : (t : Bool) → cond t (firstOf cs) (afterIn x cs) ≡ nextSiblingIn bs x
-              → (afterIn x cs ≡ nextSiblingIn bs x → Readable bs (nextSiblingIn bs x)) → Readable bs (nextSiblingIn bs x)
+              → (afterIn x cs ≡ nextSiblingIn bs x → ValidNode bs (nextSiblingIn bs x)) → ValidNode bs (nextSiblingIn bs x)
           split true e later = first-readable (viewIn bs .parent x) cs (all .1) e
           split false e later = later e
 
-  module _ (s : Standing bs (countIn bs)) where
+  module _ (s : ValidNodeAndRoot bs (countIn bs)) where
     chain-neighbours : (k n : ℕ) → Neighbours (Precedes (viewIn bs)) (chainIn bs k n)
     chain-neighbours zero n = tt
     chain-neighbours (suc k) n = go (ltb n (countIn bs)) refl (chain-neighbours k (nextSiblingIn bs n))

@@ -1,4 +1,5 @@
--- Child lists that stand in order already: what is read of two neighbours, and what follows for the graph.
+-- Child lists that stand in order already: what is read of two neighbours, and what follows for the
+-- graph.
 use mathlib.Core.Path.{_≡_}
 use mathlib.Core.Bool.{Bool, true}
 use mathlib.Core.List.{List}

@@ -1,5 +1,6 @@
--- The laws of the definitions, restated for the answers of the two comparisons: the other way round Less and Greater change places (`nodes-flip-answers`,
--- `siblings-flip-answers`), and Equal is for a node and itself alone. Assumes nothing.
+-- The laws of the definitions, restated for the answers of the two comparisons: the other way round
+-- Less and Greater change places (`nodes-flip-answers`, `siblings-flip-answers`), and Equal is for
+-- a node and itself alone. Assumes nothing.
 use mathlib.Core.Path.{_≡_, refl, sym, ap, _∙_}
 use mathlib.Core.List.{List}
 use Prim.Native.Nat.{ℕ}
@@ -12,8 +13,8 @@ use Rattle.model.specs.Arena.{decode}
 use Rattle.model.specs.ArenaCalls.{askArena, valueUnless, AnsweredOrder}
 use Rattle.model.specs.declared.Ordering.{Ordering}
 use Rattle.model.specs.declared.Ordering.the-variants.{Less, Equal, Greater}
-use Rattle.model.specs.declared.Compared.{Compared}
-use Rattle.model.specs.declared.Compared.the-variants.{As}
+use Rattle.model.specs.declared.OrderingResult.{OrderingResult}
+use Rattle.model.specs.declared.OrderingResult.the-variants.{As}
 use Rattle.laws.proofs.StrengthFlips.{flip, siblings-flip, nodes-flip, siblings-equal, siblings-same, nodes-equal}
 use Rattle.laws.proofs.StrengthLaws.{compare-same}
 
@@ -39,10 +40,10 @@ module _ (bs : List ℕ) where
   abbrev viewed : View
   viewed = viewOf (decode bs)
 
-  abbrev pub NodesCompared : ℕ → ℕ → Compared → Type 0
+  abbrev pub NodesCompared : ℕ → ℕ → OrderingResult → Type 0
   NodesCompared a b r = AnsweredOrder (askArena bs (comparesNodes (decode bs) a b)) (compareNodeStrength viewed a b) r
 
-  abbrev pub SiblingsCompared : ℕ → ℕ → Compared → Type 0
+  abbrev pub SiblingsCompared : ℕ → ℕ → OrderingResult → Type 0
   SiblingsCompared a b r = AnsweredOrder (askArena bs (comparesSiblings (decode bs) a b)) (compareSiblingNodeStrength viewed a b) r
 
   nodes-as : (a b : ℕ) (o : Ordering) → NodesCompared a b (As o) → o ≡ compareNodeStrength viewed a b

@@ -1,4 +1,5 @@
--- The two comparisons' answers from their parts: a verdict on two siblings, and where the chains of two nodes part. Assumes nothing.
+-- The two comparisons' answers from their parts: a verdict on two siblings, and where the chains of
+-- two nodes part. Assumes nothing.
 use mathlib.Core.Path.{_≡_, refl, sym, ap, _∙_}
 use mathlib.Core.List.{List}
 use Prim.Native.Nat.{ℕ, _+_, _≤_, _<_}
@@ -6,7 +7,7 @@ use native.Mathlib.Omega.{arith}
 use Rattle.model.specs.declared.Ordering.{Ordering}
 use Rattle.model.specs.Strength.{View, first, smaller, compareSiblingNodeStrength, compareNodeStrength, siblingLines}
 use Rattle.laws.proofs.StrengthLaws.{compare-siblings-lines, compare-same}
-use Rattle.view.specs.View.{viewIn, Standing}
+use Rattle.view.specs.View.{viewIn, ValidNodeAndRoot}
 use Rattle.view.proofs.ViewLaws.{legal, standing-lower}
 use Rattle.view.specs.declared.parting.Parting.{Parting}
 use Rattle.view.specs.declared.parting.Parting.the-variants.{Apart}
@@ -14,15 +15,15 @@ use Rattle.view.specs.Walks.{Siblings, comparedAt, Parts}
 use Rattle.view.proofs.PartingLaws.{parts-compare}
 use Rattle.model.specs.declared.Verdict.{Verdict}
 use Rattle.model.specs.declared.Verdict.the-variants.{Settled, Ask}
-use Rattle.strength.specs.Verdicts.{Pair, resolve, Weighed}
-use Rattle.strength.specs.declared.lines.Known.{Known}
-use Rattle.strength.specs.declared.lines.Known.the-variants.{As, Open}
-use Rattle.strength.specs.Settled.{AtOnce}
+use Rattle.strength.specs.Verdicts.{Pair, resolve, DecidedBy}
+use Rattle.strength.specs.declared.lines.SettledEarly.{SettledEarly}
+use Rattle.strength.specs.declared.lines.SettledEarly.the-variants.{As, Open}
+use Rattle.strength.specs.Settled.{IsSettledEarly}
 use Rattle.strength.proofs.SiblingLines.{ranks-differ}
 
 -- ---- Siblings: `v` is what the lines say, `w` its form that was matched
 
-pub siblings-resolved : {bs : List ℕ} {root a b : ℕ} → Pair bs root a b → (v w : Verdict) → v ≡ w → Weighed (siblingLines (viewIn bs)) bs a b v
+pub siblings-resolved : {bs : List ℕ} {root a b : ℕ} → Pair bs root a b → (v w : Verdict) → v ≡ w → DecidedBy (siblingLines (viewIn bs)) bs a b v
     → resolve (compareNodeStrength (viewIn bs)) w ≡ compareSiblingNodeStrength (viewIn bs) a b
 siblings-resolved {bs} {root} {a} {b} pair v w told weighed =
     let u = viewIn bs in
@@ -31,14 +32,14 @@ siblings-resolved {bs} {root} {a} {b} pair v w told weighed =
 
 -- a node asked with itself is Equal
 pub asked-itself : {bs : List ℕ} {root a b : ℕ} → Pair bs root a b → (v : Verdict) {x y : ℕ} {o : Ordering} → v ≡ Ask x y o → x ≡ y
-    → Weighed (siblingLines (viewIn bs)) bs a b v → o ≡ compareSiblingNodeStrength (viewIn bs) a b
+    → DecidedBy (siblingLines (viewIn bs)) bs a b v → o ≡ compareSiblingNodeStrength (viewIn bs) a b
 asked-itself {bs} pair v {x} {y} {o} told same weighed =
     sym (ap (λ (r : Ordering). first r o) (ap (compareNodeStrength (viewIn bs) x) (sym same) ∙ compare-same (viewIn bs) x))
     ∙ siblings-resolved pair v (Ask x y o) told weighed
 
 -- the nodes asked stand in the graph, and their sum is lower
 pub asked-lower : {bs : List ℕ} {root a b : ℕ} → Pair bs root a b → (v : Verdict) {x y : ℕ} {o : Ordering} → v ≡ Ask x y o
-    → Weighed (siblingLines (viewIn bs)) bs a b v → Standing bs root x × Standing bs root y × (x + y < a + b)
+    → DecidedBy (siblingLines (viewIn bs)) bs a b v → ValidNodeAndRoot bs root x × ValidNodeAndRoot bs root y × (x + y < a + b)
 asked-lower pair v told weighed =
     let asks = rw told at (weighed .asks) in (
       record { readable = asks .0; root-read = pair .left .root-read },
@@ -53,10 +54,10 @@ ranks-settle {bs} {root} {a} {b} pair {o} differ line = siblings-resolved pair (
 
 -- ---- Siblings at once: `k` is what their records say
 
-pub at-once : (u : View) (a b : ℕ) (k : Known) {o : Ordering} → k ≡ As o → AtOnce u a b k → o ≡ compareSiblingNodeStrength u a b
+pub at-once : (u : View) (a b : ℕ) (k : SettledEarly) {o : Ordering} → k ≡ As o → IsSettledEarly u a b k → o ≡ compareSiblingNodeStrength u a b
 at-once u a b k told said = rw told at said
 
-pub left-open : (u : View) (a b : ℕ) (k : Known) → k ≡ Open → AtOnce u a b k → u .rank a ≡ u .rank b
+pub left-open : (u : View) (a b : ℕ) (k : SettledEarly) → k ≡ Open → IsSettledEarly u a b k → u .rank a ≡ u .rank b
 left-open u a b k told said = rw told at said
 
 -- ---- Nodes: `p` is where their chains part, `q` its form that was matched
@@ -65,7 +66,7 @@ pub nodes-compared : (u : View) (a b : ℕ) (p q : Parting) → p ≡ q → Part
     → comparedAt (compareSiblingNodeStrength u) q ≡ compareNodeStrength u a b
 nodes-compared u a b p q told parts = ap (comparedAt (compareSiblingNodeStrength u)) (sym told) ∙ sym (parts-compare u a b p parts)
 
-pub parted-pair : {bs : List ℕ} {root a b : ℕ} → Standing bs root a → Standing bs root b → (p : Parting) {x y : ℕ} → p ≡ Apart x y → Parts (viewIn bs) a b p
+pub parted-pair : {bs : List ℕ} {root a b : ℕ} → ValidNodeAndRoot bs root a → ValidNodeAndRoot bs root b → (p : Parting) {x y : ℕ} → p ≡ Apart x y → Parts (viewIn bs) a b p
     → Pair bs root x y × (x + y ≤ a + b)
 parted-pair {bs} {root} {a} {b} left right p {x} {y} told parts =
     let siblings : Siblings (viewIn bs) a b x y = rw told at (parts .apart) in (

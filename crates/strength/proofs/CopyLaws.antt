@@ -1,5 +1,6 @@
--- The copy of a specializes node by the child list of the local root: where there is none at once (`no-copy-of-arc`, `no-copy-without-root`), and else
--- the first that is one (`copy-in-list`), link by link (`copy-taken`, `copy-passed`, `copies-end`). Assumes nothing.
+-- The copy of a specializes node by the child list of the local root: where there is none at once
+-- (`no-copy-of-arc`, `no-copy-without-root`), and else the first that is one (`copy-in-list`), link
+-- by link (`copy-taken`, `copy-passed`, `copies-end`). Assumes nothing.
 use mathlib.Core.Path.{_≡_, refl, sym, ap, _∙_}
 use mathlib.Core.Bool.{true, false, cond}
 use mathlib.Core.List.{List}
@@ -13,12 +14,12 @@ use Rattle.model.specs.Arena.{countIn, nextSiblingIn, chainIn, childrenIn, loca
 use Rattle.arena.proofs.HeldArenas.{held}
 use Rattle.arena.proofs.ArenaBack.{children-decode}
 use Rattle.arena.proofs.ReadNodes.{root-held}
-use Rattle.view.specs.View.{viewIn, Standing}
+use Rattle.view.specs.View.{viewIn, ValidNodeAndRoot}
 use Rattle.view.proofs.LocalRootLaws.{root-readable}
 
 -- ---- The definition
 
-module _ (bs : List ℕ) (root n : ℕ) (s : Standing bs root n) where
+module _ (bs : List ℕ) (root n : ℕ) (s : ValidNodeAndRoot bs root n) where
   root-is : root ≡ localRootOf (decode bs .nodes)
   root-is = s .root-read ∙ root-held bs (s .readable .opened) (omega (arith, s .readable .below))
 

@@ -1,4 +1,5 @@
--- The answers of `starting_node_of_class_hierarchy`, beside laws/proofs/ArenaCallLaws.antt. Assumes nothing.
+-- The answers of `starting_node_of_class_hierarchy`, beside laws/proofs/ArenaCallLaws.antt. Assumes
+-- nothing.
 use mathlib.Core.Path.{_≡_, sym}
 use mathlib.Core.List.{List}
 use Prim.Native.Nat.{ℕ}

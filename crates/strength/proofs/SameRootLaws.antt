@@ -1,5 +1,5 @@
--- The lines for one origin and for one R: each from the tests that decide it, and the list settled by a line that differs or handed on where a line is
--- passed. Assumes nothing.
+-- The lines for one origin and for one R: each from the tests that decide it, and the list settled
+-- by a line that differs or handed on where a line is passed. Assumes nothing.
 use mathlib.Core.Path.{_≡_, sym}
 use mathlib.Core.Bool.{true, false, or-true, and-false}
 use mathlib.Core.List.{List}
@@ -9,13 +9,14 @@ use Rattle.model.specs.declared.Ordering.the-variants.{Less, Equal, Greater}
 use Rattle.model.specs.Strength.{View, first, smaller, isAuthored, originHops, classDepth, impliedOver, sameOriginLines, localLine, sameRootLines}
 use Rattle.model.specs.declared.Verdict.{Verdict}
 use Rattle.model.specs.declared.Verdict.the-variants.{Settled}
-use Rattle.strength.specs.Verdicts.{originsThenNumbers, Weighed}
+use Rattle.strength.specs.Verdicts.{originsThenNumbers, DecidedBy}
 use Rattle.strength.proofs.VerdictNumbers.{bySibling, passed, settles}
 
 -- ---- What the tests of one node or of two decide
 
 module _ (u : View) (a b : ℕ) where
-  -- "Same origin: authored, sibling number, then node number; else implied over not implied, then node number"
+  -- "Same origin: authored, sibling number, then node number; else implied over not implied, then
+  -- node number"
 
   pub authored-left : isAuthored u a ≡ true → sameOriginLines u a b ≡ bySibling u a b
   unfolding sameOriginLines
@@ -61,12 +62,12 @@ pub record RootsAlike (u : View) (a b : ℕ) : Type 0 where
 module _ (u : View) (bs : List ℕ) (a b : ℕ) where
   -- "4. Smaller class depth; more hops"
   pub classes-differ : {o : Ordering} → (classDepth u a ≡ classDepth u b → ⊥) → o ≡ smaller (classDepth u a) (classDepth u b)
-      → Weighed (sameRootLines u) bs a b (Settled o)
+      → DecidedBy (sameRootLines u) bs a b (Settled o)
   unfolding sameRootLines
   classes-differ differ e = record { agrees = λ nodes. rw (settles (classDepth u a) (classDepth u b) _ differ, sameRootLines) e; asks = tt }
 
   pub hops-differ : {o : Ordering} → classDepth u a ≡ classDepth u b → (originHops u a ≡ originHops u b → ⊥) → o ≡ smaller (originHops u b) (originHops u a)
-      → Weighed (sameRootLines u) bs a b (Settled o)
+      → DecidedBy (sameRootLines u) bs a b (Settled o)
   unfolding sameRootLines
   hops-differ same differ e = record {
     agrees = λ nodes. rw (passed (classDepth u a) (classDepth u b) _ same, settles (originHops u b) (originHops u a) _ (λ q. differ (sym q)), sameRootLines) e;
@@ -79,11 +80,11 @@ module _ (u : View) (bs : List ℕ) (a b : ℕ) where
   alike-passed r nodes =
       rw (passed (classDepth u a) (classDepth u b) _ (r .classes), passed (originHops u b) (originHops u a) _ (sym (r .hops)), sameRootLines)
 
-  pub local-less : RootsAlike u a b → localLine u a b ≡ Less → Weighed (sameRootLines u) bs a b (Settled Less)
+  pub local-less : RootsAlike u a b → localLine u a b ≡ Less → DecidedBy (sameRootLines u) bs a b (Settled Less)
   local-less r e = record { agrees = λ nodes. rw (alike-passed r nodes, e); asks = tt }
 
-  pub local-greater : RootsAlike u a b → localLine u a b ≡ Greater → Weighed (sameRootLines u) bs a b (Settled Greater)
+  pub local-greater : RootsAlike u a b → localLine u a b ≡ Greater → DecidedBy (sameRootLines u) bs a b (Settled Greater)
   local-greater r e = record { agrees = λ nodes. rw (alike-passed r nodes, e); asks = tt }
 
-  pub local-passed : {v : Verdict} → RootsAlike u a b → localLine u a b ≡ Equal → Weighed (originsThenNumbers u) bs a b v → Weighed (sameRootLines u) bs a b v
+  pub local-passed : {v : Verdict} → RootsAlike u a b → localLine u a b ≡ Equal → DecidedBy (originsThenNumbers u) bs a b v → DecidedBy (sameRootLines u) bs a b v
   local-passed r e w = record { agrees = λ nodes. rw (alike-passed r nodes, e) (w .agrees nodes); asks = w .asks }

@@ -1,5 +1,5 @@
--- Two siblings: what is known of them where the questions pass (`siblings-known`), and that two different ones are above node 0 (`left-above`,
--- `right-above`). Assumes nothing.
+-- Two siblings: what is known of them where the questions pass (`siblings-known`), and that two
+-- different ones are above node 0 (`left-above`, `right-above`). Assumes nothing.
 use mathlib.Core.Path.{_≡_, refl, sym, ap, _∙_}
 use mathlib.Core.Bool.{Bool, true, false, _&&_}
 use mathlib.Core.List.{List, [], _∷_}
@@ -12,7 +12,7 @@ use Rattle.model.specs.Graph.{size, nodeAt}
 use Rattle.model.specs.Refusals.{ask, refusal}
 use Rattle.model.specs.Calls.{comparesSiblings}
 use Rattle.model.specs.Arena.{decode, holdsGraph}
-use Rattle.model.specs.ArenaCalls.{isArena, Readable, askArena}
+use Rattle.model.specs.ArenaCalls.{isArena, ValidNode, askArena}
 use Rattle.arena.proofs.ChainLaws.{or-second}
 use Rattle.arena.proofs.HeldArenas.{held}
 use Rattle.arena.proofs.ArenaBack.{root-parent, node-decode, parent-lower}
@@ -24,7 +24,7 @@ module _ (bs : List ℕ) (a b : ℕ) where
   siblings-known e =
       go (isArena bs) (holdsGraph bs) (ltb 0 (size (decode bs))) (ltb a (size (decode bs)) && ltb b (size (decode bs))) (oneParent bs a b) refl (both-readable bs a b) e
     where
-      go : (s h z t p : Bool) → oneParent bs a b ≡ p → (refusal (ask 1 s ∷ ask 2 h ∷ ask 3 z ∷ ask 4 t ∷ []) ≡ 0 → Readable bs a × Readable bs b)
+      go : (s h z t p : Bool) → oneParent bs a b ≡ p → (refusal (ask 1 s ∷ ask 2 h ∷ ask 3 z ∷ ask 4 t ∷ []) ≡ 0 → ValidNode bs a × ValidNode bs b)
           → refusal (ask 1 s ∷ ask 2 h ∷ ask 3 z ∷ ask 4 t ∷ ask 8 p ∷ []) ≡ 0 → Siblings bs a b
       go true true true true true q read e = let both = read refl in record { left = both .0; right = both .1; one-parent = q }
       go true true true true false q read e = absurd (omega arith)
@@ -39,7 +39,7 @@ module _ (bs : List ℕ) (a b : ℕ) where
       (or-second (eqb a b) (eqb (nodeAt (decode bs .nodes) a .parent) (nodeAt (decode bs .nodes) b .parent)) (s .one-parent) (ne-eqb a b differ))
 
 -- a node with a parent that node 0 does not have is not node 0
-child-above : (bs : List ℕ) (a b : ℕ) → Readable bs a → Readable bs b → (a ≡ b → ⊥)
+child-above : (bs : List ℕ) (a b : ℕ) → ValidNode bs a → ValidNode bs b → (a ≡ b → ⊥)
     → nodeAt (decode bs .nodes) a .parent ≡ nodeAt (decode bs .nodes) b .parent → 0 < a
 child-above bs a b r s differ same = go (eqb a 0) refl
   where

@@ -1,5 +1,6 @@
--- The specializes list: the depth line from the tests that decide it; the list settled by a line that differs or handed on where a line is passed; and
--- both R asked, whose sum is lower. Assumes nothing.
+-- The specializes list: the depth line from the tests that decide it; the list settled by a line
+-- that differs or handed on where a line is passed; and both R asked, whose sum is lower. Assumes
+-- nothing.
 use mathlib.Core.Path.{_≡_, refl, sym, _∙_}
 use mathlib.Core.Bool.{Bool, true, false, cond}
 use mathlib.Core.List.{List}
@@ -10,13 +11,13 @@ use Rattle.model.specs.declared.Ordering.{Ordering}
 use Rattle.model.specs.declared.Ordering.the-variants.{Less, Equal, Greater}
 use Rattle.model.specs.Strength.{View, smaller, isAuthored, originRootNode, originsAreNested, sameOriginLines, sameRootLines, originLines, depthLine, specializesLines}
 use Rattle.laws.proofs.StrengthWalks.{origin-root-le, origin-root-lower}
-use Rattle.view.specs.View.{viewIn, Standing}
+use Rattle.view.specs.View.{viewIn, ValidNodeAndRoot}
 use Rattle.view.proofs.ViewLaws.{legal, standing-lower}
 use Rattle.view.specs.declared.origins.OriginRoot.{OriginRoot}
 use Rattle.view.specs.Walks.{RootOf}
 use Rattle.model.specs.declared.Verdict.{Verdict}
 use Rattle.model.specs.declared.Verdict.the-variants.{Settled, Ask}
-use Rattle.strength.specs.Verdicts.{Pair, Weighed}
+use Rattle.strength.specs.Verdicts.{Pair, DecidedBy}
 use Rattle.laws.proofs.SmallerLaws.{smaller-eq}
 use Rattle.strength.proofs.VerdictLaws.{links-lower}
 
@@ -44,26 +45,26 @@ module _ (u : View) (a b : ℕ) where
 
 module _ (u : View) (bs : List ℕ) (a b : ℕ) where
   -- the depth line of the specializes list
-  pub depth-less : depthLine u a b ≡ Less → Weighed (specializesLines u) bs a b (Settled Less)
+  pub depth-less : depthLine u a b ≡ Less → DecidedBy (specializesLines u) bs a b (Settled Less)
   unfolding specializesLines
   depth-less e = record { agrees = λ nodes. rw (e, specializesLines); asks = tt }
 
-  pub depth-greater : depthLine u a b ≡ Greater → Weighed (specializesLines u) bs a b (Settled Greater)
+  pub depth-greater : depthLine u a b ≡ Greater → DecidedBy (specializesLines u) bs a b (Settled Greater)
   unfolding specializesLines
   depth-greater e = record { agrees = λ nodes. rw (e, specializesLines); asks = tt }
 
-  pub depth-passed : {v : Verdict} → depthLine u a b ≡ Equal → Weighed (originLines u) bs a b v → Weighed (specializesLines u) bs a b v
+  pub depth-passed : {v : Verdict} → depthLine u a b ≡ Equal → DecidedBy (originLines u) bs a b v → DecidedBy (specializesLines u) bs a b v
   unfolding specializesLines
   depth-passed e w = record { agrees = λ nodes. rw (e, specializesLines) (w .agrees nodes); asks = w .asks }
 
   -- "2. Same origin"
-  pub one-origin : {o : Ordering} → u .origin a ≡ u .origin b → o ≡ sameOriginLines u a b → Weighed (originLines u) bs a b (Settled o)
+  pub one-origin : {o : Ordering} → u .origin a ≡ u .origin b → o ≡ sameOriginLines u a b → DecidedBy (originLines u) bs a b (Settled o)
   unfolding originLines
   one-origin same e = record { agrees = λ nodes. rw (eq-eqb (u .origin a) (u .origin b) same, originLines) e; asks = tt }
 
   -- R do not differ
-  pub one-root : {v : Verdict} → (u .origin a ≡ u .origin b → ⊥) → originRootNode u a ≡ originRootNode u b → Weighed (sameRootLines u) bs a b v
-      → Weighed (originLines u) bs a b v
+  pub one-root : {v : Verdict} → (u .origin a ≡ u .origin b → ⊥) → originRootNode u a ≡ originRootNode u b → DecidedBy (sameRootLines u) bs a b v
+      → DecidedBy (originLines u) bs a b v
   unfolding originLines
   one-root differ same w = record {
     agrees = λ nodes. rw (ne-eqb (u .origin a) (u .origin b) differ, eq-eqb (originRootNode u a) (originRootNode u b) same, originLines) (w .agrees nodes);
@@ -72,7 +73,7 @@ module _ (u : View) (bs : List ℕ) (a b : ℕ) where
 
 -- ---- Two lower nodes
 
-pub root-standing : {bs : List ℕ} {root n : ℕ} (r : OriginRoot) → Standing bs root n → RootOf (viewIn bs) n r → Standing bs root (r .node)
+pub root-standing : {bs : List ℕ} {root n : ℕ} (r : OriginRoot) → ValidNodeAndRoot bs root n → RootOf (viewIn bs) n r → ValidNodeAndRoot bs root (r .node)
 root-standing {bs} {root} {n} r s found =
     standing-lower bs root n (r .node) s (omega (arith, found .node, origin-root-le (legal bs (s .readable .opened)) n (s .readable .below)))
 
@@ -90,7 +91,7 @@ module _ {bs : List ℕ} {root a b : ℕ} (pair : Pair bs root a b) where
 
   -- "3. R differ: node strength of them."
   pub roots-differ : {o : Ordering} (ra rb : OriginRoot) → RootOf (viewIn bs) a ra → RootOf (viewIn bs) b rb → (viewIn bs .origin a ≡ viewIn bs .origin b → ⊥)
-      → (ra .node ≡ rb .node → ⊥) → o ≡ smaller a b → Weighed (originLines (viewIn bs)) bs a b (Ask (ra .node) (rb .node) o)
+      → (ra .node ≡ rb .node → ⊥) → o ≡ smaller a b → DecidedBy (originLines (viewIn bs)) bs a b (Ask (ra .node) (rb .node) o)
   unfolding originLines
   roots-differ ra rb left right differ apart e = record {
     agrees = λ nodes. rw (ne-eqb (viewIn bs .origin a) (viewIn bs .origin b) differ, ← left .node, ← right .node, ne-eqb (ra .node) (rb .node) apart, e, originLines);

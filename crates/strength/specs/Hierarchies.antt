@@ -1,5 +1,5 @@
--- What the calls of this crate answer, beside model/specs/ArenaCalls.antt's `AnsweredTest` and `Answered`: where a class hierarchy starts. The definitions
--- that they cite are in model/specs.
+-- What the calls of this crate answer, beside model/specs/ArenaCalls.antt's `AnsweredTest` and
+-- `Answered`: where a class hierarchy starts. The definitions that they cite are in model/specs.
 use mathlib.Core.Path.{_≡_}
 use mathlib.Core.List.{List}
 use Prim.Native.Nat.{ℕ}

@@ -2,10 +2,10 @@
 use mathlib.Core.Path.{_≡_}
 use Prim.Native.Nat.{ℕ}
 use Rattle.model.specs.Strength.{View, compareSiblingNodeStrength}
-use Rattle.strength.specs.declared.lines.Known.{Known}
-use Rattle.strength.specs.declared.lines.Known.the-variants.{As, Open}
+use Rattle.strength.specs.declared.lines.SettledEarly.{SettledEarly}
+use Rattle.strength.specs.declared.lines.SettledEarly.the-variants.{As, Open}
 
 -- the answer is theirs, or they have one rank and it is open
-abbrev pub AtOnce : View → ℕ → ℕ → Known → Type 0
-AtOnce u a b (As o) = o ≡ compareSiblingNodeStrength u a b
-AtOnce u a b Open = u .rank a ≡ u .rank b
+abbrev pub IsSettledEarly : View → ℕ → ℕ → SettledEarly → Type 0
+IsSettledEarly u a b (As o) = o ≡ compareSiblingNodeStrength u a b
+IsSettledEarly u a b Open = u .rank a ≡ u .rank b

@@ -3,16 +3,16 @@ use mathlib.Core.Path.{_≡_}
 use mathlib.Core.List.{List}
 use Prim.Native.Nat.{ℕ, _+_, _<_}
 use Rattle.model.specs.declared.Ordering.{Ordering}
-use Rattle.model.specs.ArenaCalls.{Readable}
+use Rattle.model.specs.ArenaCalls.{ValidNode}
 use Rattle.model.specs.Strength.{View, first, smaller}
-use Rattle.view.specs.View.{viewIn, Standing}
+use Rattle.view.specs.View.{viewIn, ValidNodeAndRoot}
 use Rattle.model.specs.declared.Verdict.{Verdict}
 use Rattle.model.specs.declared.Verdict.the-variants.{Settled, Ask}
 
 -- two nodes with one parent, neither of them node 0
 pub record Pair (bs : List ℕ) (root a b : ℕ) : Type 0 where
-  pub left : Standing bs root a
-  pub right : Standing bs root b
+  pub left : ValidNodeAndRoot bs root a
+  pub right : ValidNodeAndRoot bs root b
   pub left-above : 0 < a
   pub right-above : 0 < b
   pub parents : viewIn bs .parent a ≡ viewIn bs .parent b
@@ -29,9 +29,9 @@ resolve nodes (Ask x y o) = first (nodes x y) o
 -- what a verdict asks are nodes whose sum is below `sum`
 abbrev pub Asks : List ℕ → ℕ → Verdict → Type 0
 Asks bs sum (Settled o) = Unit {0}
-Asks bs sum (Ask x y o) = Readable bs x × Readable bs y × (x + y < sum)
+Asks bs sum (Ask x y o) = ValidNode bs x × ValidNode bs y × (x + y < sum)
 
 -- a verdict on the siblings a and b by a list of lines
-pub record Weighed (lines : (ℕ → ℕ → Ordering) → ℕ → ℕ → Ordering) (bs : List ℕ) (a b : ℕ) (r : Verdict) : Type 0 where
+pub record DecidedBy (lines : (ℕ → ℕ → Ordering) → ℕ → ℕ → Ordering) (bs : List ℕ) (a b : ℕ) (r : Verdict) : Type 0 where
   pub agrees : (nodes : ℕ → ℕ → Ordering) → resolve nodes r ≡ lines nodes a b
   pub asks : Asks bs (a + b) r

@@ -1,7 +1,10 @@
-// Which of two nodes is the stronger. comparison.rt has the two comparisons, a cycle of functions; lines.rt, specializes.rt and same_root.rt are document 01's lists
-// of lines on two siblings, made of what verdicts.rt and orderings.rt have; propagated.rt finds the copy of a node under the local root. calls.rt has the calls,
-// which put their questions first; what is beside it requires nodes of the graph that the arena holds. Nothing is written. `root` is the local root's number, 0
-// for none. The definitions are in model/specs/Strength.antt and Hierarchy.antt; specs/Verdicts.antt says what an unsettled answer means.
+// Which of two nodes is the stronger. comparison.rt has the two comparisons, a cycle of functions;
+// lines.rt, specializes.rt and same_root.rt are document 01's lists of lines on two siblings, made
+// of what verdicts.rt and orderings.rt have; propagated.rt finds the copy of a node under the local
+// root. calls.rt has the calls, which put their questions first; what is beside it requires nodes
+// of the graph that the arena holds. Nothing is written. `root` is the local root's number, 0 for
+// none. The definitions are in model/specs/Strength.antt and Hierarchy.antt; specs/Verdicts.antt
+// says what an unsettled answer means.
 pub mod calls;
 mod comparison;
 mod lines;

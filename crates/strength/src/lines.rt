@@ -3,22 +3,23 @@ use model::Ordering;
 use model::Verdict;
 ghost use mathlib.Core.Path.{_≡_};
 ghost use mathlib.Core.Bool.{false, _&&_};
-ghost use Rattle.model.specs.ArenaCalls.{Readable};
+ghost use Rattle.model.specs.ArenaCalls.{ValidNode};
 ghost use Rattle.model.specs.Strength.{plainLines, siblingLines};
 ghost use Rattle.view.specs.View.{viewIn};
-ghost use Rattle.strength.specs.Verdicts.{Pair, Weighed};
-ghost use Rattle.strength.specs.Settled.{AtOnce};
+ghost use Rattle.strength.specs.Verdicts.{Pair, DecidedBy};
+ghost use Rattle.strength.specs.Settled.{IsSettledEarly};
 
 // Two siblings settled at once, by their own records, or not.
-pub(crate) enum Known {
+pub(crate) enum SettledEarly {
     As(Ordering),
     Open,
 }
 
-// "3. Larger depth. 4. Node strength of the origins. 5. Smaller sibling number, then smaller node number."
+// "3. Larger depth. 4. Node strength of the origins. 5. Smaller sibling number, then smaller node
+// number."
 fn weigh_plain(arena: &[u8], root: u32, a: u32, b: u32) -> Verdict
     requires { ⌜ Pair (now arena) root a b ⌝ }
-    ensures { λ r. ⌜ Weighed (plainLines (viewIn (now (arena .entry)))) (now (arena .entry)) a b r ⌝ }
+    ensures { λ r. ⌜ DecidedBy (plainLines (viewIn (now (arena .entry)))) (now (arena .entry)) a b r ⌝ }
 {
     let x = crate::verdicts::depth(arena, a);
     let y = crate::verdicts::depth(arena, b);
@@ -32,7 +33,7 @@ fn weigh_plain(arena: &[u8], root: u32, a: u32, b: u32) -> Verdict
 
 // Whether both are HAS_SPECIALIZES.
 fn both_specialize(arena: &[u8], a: u32, b: u32) -> bool
-    requires { ⌜ Readable (now arena) a × Readable (now arena) b ⌝ }
+    requires { ⌜ ValidNode (now arena) a × ValidNode (now arena) b ⌝ }
     ensures { λ r. ⌜ r ≡ (viewIn (now (arena .entry)) .special a && viewIn (now (arena .entry)) .special b) ⌝ }
 {
     if view::has_specializes(arena, a) {
@@ -41,10 +42,11 @@ fn both_specialize(arena: &[u8], a: u32, b: u32) -> bool
     false
 }
 
-// "2. Both HAS_SPECIALIZES: go to the list below." Of two whose arcs have one rank, which pass the first line.
+// "2. Both HAS_SPECIALIZES: go to the list below." Of two whose arcs have one rank, which pass the
+// first line.
 pub(crate) fn weigh(arena: &[u8], root: u32, a: u32, b: u32) -> Verdict
     requires { ⌜ Pair (now arena) root a b × (viewIn (now arena) .rank a ≡ viewIn (now arena) .rank b) ⌝ }
-    ensures { λ r. ⌜ Weighed (siblingLines (viewIn (now (arena .entry)))) (now (arena .entry)) a b r ⌝ }
+    ensures { λ r. ⌜ DecidedBy (siblingLines (viewIn (now (arena .entry)))) (now (arena .entry)) a b r ⌝ }
 {
     if both_specialize(arena, a, b) {
         return crate::specializes::weigh_specializes(arena, root, a, b);
@@ -53,45 +55,45 @@ pub(crate) fn weigh(arena: &[u8], root: u32, a: u32, b: u32) -> Verdict
 }
 
 // What the plain lines settle at once: where they ask of one node twice, it is Equal.
-fn settle_plain(arena: &[u8], root: u32, a: u32, b: u32) -> Known
+fn settle_plain(arena: &[u8], root: u32, a: u32, b: u32) -> SettledEarly
     requires { ⌜ Pair (now arena) root a b × (viewIn (now arena) .rank a ≡ viewIn (now arena) .rank b) ⌝ }
     requires { ⌜ (viewIn (now arena) .special a && viewIn (now arena) .special b) ≡ false ⌝ }
-    ensures { λ r. ⌜ AtOnce (viewIn (now (arena .entry))) a b r ⌝ }
+    ensures { λ r. ⌜ IsSettledEarly (viewIn (now (arena .entry))) a b r ⌝ }
 {
     match weigh_plain(arena, root, a, b) {
-        Verdict::Settled(o) => Known::As(o),
+        Verdict::Settled(o) => SettledEarly::As(o),
         Verdict::Ask(x, y, o) => {
             if x == y {
-                return Known::As(o);
+                return SettledEarly::As(o);
             }
-            Known::Open
+            SettledEarly::Open
         }
     }
 }
 
 // "1. Smaller arc."
-pub(crate) fn by_rank(arena: &[u8], root: u32, a: u32, b: u32) -> Known
+pub(crate) fn by_rank(arena: &[u8], root: u32, a: u32, b: u32) -> SettledEarly
     requires { ⌜ Pair (now arena) root a b ⌝ }
-    ensures { λ r. ⌜ AtOnce (viewIn (now (arena .entry))) a b r ⌝ }
+    ensures { λ r. ⌜ IsSettledEarly (viewIn (now (arena .entry))) a b r ⌝ }
 {
     let x = view::rank(arena, a) as u32;
     let y = view::rank(arena, b) as u32;
     if x != y {
-        return Known::As(crate::orderings::by_number(x, y));
+        return SettledEarly::As(crate::orderings::by_number(x, y));
     }
-    Known::Open
+    SettledEarly::Open
 }
 
 // What two siblings' own records settle: their arcs, then the plain lines.
-pub(crate) fn settle(arena: &[u8], root: u32, a: u32, b: u32) -> Known
+pub(crate) fn settle(arena: &[u8], root: u32, a: u32, b: u32) -> SettledEarly
     requires { ⌜ Pair (now arena) root a b ⌝ }
-    ensures { λ r. ⌜ AtOnce (viewIn (now (arena .entry))) a b r ⌝ }
+    ensures { λ r. ⌜ IsSettledEarly (viewIn (now (arena .entry))) a b r ⌝ }
 {
     match by_rank(arena, root, a, b) {
-        Known::As(o) => Known::As(o),
-        Known::Open => {
+        SettledEarly::As(o) => SettledEarly::As(o),
+        SettledEarly::Open => {
             if both_specialize(arena, a, b) {
-                return Known::Open;
+                return SettledEarly::Open;
             }
             settle_plain(arena, root, a, b)
         }

@@ -2,11 +2,11 @@
 ghost use mathlib.Core.Path.{_≡_};
 ghost use Rattle.model.specs.Arena.{decode, childrenIn};
 ghost use Rattle.model.specs.Hierarchy.{firstIn, isCopy, getPropagatedSpecializesNode};
-ghost use Rattle.view.specs.View.{viewIn, Standing};
+ghost use Rattle.view.specs.View.{viewIn, ValidNodeAndRoot};
 
 // Whether `child` is a propagated specializes whose origin is node n.
 fn is_copy(arena: &[u8], root: u32, n: u32, child: u32) -> bool
-    requires { ⌜ Standing (now arena) root child ⌝ }
+    requires { ⌜ ValidNodeAndRoot (now arena) root child ⌝ }
     ensures { λ r. ⌜ r ≡ isCopy (viewIn (now (arena .entry))) n child ⌝ }
 {
     if view::origin(arena, child) != n {
@@ -15,9 +15,10 @@ fn is_copy(arena: &[u8], root: u32, n: u32, child: u32) -> bool
     view::is_propagated_specializes(arena, root, child)
 }
 
-// The first such child of the local root; 4,294,967,295 where there is none. A child list has no more nodes than the graph.
+// The first such child of the local root; 4,294,967,295 where there is none. A child list has no
+// more nodes than the graph.
 fn first_copy(arena: &[u8], root: u32, n: u32) -> u32
-    requires { ⌜ Standing (now arena) root root ⌝ }
+    requires { ⌜ ValidNodeAndRoot (now arena) root root ⌝ }
     ensures { λ r. ⌜ r ≡ firstIn (isCopy (viewIn (now (arena .entry))) n) (childrenIn (now (arena .entry)) root) ⌝ }
 {
     let count = arena::count(arena);
@@ -36,9 +37,10 @@ fn first_copy(arena: &[u8], root: u32, n: u32) -> u32
     4294967295
 }
 
-// The propagated specializes under the local root whose origin is node n, itself a Specialize; 4,294,967,295 where there is none.
+// The propagated specializes under the local root whose origin is node n, itself a Specialize;
+// 4,294,967,295 where there is none.
 pub(crate) fn find_copy(arena: &[u8], root: u32, n: u32) -> u32
-    requires { ⌜ Standing (now arena) root n ⌝ }
+    requires { ⌜ ValidNodeAndRoot (now arena) root n ⌝ }
     ensures { λ r. ⌜ r ≡ getPropagatedSpecializesNode (decode (now (arena .entry))) n ⌝ }
 {
     if view::arc(arena, n) != 6 {

@@ -1,4 +1,5 @@
-// Document 01's lines 2 and 4 of the list for two siblings that are HAS_SPECIALIZES: those for one origin, and those for one R.
+// Document 01's lines 2 and 4 of the list for two siblings that are HAS_SPECIALIZES: those for one
+// origin, and those for one R.
 use model::Ordering;
 use model::Verdict;
 use view::OriginRoot;
@@ -6,9 +7,10 @@ ghost use mathlib.Core.Path.{_≡_};
 ghost use Rattle.model.specs.Strength.{sameOriginLines, localLine, sameRootLines};
 ghost use Rattle.view.specs.View.{viewIn};
 ghost use Rattle.view.specs.Walks.{RootOf};
-ghost use Rattle.strength.specs.Verdicts.{Pair, Weighed};
+ghost use Rattle.strength.specs.Verdicts.{Pair, DecidedBy};
 
-// "2. Same origin: authored, sibling number, then node number; else implied over not implied, then node number."
+// "2. Same origin: authored, sibling number, then node number; else implied over not implied, then
+// node number."
 pub fn same_origin(arena: &[u8], root: u32, a: u32, b: u32) -> Ordering
     requires { ⌜ Pair (now arena) root a b ⌝ }
     ensures { λ r. ⌜ r ≡ sameOriginLines (viewIn (now (arena .entry))) a b ⌝ }
@@ -45,7 +47,8 @@ fn local_line(arena: &[u8], root: u32, a: u32, b: u32) -> Ordering
     crate::verdicts::implied_over(arena, root, a, b)
 }
 
-// "4. Smaller class depth; more hops; if neither is authored and both have the local root's stack, implied over not; node strength of the origins."
+// "4. Smaller class depth; more hops; if neither is authored and both have the local root's stack,
+// implied over not; node strength of the origins."
 pub fn weigh_same_root(
     arena: &[u8],
     root: u32,
@@ -55,7 +58,7 @@ pub fn weigh_same_root(
     rb: OriginRoot,
 ) -> Verdict
     requires { ⌜ Pair (now arena) root a b × RootOf (viewIn (now arena)) a ra × RootOf (viewIn (now arena)) b rb ⌝ }
-    ensures { λ r. ⌜ Weighed (sameRootLines (viewIn (now (arena .entry)))) (now (arena .entry)) a b r ⌝ }
+    ensures { λ r. ⌜ DecidedBy (sameRootLines (viewIn (now (arena .entry)))) (now (arena .entry)) a b r ⌝ }
 {
     let x = view::class_depth(arena, root, a) as u32;
     let y = view::class_depth(arena, root, b) as u32;

@@ -1,5 +1,5 @@
-// Document 01's list for two siblings that are HAS_SPECIALIZES. R of each is found once and handed down; same_root.rt has the lines for one origin
-// and for one R.
+// Document 01's list for two siblings that are HAS_SPECIALIZES. R of each is found once and handed
+// down; same_root.rt has the lines for one origin and for one R.
 use model::Ordering;
 use model::Verdict;
 use view::OriginRoot;
@@ -7,12 +7,12 @@ ghost use mathlib.Core.Path.{_≡_};
 ghost use Rattle.model.specs.Strength.{originLines, depthLine, specializesLines};
 ghost use Rattle.view.specs.View.{viewIn};
 ghost use Rattle.view.specs.Walks.{RootOf};
-ghost use Rattle.strength.specs.Verdicts.{Pair, Weighed};
+ghost use Rattle.strength.specs.Verdicts.{Pair, DecidedBy};
 
 // "2. Same origin [..] 3. R differ: node strength of them. 4. [..]"
 fn weigh_origins(arena: &[u8], root: u32, a: u32, b: u32, ra: OriginRoot, rb: OriginRoot) -> Verdict
     requires { ⌜ Pair (now arena) root a b × RootOf (viewIn (now arena)) a ra × RootOf (viewIn (now arena)) b rb ⌝ }
-    ensures { λ r. ⌜ Weighed (originLines (viewIn (now (arena .entry)))) (now (arena .entry)) a b r ⌝ }
+    ensures { λ r. ⌜ DecidedBy (originLines (viewIn (now (arena .entry)))) (now (arena .entry)) a b r ⌝ }
 {
     let x = view::origin(arena, a);
     let y = view::origin(arena, b);
@@ -25,7 +25,8 @@ fn weigh_origins(arena: &[u8], root: u32, a: u32, b: u32, ra: OriginRoot, rb: Or
     Verdict::Ask(ra.node, rb.node, crate::orderings::by_number(a, b))
 }
 
-// "1. Unless R(a), R(b) are nested: larger depth." One depth is Equal either way, and the walk is not needed.
+// "1. Unless R(a), R(b) are nested: larger depth." One depth is Equal either way, and the walk is
+// not needed.
 fn depth_line(arena: &[u8], root: u32, a: u32, b: u32, ra: OriginRoot, rb: OriginRoot) -> Ordering
     requires { ⌜ Pair (now arena) root a b × RootOf (viewIn (now arena)) a ra × RootOf (viewIn (now arena)) b rb ⌝ }
     ensures { λ r. ⌜ r ≡ depthLine (viewIn (now (arena .entry))) a b ⌝ }
@@ -44,7 +45,7 @@ fn depth_line(arena: &[u8], root: u32, a: u32, b: u32, ra: OriginRoot, rb: Origi
 // The whole list.
 pub fn weigh_specializes(arena: &[u8], root: u32, a: u32, b: u32) -> Verdict
     requires { ⌜ Pair (now arena) root a b ⌝ }
-    ensures { λ r. ⌜ Weighed (specializesLines (viewIn (now (arena .entry)))) (now (arena .entry)) a b r ⌝ }
+    ensures { λ r. ⌜ DecidedBy (specializesLines (viewIn (now (arena .entry)))) (now (arena .entry)) a b r ⌝ }
 {
     let ra = view::origin_root_node(arena, a);
     let rb = view::origin_root_node(arena, b);

@@ -5,14 +5,14 @@ use crate::orderings::or_else;
 use model::Ordering;
 use model::Verdict;
 ghost use mathlib.Core.Path.{_≡_};
-ghost use Rattle.model.specs.ArenaCalls.{Readable};
+ghost use Rattle.model.specs.ArenaCalls.{ValidNode};
 ghost use Rattle.model.specs.Strength.{first, smaller, impliedOver};
 ghost use Rattle.view.specs.View.{viewIn};
-ghost use Rattle.strength.specs.Verdicts.{Pair, Weighed, originsThenNumbers};
+ghost use Rattle.strength.specs.Verdicts.{Pair, DecidedBy, originsThenNumbers};
 
 // The namespace depth of node n, as wide as the numbers that are compared.
 pub fn depth(arena: &[u8], n: u32) -> u32
-    requires { ⌜ Readable (now arena) n ⌝ }
+    requires { ⌜ ValidNode (now arena) n ⌝ }
     ensures { λ r. ⌜ r ≡ viewIn (now (arena .entry)) .depth n ⌝ }
 {
     view::depth(arena, n) as u32
@@ -20,7 +20,7 @@ pub fn depth(arena: &[u8], n: u32) -> u32
 
 // "Smaller sibling number, then smaller node number."
 pub fn by_sibling(arena: &[u8], a: u32, b: u32) -> Ordering
-    requires { ⌜ Readable (now arena) a × Readable (now arena) b ⌝ }
+    requires { ⌜ ValidNode (now arena) a × ValidNode (now arena) b ⌝ }
     ensures { λ r. ⌜ r ≡ first (smaller (viewIn (now (arena .entry)) .sibling a) (viewIn (now (arena .entry)) .sibling b)) (smaller a b) ⌝ }
 {
     let x = view::sibling(arena, a) as u32;
@@ -39,7 +39,7 @@ pub fn implied_over(arena: &[u8], root: u32, a: u32, b: u32) -> Ordering
 // "Node strength of the origins", then the smaller node number.
 pub fn ask_origins(arena: &[u8], root: u32, a: u32, b: u32) -> Verdict
     requires { ⌜ Pair (now arena) root a b ⌝ }
-    ensures { λ r. ⌜ Weighed (originsThenNumbers (viewIn (now (arena .entry)))) (now (arena .entry)) a b r ⌝ }
+    ensures { λ r. ⌜ DecidedBy (originsThenNumbers (viewIn (now (arena .entry)))) (now (arena .entry)) a b r ⌝ }
 {
     let x = view::origin(arena, a);
     let y = view::origin(arena, b);

@@ -1,4 +1,5 @@
--- One record: what its test says, part by part (`RightAfter`), and the ways in which it fails. Assumes nothing.
+-- One record: what its test says, part by part (`ValidAfter`), and the ways in which it fails.
+-- Assumes nothing.
 use mathlib.Core.Path.{_≡_, refl, sym, ap, _∙_}
 use mathlib.Core.Bool.{Bool, true, false, not, _&&_, cond, and-false, or-true}
 use mathlib.Core.List.{List}
@@ -18,15 +19,15 @@ use Rattle.arena.proofs.SlotLaws.{path-length}
 use Rattle.arena.specs.Slot.{HasPath, arcIn, flagsIn, parentIn, originIn, depthIn, hasSpecsIn}
 use Rattle.validate.specs.RecordCheck.{rootAt, linksAt, kindAt, roomAt}
 use Rattle.path.specs.Tables.{isNames}
-use Rattle.validate.specs.Validate.{rootWith, questionsIn, depthRight, numbersRight, recordRightAfter}
+use Rattle.validate.specs.Validate.{rootWith, questionsIn, depthValid, numbersValid, recordValidAfter}
 
--- `recordRightAfter`, test by test
-pub record RightAfter (bs : List ℕ) (n pathBytes root : ℕ) : Type 0 where
+-- `recordValidAfter`, test by test
+pub record ValidAfter (bs : List ℕ) (n pathBytes root : ℕ) : Type 0 where
   pub named : 28 ≤ recordLengthIn bs n
   pub short : recordLengthIn bs n ≤ 282
   pub passes : refusal (questionsIn bs n pathBytes root) ≡ 0
   pub prims : primCountIn bs n ≡ primCount (nodeIn bs n .path)
-  pub depth : depthRight bs n ≡ true
+  pub depth : depthValid bs n ≡ true
 
 -- ---- The local root with a node more
 
@@ -40,7 +41,7 @@ root-here (suc n) arc root none h = rw (lt-ltb 0 (suc n) (omega arith), eq-eqb a
 -- ---- Its depth
 
 module _ (bs : List ℕ) (n : ℕ) where
-  pub depth-of-0 : n ≡ 0 → depthRight bs n ≡ true
+  pub depth-of-0 : n ≡ 0 → depthValid bs n ≡ true
   depth-of-0 z = rw (eq-eqb n 0 z)
 
   module _ (depth prims parent : ℕ) (same-depth : depth ≡ depthIn bs n) (same-prims : prims ≡ primCountIn bs parent)
@@ -48,10 +49,10 @@ module _ (bs : List ℕ) (n : ℕ) where
     parent-prims : prims ≡ primCountIn bs (parentIn bs n)
     parent-prims = same-prims ∙ ap (primCountIn bs) same-parent
 
-    pub depth-reached : depth ≤ prims → depthRight bs n ≡ true
+    pub depth-reached : depth ≤ prims → depthValid bs n ≡ true
     depth-reached h = rw (le-leb (depthIn bs n) (primCountIn bs (parentIn bs n)) (omega (arith, parent-prims))) (or-true (eqb n 0))
 
-    pub depth-marked : (n ≡ 0 → ⊥) → prims < depth → depthRight bs n ≡ eqb (shallowIn bs) 1
+    pub depth-marked : (n ≡ 0 → ⊥) → prims < depth → depthValid bs n ≡ eqb (shallowIn bs) 1
     depth-marked some h = rw (ne-eqb n 0 some, lt-leb (depthIn bs n) (primCountIn bs (parentIn bs n)) (omega (arith, parent-prims)))
 
 module _ (bs : List ℕ) (n pathBytes root : ℕ) where
@@ -78,8 +79,8 @@ module _ (bs : List ℕ) (n pathBytes root : ℕ) where
 
   -- ---- The record's test, from its parts and to them
 
-  pub right-after : recordRightAfter bs n pathBytes root ≡ true → RightAfter bs n pathBytes root
-  unfolding recordRightAfter
+  pub right-after : recordValidAfter bs n pathBytes root ≡ true → ValidAfter bs n pathBytes root
+  unfolding recordValidAfter
   right-after e = record {
     named = leb-true 28 (recordLengthIn bs n) (search (and-first, and-second));
     short = leb-true (recordLengthIn bs n) 282 (search (and-first, and-second));
@@ -88,19 +89,19 @@ module _ (bs : List ℕ) (n pathBytes root : ℕ) where
     depth = search (and-first, and-second);
   }
 
-  pub too-short : recordLengthIn bs n < 28 → recordRightAfter bs n pathBytes root ≡ false
-  unfolding recordRightAfter
+  pub too-short : recordLengthIn bs n < 28 → recordValidAfter bs n pathBytes root ≡ false
+  unfolding recordValidAfter
   too-short h = rw (lt-leb 28 (recordLengthIn bs n) h)
 
   module _ (named : 28 ≤ recordLengthIn bs n) where
-    pub too-long : 282 < recordLengthIn bs n → recordRightAfter bs n pathBytes root ≡ false
-    unfolding recordRightAfter
+    pub too-long : 282 < recordLengthIn bs n → recordValidAfter bs n pathBytes root ≡ false
+    unfolding recordValidAfter
     too-long h = rw (le-leb 28 (recordLengthIn bs n) named, lt-leb (recordLengthIn bs n) 282 h)
 
     module _ (short : recordLengthIn bs n ≤ 282) where
       module _ (passes : refusal (questionsIn bs n pathBytes root) ≡ 0) where
-        pub depth-left : primCountIn bs n ≡ primCount (nodeIn bs n .path) → recordRightAfter bs n pathBytes root ≡ depthRight bs n
-        unfolding recordRightAfter
+        pub depth-left : primCountIn bs n ≡ primCount (nodeIn bs n .path) → recordValidAfter bs n pathBytes root ≡ depthValid bs n
+        unfolding recordValidAfter
         depth-left h =
             rw (
               le-leb 28 (recordLengthIn bs n) named,
@@ -146,43 +147,43 @@ module _ (bs : List ℕ) (n pathBytes root : ℕ) where
   abbrev named-so : Bool
   named-so = isNames (primCountIn bs n) (countPrims (nodeIn bs n .path))
 
-  pub links-wrong : links ≡ false → numbersRight bs n pathBytes root ≡ false
-  unfolding numbersRight
+  pub links-wrong : links ≡ false → numbersValid bs n pathBytes root ≡ false
+  unfolding numbersValid
   links-wrong e = ap (λ (t : Bool). t && (kind && room)) e
 
-  pub kind-wrong : links ≡ true → kind ≡ false → numbersRight bs n pathBytes root ≡ false
-  unfolding numbersRight
+  pub kind-wrong : links ≡ true → kind ≡ false → numbersValid bs n pathBytes root ≡ false
+  unfolding numbersValid
   kind-wrong e f = ap (λ (t : Bool). t && (kind && room)) e ∙ ap (λ (t : Bool). t && room) f
 
-  pub room-left : links ≡ true → kind ≡ true → numbersRight bs n pathBytes root ≡ room
-  unfolding numbersRight
+  pub room-left : links ≡ true → kind ≡ true → numbersValid bs n pathBytes root ≡ room
+  unfolding numbersValid
   room-left e f = ap (λ (t : Bool). t && (kind && room)) e ∙ ap (λ (t : Bool). t && room) f
 
-  pub numbers-lower : numbersRight bs n pathBytes root ≡ true → 0 < n → parentIn bs n < n
-  unfolding numbersRight
+  pub numbers-lower : numbersValid bs n pathBytes root ≡ true → 0 < n → parentIn bs n < n
+  unfolding numbersValid
   numbers-lower e l =
       let linked : links ≡ true = and-first links (kind && room) e in
       let lower : (ltb (parentIn bs n) n && ltb (originIn bs n) n) ≡ true = rw (ne-eqb n 0 (λ z. omega arith)) at linked in
       ltb-true (parentIn bs n) n (and-first (ltb (parentIn bs n) n) (ltb (originIn bs n) n) lower)
 
   module _ (path : HasPath bs n) (named : 28 ≤ recordLengthIn bs n) where
-    record-parts : recordRightAfter bs n pathBytes root ≡ (numbersRight bs n pathBytes root && (depthRight bs n && named-so))
-    unfolding recordRightAfter numbersRight
+    record-parts : recordValidAfter bs n pathBytes root ≡ (numbersValid bs n pathBytes root && (depthValid bs n && named-so))
+    unfolding recordValidAfter numbersValid
     record-parts =
         let p = nodeIn bs n .path in
         let long : length p ≡ recordLengthIn bs n - 27 = omega (arith, path-length bs n path) in
         let formed = names-formed (primCountIn bs n) p in
         rw (le-leb 28 (recordLengthIn bs n) named, le-leb (recordLengthIn bs n) 282 (path .short))
-        (tests-alike links (wellFormed p) kind (roomAt n pathBytes (length p)) (eqb (primCountIn bs n) (primCount p)) (depthRight bs n)
-        ∙ (λ i. (links && (kind && roomAt n pathBytes (long i))) && (depthRight bs n && sym formed i)))
+        (tests-alike links (wellFormed p) kind (roomAt n pathBytes (length p)) (eqb (primCountIn bs n) (primCount p)) (depthValid bs n)
+        ∙ (λ i. (links && (kind && roomAt n pathBytes (long i))) && (depthValid bs n && sym formed i)))
 
-    pub numbers-wrong : numbersRight bs n pathBytes root ≡ false → recordRightAfter bs n pathBytes root ≡ false
-    numbers-wrong e = record-parts ∙ ap (λ (t : Bool). t && (depthRight bs n && named-so)) e
+    pub numbers-wrong : numbersValid bs n pathBytes root ≡ false → recordValidAfter bs n pathBytes root ≡ false
+    numbers-wrong e = record-parts ∙ ap (λ (t : Bool). t && (depthValid bs n && named-so)) e
 
-    pub depth-wrong : numbersRight bs n pathBytes root ≡ true → depthRight bs n ≡ false → recordRightAfter bs n pathBytes root ≡ false
+    pub depth-wrong : numbersValid bs n pathBytes root ≡ true → depthValid bs n ≡ false → recordValidAfter bs n pathBytes root ≡ false
     depth-wrong e f =
-        record-parts ∙ ap (λ (t : Bool). t && (depthRight bs n && named-so)) e ∙ ap (λ (t : Bool). t && named-so) f
+        record-parts ∙ ap (λ (t : Bool). t && (depthValid bs n && named-so)) e ∙ ap (λ (t : Bool). t && named-so) f
 
-    pub names-left : numbersRight bs n pathBytes root ≡ true → depthRight bs n ≡ true → recordRightAfter bs n pathBytes root ≡ named-so
+    pub names-left : numbersValid bs n pathBytes root ≡ true → depthValid bs n ≡ true → recordValidAfter bs n pathBytes root ≡ named-so
     names-left e f =
-        record-parts ∙ ap (λ (t : Bool). t && (depthRight bs n && named-so)) e ∙ ap (λ (t : Bool). t && named-so) f
+        record-parts ∙ ap (λ (t : Bool). t && (depthValid bs n && named-so)) e ∙ ap (λ (t : Bool). t && named-so) f

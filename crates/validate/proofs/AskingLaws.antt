@@ -1,5 +1,5 @@
--- What the questions about two nodes say of an arena: which refusal they come to, question by question, and what is known where they pass
--- (`both-readable`). Assumes nothing.
+-- What the questions about two nodes say of an arena: which refusal they come to, question by
+-- question, and what is known where they pass (`both-readable`). Assumes nothing.
 use mathlib.Core.Path.{_≡_, refl, sym, _∙_}
 use mathlib.Core.Bool.{Bool, true, false, _||_, _&&_}
 use mathlib.Core.List.{List, [], _∷_}
@@ -12,7 +12,7 @@ use Rattle.model.specs.Graph.{size, nodeAt}
 use Rattle.model.specs.Refusals.{refusalNumber, ask, refusal}
 use Rattle.model.specs.Calls.{readsNode, comparesNodes, comparesSiblings}
 use Rattle.model.specs.Arena.{arenaBytes, countIn, decode, holdsGraph}
-use Rattle.model.specs.ArenaCalls.{isArena, Opened, Readable, askArena}
+use Rattle.model.specs.ArenaCalls.{isArena, ValidArena, ValidNode, askArena}
 use Rattle.model.specs.declared.Refusal.{Refusal}
 use Rattle.laws.proofs.ArenaCallLaws.{refusal-some, asked-on}
 use Rattle.arena.proofs.ReadNodes.{sizes}
@@ -24,20 +24,20 @@ module _ (bs : List ℕ) (a b : ℕ) where
 
   -- ---- What is left of the questions
 
-  below : (n : ℕ) → Readable bs n → ltb n (size (decode bs)) ≡ true
+  below : (n : ℕ) → ValidNode bs n → ltb n (size (decode bs)) ≡ true
   below n r = lt-ltb n (size (decode bs)) (omega (arith, r .below, sizes bs (r .opened)))
 
-  some-node : (n : ℕ) → Readable bs n → ltb 0 (size (decode bs)) ≡ true
+  some-node : (n : ℕ) → ValidNode bs n → ltb 0 (size (decode bs)) ≡ true
   some-node n r = lt-ltb 0 (size (decode bs)) (omega (arith, r .below, sizes bs (r .opened)))
 
   -- of the second node, where the first can be read: its number
-  pub number-left : Readable bs a → refusal (askArena bs (comparesNodes (decode bs) a b)) ≡ refusal (ask 4 (ltb b (countIn bs)) ∷ [])
+  pub number-left : ValidNode bs a → refusal (askArena bs (comparesNodes (decode bs) a b)) ≡ refusal (ask 4 (ltb b (countIn bs)) ∷ [])
   number-left r =
       asked-on bs (comparesNodes (decode bs) a b) (r .opened)
       ∙ rw (some-node a r, below a r, sym (sizes bs (r .opened)))
 
   -- of two siblings, where both can be read: their parents
-  pub parents-left : Readable bs a → Readable bs b → refusal (askArena bs (comparesSiblings (decode bs) a b)) ≡ refusal (ask 8 oneParent ∷ [])
+  pub parents-left : ValidNode bs a → ValidNode bs b → refusal (askArena bs (comparesSiblings (decode bs) a b)) ≡ refusal (ask 8 oneParent ∷ [])
   parents-left r s = asked-on bs (comparesSiblings (decode bs) a b) (r .opened) ∙ rw (some-node a r, below a r, below b s)
 
   -- ---- A refusal by the first questions is the refusal
@@ -68,13 +68,13 @@ module _ (bs : List ℕ) (a b : ℕ) where
 
   -- ---- All pass
 
-  pub both-readable : refusal (askArena bs (comparesNodes (decode bs) a b)) ≡ 0 → Readable bs a × Readable bs b
+  pub both-readable : refusal (askArena bs (comparesNodes (decode bs) a b)) ≡ 0 → ValidNode bs a × ValidNode bs b
   both-readable e = go (isArena bs) refl (holdsGraph bs) refl (ltb 0 (size (decode bs))) (ltb a (size (decode bs))) refl (ltb b (size (decode bs))) refl e
     where
       go : (s : Bool) → isArena bs ≡ s → (h : Bool) → holdsGraph bs ≡ h → (z t : Bool) → ltb a (size (decode bs)) ≡ t → (w : Bool)
-          → ltb b (size (decode bs)) ≡ w → refusal (ask 1 s ∷ ask 2 h ∷ ask 3 z ∷ ask 4 (t && w) ∷ []) ≡ 0 → Readable bs a × Readable bs b
+          → ltb b (size (decode bs)) ≡ w → refusal (ask 1 s ∷ ask 2 h ∷ ask 3 z ∷ ask 4 (t && w) ∷ []) ≡ 0 → ValidNode bs a × ValidNode bs b
       go true s true h true true t true w e =
-          let o : Opened bs = record { whole = eqb-true (length bs) arenaBytes s; holds = h } in (
+          let o : ValidArena bs = record { whole = eqb-true (length bs) arenaBytes s; holds = h } in (
             record { opened = o; below = omega (arith, ltb-true a (size (decode bs)) t, sizes bs o) },
             record { opened = o; below = omega (arith, ltb-true b (size (decode bs)) w, sizes bs o) },
           )

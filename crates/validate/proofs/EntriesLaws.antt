@@ -1,5 +1,5 @@
--- The order's entries: each is a node that no entry before it is exactly if each node stands among them once, by counting. The laws of the loop over
--- them (`EntriesTo`). Assumes nothing.
+-- The order's entries: each is a node that no entry before it is exactly if each node stands among
+-- them once, by counting. The laws of the loop over them (`EntriesTo`). Assumes nothing.
 use mathlib.Core.Path.{_≡_, refl, sym, ap, subst, _∙_}
 use mathlib.Core.Logic.{_⊎_, inl, inr}
 use mathlib.Core.Bool.{Bool, true, false}
@@ -17,7 +17,7 @@ use Rattle.model.specs.Arena.{countIn, orderedIn, orderEntryIn}
 use Rattle.laws.proofs.ListLaws.{bit-eq, count-append, all-at, all-append, all-below, all-below-fails}
 use Rattle.laws.proofs.LengthLaws.{length-at-most-once, once-nothing-else}
 use Rattle.arena.proofs.TabulateLaws.{tabulate-length}
-use Rattle.validate.specs.Validate.{entriesIn, enteredOnce, entriesRight, orderRight}
+use Rattle.validate.specs.Validate.{entriesIn, enteredOnce, entriesValid, orderValid}
 use Rattle.validate.proofs.GrownLaws.{tabulate-more}
 
 -- the first k entries are nodes, none twice, and `seen` has a 1 at each
@@ -56,8 +56,8 @@ module _ (bs : List ℕ) where
 
   -- ---- The two ways to fail
 
-  pub entry-no-node : (k : ℕ) → k < countIn bs → countIn bs ≤ orderEntryIn bs k → entriesRight bs ≡ false
-  unfolding entriesRight
+  pub entry-no-node : (k : ℕ) → k < countIn bs → countIn bs ≤ orderEntryIn bs k → entriesValid bs ≡ false
+  unfolding entriesValid
   entry-no-node k l h = go (allBelow (enteredOnce bs) (countIn bs)) refl
     where
       go : (t : Bool) → allBelow (enteredOnce bs) (countIn bs) ≡ t → t ≡ false
@@ -72,8 +72,8 @@ module _ (bs : List ℕ) where
           absurd (omega arith)
 
   module _ (seen : List ℕ) (k : ℕ) (to : EntriesTo bs seen k) where
-    pub entry-twice : k < countIn bs → orderEntryIn bs k < countIn bs → (getD seen (orderEntryIn bs k) 0 ≡ 0 → ⊥) → entriesRight bs ≡ false
-    unfolding entriesRight
+    pub entry-twice : k < countIn bs → orderEntryIn bs k < countIn bs → (getD seen (orderEntryIn bs k) 0 ≡ 0 → ⊥) → entriesValid bs ≡ false
+    unfolding entriesValid
     entry-twice l h met =
         all-below-fails (enteredOnce bs) (countIn bs) .1 (
           orderEntryIn bs k,
@@ -118,8 +118,8 @@ module _ (bs : List ℕ) where
 
     -- ---- All entries: were a node not among them, they and it would be more nodes than there are
 
-    pub entries-all : countIn bs ≤ k → entriesRight bs ≡ true
-    unfolding entriesRight
+    pub entries-all : countIn bs ≤ k → entriesValid bs ≡ true
+    unfolding entriesValid
     entries-all l = all-below (enteredOnce bs) (countIn bs) .1 (λ a h. entered-once a (go a h (eqb (count a (entriesIn bs (countIn bs))) 0) refl))
       where
         same : k ≡ countIn bs
@@ -141,10 +141,10 @@ module _ (bs : List ℕ) where
 -- ---- Only an order that is marked has entries
 
 module _ (bs : List ℕ) where
-  pub order-unmarked : orderedIn bs ≡ 0 → orderRight bs ≡ true
-  unfolding orderRight
+  pub order-unmarked : orderedIn bs ≡ 0 → orderValid bs ≡ true
+  unfolding orderValid
   order-unmarked e = rw (eq-eqb (orderedIn bs) 0 e)
 
-  pub order-marked : (orderedIn bs ≡ 0 → ⊥) → orderRight bs ≡ entriesRight bs
-  unfolding orderRight
+  pub order-marked : (orderedIn bs ≡ 0 → ⊥) → orderValid bs ≡ entriesValid bs
+  unfolding orderValid
   order-marked h = rw (ne-eqb (orderedIn bs) 0 h)

@@ -1,5 +1,7 @@
--- The records of an arena, put one after the other to the graph of those before them (model/specs/Arena.antt's `recordsAccepted`): each by its own
--- number (`accepted-each`). Of that graph a record's questions read only what the sums below its number say: `questions-grown`. Assumes nothing.
+-- The records of an arena, put one after the other to the graph of those before them
+-- (model/specs/Arena.antt's `recordsAccepted`): each by its own number (`accepted-each`). Of that
+-- graph a record's questions read only what the sums below its number say: `questions-grown`.
+-- Assumes nothing.
 use mathlib.Core.Path.{_≡_, refl, sym, ap, subst, _∙_}
 use mathlib.Core.Logic.{_⊎_, inl, inr, _↔_}
 use mathlib.Core.Bool.{true, not, and-eq-true-iff}

@@ -8,11 +8,11 @@ use lib.Dec.{eqb, leb}
 use lib.ListN.{length}
 use borrow.Author.Tests.{eq-eqb, eqb-false, leb-true, le-leb, lt-leb}
 use Rattle.model.specs.Lists.{allBelow}
-use Rattle.model.specs.Arena.{arenaBytes, countIn, orderedIn, chainRight, inChainOnce, inOrderOnce, marksRight, nodeRight, holdsGraph}
+use Rattle.model.specs.Arena.{arenaBytes, countIn, orderedIn, chainValid, inChainOnce, inOrderOnce, stateValid, nodeValid, holdsGraph}
 use Rattle.laws.proofs.ListLaws.{all-below}
 use Rattle.laws.proofs.SnapshotLaws.{and-first, and-second}
-use Rattle.child_lists.specs.ChildLists.{listedRight, childListsRight}
-use Rattle.validate.specs.Validate.{enteredOnce, entriesRight, orderRight, recordsRight}
+use Rattle.child_lists.specs.ChildLists.{listedValid, childListsValid}
+use Rattle.validate.specs.Validate.{enteredOnce, entriesValid, orderValid, recordsValid}
 use Rattle.validate.proofs.RecordsLaws.{RecordsHeld, records-held}
 
 same-truth : (a b : Bool) → (a ≡ true → b ≡ true) → (b ≡ true → a ≡ true) → a ≡ b
@@ -22,9 +22,9 @@ same-truth false false there back = refl
 
 module _ (bs : List ℕ) where
   -- an order that is marked 1, or not at all, is tested as a whole
-  order-each : orderedIn bs ≤ 1 → (orderRight bs ≡ true → (n : ℕ) → n < countIn bs → (eqb (orderedIn bs) 0 || inOrderOnce bs n) ≡ true)
-      × (((n : ℕ) → n < countIn bs → (eqb (orderedIn bs) 0 || inOrderOnce bs n) ≡ true) → orderRight bs ≡ true)
-  unfolding orderRight entriesRight
+  order-each : orderedIn bs ≤ 1 → (orderValid bs ≡ true → (n : ℕ) → n < countIn bs → (eqb (orderedIn bs) 0 || inOrderOnce bs n) ≡ true)
+      × (((n : ℕ) → n < countIn bs → (eqb (orderedIn bs) 0 || inOrderOnce bs n) ≡ true) → orderValid bs ≡ true)
+  unfolding orderValid entriesValid
   order-each marked = go (eqb (orderedIn bs) 0) refl
     where
       go : (t : Bool) → eqb (orderedIn bs) 0 ≡ t
@@ -36,7 +36,7 @@ module _ (bs : List ℕ) where
           rw one (all-below (enteredOnce bs) (countIn bs))
 
   abbrev tests : Bool
-  tests = leb (countIn bs) 1024 && (marksRight bs && (recordsRight bs && (childListsRight bs && orderRight bs)))
+  tests = leb (countIn bs) 1024 && (stateValid bs && (recordsValid bs && (childListsValid bs && orderValid bs)))
 
   module _ (whole : length bs ≡ arenaBytes) where
     module _ (e : holdsGraph bs ≡ true) where
@@ -44,13 +44,13 @@ module _ (bs : List ℕ) where
       unfolding holdsGraph
       few = search (and-first, and-second)
 
-      marks : marksRight bs ≡ true
+      marks : stateValid bs ≡ true
       unfolding holdsGraph
       marks = search (and-first, and-second)
 
-      node : (n : ℕ) → n < countIn bs → nodeRight bs n ≡ true
+      node : (n : ℕ) → n < countIn bs → nodeValid bs n ≡ true
       unfolding holdsGraph
-      node n h = all-below (nodeRight bs) (countIn bs) .0 (search (and-first, and-second)) n h
+      node n h = all-below (nodeValid bs) (countIn bs) .0 (search (and-first, and-second)) n h
 
       records : RecordsHeld bs
       unfolding holdsGraph
@@ -62,34 +62,34 @@ module _ (bs : List ℕ) where
         local-root = search (and-first, and-second);
       }
 
-      lists : childListsRight bs ≡ true
-      unfolding childListsRight
-      lists = all-below (listedRight bs) (countIn bs) .1 (λ n h. let right = node n h in
-          and-eq-true-iff (chainRight bs n) (inChainOnce bs n) .1 (search (and-first, and-second), search (and-first, and-second)))
+      lists : childListsValid bs ≡ true
+      unfolding childListsValid
+      lists = all-below (listedValid bs) (countIn bs) .1 (λ n h. let right = node n h in
+          and-eq-true-iff (chainValid bs n) (inChainOnce bs n) .1 (search (and-first, and-second), search (and-first, and-second)))
 
-      order : orderRight bs ≡ true
+      order : orderValid bs ≡ true
       order = order-each (leb-true (orderedIn bs) 1 (and-first _ _ marks)) .1 (λ n h. let right = node n h in search (and-first, and-second))
 
       tested : tests ≡ true
       tested = rw (few, marks, records-held bs whole (leb-true (countIn bs) 1024 few) .1 records, lists, order)
 
     module _ (e : tests ≡ true) where
-      marks-tested : marksRight bs ≡ true
+      marks-tested : stateValid bs ≡ true
       marks-tested = search (and-first, and-second)
 
       records-tested : RecordsHeld bs
       records-tested = records-held bs whole (leb-true (countIn bs) 1024 (search (and-first, and-second))) .0 (search (and-first, and-second))
 
-      listed : (n : ℕ) → n < countIn bs → listedRight bs n ≡ true
-      unfolding childListsRight
-      listed n h = all-below (listedRight bs) (countIn bs) .0 (search (and-first, and-second)) n h
+      listed : (n : ℕ) → n < countIn bs → listedValid bs n ≡ true
+      unfolding childListsValid
+      listed n h = all-below (listedValid bs) (countIn bs) .0 (search (and-first, and-second)) n h
 
       ordered : (n : ℕ) → n < countIn bs → (eqb (orderedIn bs) 0 || inOrderOnce bs n) ≡ true
       ordered = order-each (leb-true (orderedIn bs) 1 (and-first _ _ marks-tested)) .0 (search (and-first, and-second))
 
-      node-tested : (n : ℕ) → n < countIn bs → nodeRight bs n ≡ true
+      node-tested : (n : ℕ) → n < countIn bs → nodeValid bs n ≡ true
       node-tested n h =
-          let list = and-eq-true-iff (chainRight bs n) (inChainOnce bs n) .0 (listed n h) in
+          let list = and-eq-true-iff (chainValid bs n) (inChainOnce bs n) .0 (listed n h) in
           rw (records-tested .fits n h, records-tested .prims n h, list .0, list .1, records-tested .shallow n h) (ordered n h)
 
       held : holdsGraph bs ≡ true
@@ -98,7 +98,7 @@ module _ (bs : List ℕ) where
           rw (
             and-first (leb (countIn bs) 1024) _ e,
             marks-tested,
-            all-below (nodeRight bs) (countIn bs) .1 node-tested,
+            all-below (nodeValid bs) (countIn bs) .1 node-tested,
             records-tested .accepted,
           ) (records-tested .local-root)
 
@@ -111,16 +111,16 @@ module _ (bs : List ℕ) where
     many-nodes l = holds-tests ∙ rw (lt-leb (countIn bs) 1024 l)
 
     module _ (few : countIn bs ≤ 1024) where
-      pub marks-fail : marksRight bs ≡ false → holdsGraph bs ≡ false
+      pub marks-fail : stateValid bs ≡ false → holdsGraph bs ≡ false
       marks-fail e = holds-tests ∙ rw (le-leb (countIn bs) 1024 few, e)
 
-      module _ (marks : marksRight bs ≡ true) where
-        pub records-fail : recordsRight bs ≡ false → holdsGraph bs ≡ false
+      module _ (marks : stateValid bs ≡ true) where
+        pub records-fail : recordsValid bs ≡ false → holdsGraph bs ≡ false
         records-fail e = holds-tests ∙ rw (le-leb (countIn bs) 1024 few, marks, e)
 
-        module _ (records : recordsRight bs ≡ true) where
-          pub lists-fail : childListsRight bs ≡ false → holdsGraph bs ≡ false
+        module _ (records : recordsValid bs ≡ true) where
+          pub lists-fail : childListsValid bs ≡ false → holdsGraph bs ≡ false
           lists-fail e = holds-tests ∙ rw (le-leb (countIn bs) 1024 few, marks, records, e)
 
-          pub order-left : childListsRight bs ≡ true → holdsGraph bs ≡ orderRight bs
+          pub order-left : childListsValid bs ≡ true → holdsGraph bs ≡ orderValid bs
           order-left e = holds-tests ∙ rw (le-leb (countIn bs) 1024 few, marks, records, e)

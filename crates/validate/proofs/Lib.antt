@@ -1,6 +1,7 @@
 -- The questions put to one record.
 pub mod RecordCheckLaws
--- That the tests of an arena are question 2 (`HoldsTests`); the rest is what that and the functions' proofs cite.
+-- That the tests of an arena are question 2 (`HoldsTests`); the rest is what that and the
+-- functions' proofs cite.
 mod MarksLaws
 mod GrownLaws
 mod ArenaRecords

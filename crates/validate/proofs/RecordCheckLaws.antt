@@ -1,5 +1,6 @@
--- The questions that this crate puts are those of model/specs/Refusals.antt, put to a graph and a node (`questions-at`); and what the check may answer
--- where they fail and where they pass. Assumes nothing.
+-- The questions that this crate puts are those of model/specs/Refusals.antt, put to a graph and a
+-- node (`questions-at`); and what the check may answer where they fail and where they pass. Assumes
+-- nothing.
 use mathlib.Core.Path.{_≡_, refl, sym}
 use mathlib.Core.Bool.{Bool, true, false, cond}
 use mathlib.Core.List.{List, [], _∷_}

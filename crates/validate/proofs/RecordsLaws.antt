@@ -1,5 +1,6 @@
--- All records: `recordsRight` is what question 2 asks of the records (`records-held`), and the check of the child lists may then be put (`parented`);
--- and the laws of the loop over them (`RecordsTo`). Assumes nothing.
+-- All records: `recordsValid` is what question 2 asks of the records (`records-held`), and the
+-- check of the child lists may then be put (`parented`); and the laws of the loop over them
+-- (`RecordsTo`). Assumes nothing.
 use mathlib.Core.Path.{_≡_, refl, sym, ap, _∙_}
 use mathlib.Core.Logic.{_↔_}
 use mathlib.Core.Bool.{Bool, true, false, not, _||_, and-eq-true-iff}
@@ -22,9 +23,9 @@ use Rattle.arena.specs.Slot.{arcIn, parentIn, depthIn}
 use Rattle.arena.proofs.TabulateLaws.{tabulate-length, tabulate-at}
 use Rattle.arena.proofs.SlotLaws.{same-fields, path-length}
 use Rattle.child_lists.specs.ChildLists.{Parented}
-use Rattle.validate.specs.Validate.{pathBytesBelow, rootWith, rootBelow, questionsIn, depthRight, recordRightAfter, recordRight, recordsRight}
+use Rattle.validate.specs.Validate.{pathBytesBelow, rootWith, rootBelow, questionsIn, depthValid, recordValidAfter, recordValid, recordsValid}
 use Rattle.validate.proofs.GrownLaws.{accepted-each, Fit, root-tabulated, has-path, questions-grown}
-use Rattle.validate.proofs.ArenaRecords.{RightAfter, parent-lower, no-parent, path-fits, right-after, depth-left}
+use Rattle.validate.proofs.ArenaRecords.{ValidAfter, parent-lower, no-parent, path-fits, right-after, depth-left}
 
 -- what `holdsGraph` asks of the records
 pub record RecordsHeld (bs : List ℕ) : Type 0 where
@@ -51,7 +52,7 @@ fit-fits : (bs : List ℕ) (n : ℕ) → 28 ≤ recordLengthIn bs n → recordLe
 fit-fits bs n named short = rw (le-leb 28 (recordLengthIn bs n) named, le-leb (recordLengthIn bs n) 282 short)
 
 abbrev Right : List ℕ → ℕ → Type 0
-Right bs n = RightAfter bs n (pathBytesBelow bs n) (rootBelow bs n)
+Right bs n = ValidAfter bs n (pathBytesBelow bs n) (rootBelow bs n)
 
 -- ---- Records of a record's length
 
@@ -63,7 +64,7 @@ module _ (bs : List ℕ) (fit : Fit bs (countIn bs)) where
   -- where parents are lower and prim counts right, a record's depth is tested as document 01 has it
   module _ (lower : (n : ℕ) → 0 < n → n < countIn bs → parentIn bs n < n)
       (prims : (n : ℕ) → n < countIn bs → primCountIn bs n ≡ primCount (nodeIn bs n .path)) where
-    shallow-depth : (n : ℕ) → n < countIn bs → shallowMarked bs n ≡ depthRight bs n
+    shallow-depth : (n : ℕ) → n < countIn bs → shallowMarked bs n ≡ depthValid bs n
     shallow-depth zero h = refl
     shallow-depth (suc n) h =
         let same = same-fields bs (suc n) (omega (arith, fit (suc n) h)) in
@@ -80,9 +81,9 @@ module _ (bs : List ℕ) (fit : Fit bs (countIn bs)) where
 
 module _ (bs : List ℕ) (whole : length bs ≡ arenaBytes) (few : countIn bs ≤ 1024) where
   -- tested so far
-  module _ (right : allBelow (recordRight bs) (countIn bs) ≡ true) where
+  module _ (right : allBelow (recordValid bs) (countIn bs) ≡ true) where
     each : (n : ℕ) → n < countIn bs → Right bs n
-    each n h = right-after bs n (pathBytesBelow bs n) (rootBelow bs n) (all-below (recordRight bs) (countIn bs) .0 right n h)
+    each n h = right-after bs n (pathBytesBelow bs n) (rootBelow bs n) (all-below (recordValid bs) (countIn bs) .0 right n h)
 
     fit : Fit bs (countIn bs)
     fit n h = (each n h .named, each n h .short)
@@ -124,28 +125,28 @@ module _ (bs : List ℕ) (whole : length bs ≡ arenaBytes) (few : countIn bs �
     held-lower : (n : ℕ) → 0 < n → n < countIn bs → parentIn bs n < n
     held-lower n l h = parent-lower bs n (pathBytesBelow bs n) (rootBelow bs n) (held-passes n h) l
 
-    held-right : (n : ℕ) → n < countIn bs → recordRight bs n ≡ true
+    held-right : (n : ℕ) → n < countIn bs → recordValid bs n ≡ true
     held-right n h =
         depth-left bs n (pathBytesBelow bs n) (rootBelow bs n) (held-fit n h .0) (held-fit n h .1) (held-passes n h) (held-prims n h)
         ∙ sym (shallow-depth bs held-fit held-lower held-prims n h) ∙ held .shallow n h
 
-    records-complete : recordsRight bs ≡ true
-    unfolding recordsRight
+    records-complete : recordsValid bs ≡ true
+    unfolding recordsValid
     records-complete =
-        and-eq-true-iff (allBelow (recordRight bs) (countIn bs)) (eqb (countIn bs) 0 || eqb (localRootIn bs) (rootBelow bs (countIn bs))) .1 (
-          all-below (recordRight bs) (countIn bs) .1 held-right,
+        and-eq-true-iff (allBelow (recordValid bs) (countIn bs)) (eqb (countIn bs) 0 || eqb (localRootIn bs) (rootBelow bs (countIn bs))) .1 (
+          all-below (recordValid bs) (countIn bs) .1 held-right,
           ap (λ (r : ℕ). eqb (countIn bs) 0 || eqb (localRootIn bs) r) (sym (root-same bs held-fit)) ∙ held .local-root,
         )
 
-  both-right : recordsRight bs ≡ true
-      → (allBelow (recordRight bs) (countIn bs) ≡ true) × ((eqb (countIn bs) 0 || eqb (localRootIn bs) (rootBelow bs (countIn bs))) ≡ true)
-  unfolding recordsRight
-  both-right e = and-eq-true-iff (allBelow (recordRight bs) (countIn bs)) _ .0 e
+  both-right : recordsValid bs ≡ true
+      → (allBelow (recordValid bs) (countIn bs) ≡ true) × ((eqb (countIn bs) 0 || eqb (localRootIn bs) (rootBelow bs (countIn bs))) ≡ true)
+  unfolding recordsValid
+  both-right e = and-eq-true-iff (allBelow (recordValid bs) (countIn bs)) _ .0 e
 
-  pub records-held : (recordsRight bs ≡ true) ↔ RecordsHeld bs
+  pub records-held : (recordsValid bs ≡ true) ↔ RecordsHeld bs
   records-held = (λ e. records-sound (both-right e .0) (both-right e .1), records-complete)
 
-  pub records-parented : recordsRight bs ≡ true → Parented bs
+  pub records-parented : recordsValid bs ≡ true → Parented bs
   records-parented e = parented (both-right e .0)
 
 -- ---- The loop over the records
@@ -153,7 +154,7 @@ module _ (bs : List ℕ) (whole : length bs ≡ arenaBytes) (few : countIn bs �
 -- those below n are right, and come to so many bytes of paths and this local root
 pub record RecordsTo (bs : List ℕ) (n pathBytes root : ℕ) : Type 0 where
   pub within : n ≤ countIn bs
-  pub right : allBelow (recordRight bs) n ≡ true
+  pub right : allBelow (recordValid bs) n ≡ true
   pub bytes : pathBytes ≡ pathBytesBelow bs n
   pub few-bytes : pathBytes ≤ mostPathBytes
   pub local-root : root ≡ rootBelow bs n
@@ -162,25 +163,25 @@ pub records-none : (bs : List ℕ) → RecordsTo bs 0 0 0
 records-none bs = record { within = omega arith; right = refl; bytes = refl; few-bytes = omega arith; local-root = refl }
 
 module _ (bs : List ℕ) (n pathBytes root : ℕ) (to : RecordsTo bs n pathBytes root) where
-  here : recordRightAfter bs n pathBytes root ≡ recordRight bs n
-  here = λ i. recordRightAfter bs n (to .bytes i) (to .local-root i)
+  here : recordValidAfter bs n pathBytes root ≡ recordValid bs n
+  here = λ i. recordValidAfter bs n (to .bytes i) (to .local-root i)
 
   pub no-root : n ≡ 0 → root ≡ 0
   no-root z = to .local-root ∙ ap (rootBelow bs) z
 
-  pub record-fails : n < countIn bs → recordRightAfter bs n pathBytes root ≡ false → recordsRight bs ≡ false
-  unfolding recordsRight
-  record-fails l e = rw (all-below-fails (recordRight bs) (countIn bs) .1 (n, l, sym here ∙ e))
+  pub record-fails : n < countIn bs → recordValidAfter bs n pathBytes root ≡ false → recordsValid bs ≡ false
+  unfolding recordsValid
+  record-fails l e = rw (all-below-fails (recordValid bs) (countIn bs) .1 (n, l, sym here ∙ e))
 
   -- the record here is read: its length and arc, and the local root with it
   pub records-more : length bs ≡ arenaBytes → countIn bs ≤ 1024 → n < countIn bs → (long arc found : ℕ) → long ≡ recordLengthIn bs n
-      → arc ≡ arcIn bs n → found ≡ rootWith n arc root → recordRightAfter bs n pathBytes root ≡ true
+      → arc ≡ arcIn bs n → found ≡ rootWith n arc root → recordValidAfter bs n pathBytes root ≡ true
       → RecordsTo bs (n + 1) (pathBytes + (long - 27)) found
   records-more whole few l long arc found same-length same-arc same-root e =
       let right = right-after bs n pathBytes root e in
       rw (add-one n) (record {
         within = omega arith;
-        right = and-eq-true-iff (recordRight bs n) (allBelow (recordRight bs) n) .1 (sym here ∙ e, to .right);
+        right = and-eq-true-iff (recordValid bs n) (allBelow (recordValid bs) n) .1 (sym here ∙ e, to .right);
         bytes = λ i. to .bytes i + (same-length i - 27);
         few-bytes = omega (
           arith,
@@ -190,8 +191,8 @@ module _ (bs : List ℕ) (n pathBytes root : ℕ) (to : RecordsTo bs n pathBytes
         local-root = same-root ∙ (λ i. rootWith n (same-arc i) (to .local-root i));
       })
 
-  pub records-all : countIn bs ≤ n → recordsRight bs ≡ (eqb (countIn bs) 0 || eqb (localRootIn bs) root)
-  unfolding recordsRight
+  pub records-all : countIn bs ≤ n → recordsValid bs ≡ (eqb (countIn bs) 0 || eqb (localRootIn bs) root)
+  unfolding recordsValid
   records-all l =
       let all : n ≡ countIn bs = omega (arith, to .within) in
-      rw (ap (allBelow (recordRight bs)) (sym all) ∙ to .right, ap (rootBelow bs) (sym all) ∙ sym (to .local-root))
+      rw (ap (allBelow (recordValid bs)) (sym all) ∙ to .right, ap (rootBelow bs) (sym all) ∙ sym (to .local-root))

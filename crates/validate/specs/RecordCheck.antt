@@ -1,5 +1,7 @@
--- The questions that a record is put (document 01's 4 to 7; model/specs/Refusals.antt's `recordQuestions`), by what they read of the graph before it:
--- how many nodes it has, how many path bytes, and whether it has a local root; and what the check answers. proofs/RecordCheckLaws.antt ties them to a graph.
+-- The questions that a record is put (document 01's 4 to 7; model/specs/Refusals.antt's
+-- `recordQuestions`), by what they read of the graph before it: how many nodes it has, how many
+-- path bytes, and whether it has a local root; and what the check answers.
+-- proofs/RecordCheckLaws.antt ties them to a graph.
 use mathlib.Core.Path.{_≡_}
 use mathlib.Core.Bool.{Bool, not, _||_, _&&_, cond}
 use mathlib.Core.List.{List, [], _∷_}

@@ -1,6 +1,8 @@
--- Question 2 of document 01, "Does the room hold a graph", as the tests that are put to an arena one after the other: its marks, its records from the
--- first on, its child lists (crates/child_lists) and its order. proofs/HoldsTests.antt shows that together they are model/specs/Arena.antt's
--- `holdsGraph`. A record is read by its fields, and put to what the records before it come to: how many bytes of paths, and which local root.
+-- Question 2 of document 01, "Does the room hold a graph", as the tests that are put to an arena
+-- one after the other: its marks, its records from the first on, its child lists
+-- (crates/child_lists) and its order. proofs/HoldsTests.antt shows that together they are
+-- model/specs/Arena.antt's `holdsGraph`. A record is read by its fields, and put to what the
+-- records before it come to: how many bytes of paths, and which local root.
 use mathlib.Core.Bool.{Bool, not, _||_, _&&_, cond}
 use mathlib.Core.List.{List}
 use Prim.Native.Nat.{ℕ, zero, suc, _+_, _-_}
@@ -41,29 +43,30 @@ abbrev pub questionsIn : List ℕ → ℕ → ℕ → ℕ → List Question
 questionsIn bs n pathBytes root =
     questionsAt n pathBytes (not (eqb root 0)) (arcIn bs n) (flagsIn bs n) (parentIn bs n) (originIn bs n) (hasSpecsIn bs n) (nodeIn bs n .path)
 
--- "shallow set where a parent is": node n's depth is at most the prim count of its parent, unless the arena is marked
-abbrev pub depthRight : List ℕ → ℕ → Bool
-depthRight bs n = eqb n 0 || (leb (depthIn bs n) (primCountIn bs (parentIn bs n)) || eqb (shallowIn bs) 1)
+-- "shallow set where a parent is": node n's depth is at most the prim count of its parent, unless
+-- the arena is marked
+abbrev pub depthValid : List ℕ → ℕ → Bool
+depthValid bs n = eqb n 0 || (leb (depthIn bs n) (primCountIn bs (parentIn bs n)) || eqb (shallowIn bs) 1)
 
 -- what the questions ask of node n's numbers: its links, its kind and the room
-unfoldable pub numbersRight : List ℕ → ℕ → ℕ → ℕ → Bool
-numbersRight bs n pathBytes root =
+unfoldable pub numbersValid : List ℕ → ℕ → ℕ → ℕ → Bool
+numbersValid bs n pathBytes root =
     linksAt n (arcIn bs n) (flagsIn bs n) (parentIn bs n) (originIn bs n)
     && (kindAt n (not (eqb root 0)) (arcIn bs n) (flagsIn bs n) (parentIn bs n) (hasSpecsIn bs n) && roomAt n pathBytes (recordLengthIn bs n - 27))
 
 -- the record of node n, after records with `pathBytes` bytes of paths and the local root `root`
-unfoldable pub recordRightAfter : List ℕ → ℕ → ℕ → ℕ → Bool
-recordRightAfter bs n pathBytes root =
+unfoldable pub recordValidAfter : List ℕ → ℕ → ℕ → ℕ → Bool
+recordValidAfter bs n pathBytes root =
     recordFits bs n
-    && (eqb (refusal (questionsIn bs n pathBytes root)) 0 && (eqb (primCountIn bs n) (primCount (nodeIn bs n .path)) && depthRight bs n))
+    && (eqb (refusal (questionsIn bs n pathBytes root)) 0 && (eqb (primCountIn bs n) (primCount (nodeIn bs n .path)) && depthValid bs n))
 
-abbrev pub recordRight : List ℕ → ℕ → Bool
-recordRight bs n = recordRightAfter bs n (pathBytesBelow bs n) (rootBelow bs n)
+abbrev pub recordValid : List ℕ → ℕ → Bool
+recordValid bs n = recordValidAfter bs n (pathBytesBelow bs n) (rootBelow bs n)
 
 -- each record is right, and the header has their local root
-unfoldable pub recordsRight : List ℕ → Bool
-recordsRight bs =
-    allBelow (recordRight bs) (countIn bs) && (eqb (countIn bs) 0 || eqb (localRootIn bs) (rootBelow bs (countIn bs)))
+unfoldable pub recordsValid : List ℕ → Bool
+recordsValid bs =
+    allBelow (recordValid bs) (countIn bs) && (eqb (countIn bs) 0 || eqb (localRootIn bs) (rootBelow bs (countIn bs)))
 
 -- ---- The order
 
@@ -74,8 +77,8 @@ abbrev pub enteredOnce : List ℕ → ℕ → Bool
 enteredOnce bs n = eqb (count n (entriesIn bs (countIn bs))) 1
 
 -- "a marked order each node once"
-unfoldable pub entriesRight : List ℕ → Bool
-entriesRight bs = allBelow (enteredOnce bs) (countIn bs)
+unfoldable pub entriesValid : List ℕ → Bool
+entriesValid bs = allBelow (enteredOnce bs) (countIn bs)
 
-unfoldable pub orderRight : List ℕ → Bool
-orderRight bs = eqb (orderedIn bs) 0 || entriesRight bs
+unfoldable pub orderValid : List ℕ → Bool
+orderValid bs = eqb (orderedIn bs) 0 || entriesValid bs

@@ -1,18 +1,20 @@
-// Whether the bytes of an arena hold a graph: question 2 of document 01, exactly, on any bytes of an arena's length. Every public call asks this
-// first, so it is quick: each record and its path are read once, and nothing above the count. It writes nothing.
-// specs/Validate.antt has the tests, one for each pass; proofs/HoldsTests.antt shows that together they are model/specs/Arena.antt's `holdsGraph`.
+// Whether the bytes of an arena hold a graph: question 2 of document 01, exactly, on any bytes of
+// an arena's length. Every public call asks this first, so it is quick: each record and its path
+// are read once, and nothing above the count. It writes nothing.
+// specs/Validate.antt has the tests, one for each pass; proofs/HoldsTests.antt shows that together
+// they are model/specs/Arena.antt's `holdsGraph`.
 ghost use mathlib.Core.Path.{_≡_};
 ghost use mathlib.Core.Bool.{_||_};
 ghost use Prim.Native.Nat.{_≤_, _<_};
 ghost use lib.Dec.{eqb};
 ghost use lib.ListN.{length};
-ghost use Rattle.model.specs.Arena.{arenaBytes, countIn, recordLengthIn, localRootIn, marksRight, holdsGraph};
+ghost use Rattle.model.specs.Arena.{arenaBytes, countIn, recordLengthIn, localRootIn, stateValid, holdsGraph};
 ghost use Rattle.path.specs.Tables.{Tables};
 ghost use Rattle.arena.specs.Slot.{HasSlot, arcIn, parentIn};
-ghost use Rattle.validate.specs.Validate.{marksAt, rootWith, depthRight, numbersRight, recordRightAfter, recordsRight, entriesRight, orderRight};
+ghost use Rattle.validate.specs.Validate.{marksAt, rootWith, depthValid, numbersValid, recordValidAfter, recordsValid, entriesValid, orderValid};
 
 // Whether these marks, a byte each, may stand together over `count` nodes.
-fn marks_allowed(count: u32, ordered: u8, finalized: u8, shallow: u8) -> bool
+fn state_allowed(count: u32, ordered: u8, finalized: u8, shallow: u8) -> bool
     ensures { λ r. ⌜ r ≡ marksAt count ordered finalized shallow ⌝ }
 {
     if ordered > 1 {
@@ -43,11 +45,11 @@ fn marks_allowed(count: u32, ordered: u8, finalized: u8, shallow: u8) -> bool
 }
 
 // Whether the header's marks are right.
-fn marks_right(arena: &[u8], count: u32) -> bool
+fn state_valid(arena: &[u8], count: u32) -> bool
     requires { ⌜ (length (now arena) ≡ arenaBytes) × (count ≡ countIn (now arena)) ⌝ }
-    ensures { λ r. ⌜ r ≡ marksRight (now (arena .entry)) ⌝ }
+    ensures { λ r. ⌜ r ≡ stateValid (now (arena .entry)) ⌝ }
 {
-    marks_allowed(
+    state_allowed(
         count,
         arena::ordered(arena),
         arena::finalized(arena),
@@ -55,10 +57,11 @@ fn marks_right(arena: &[u8], count: u32) -> bool
     )
 }
 
-// Whether node n is no deeper than its parent has prims, or the mark "shallow" says that some node is.
-fn depth_right(arena: &[u8], n: u32, parent: u32) -> bool
+// Whether node n is no deeper than its parent has prims, or the mark "shallow" says that some node
+// is.
+fn depth_valid(arena: &[u8], n: u32, parent: u32) -> bool
     requires { ⌜ HasSlot (now arena) n × (parent ≡ parentIn (now arena) n) × (0 < n → parent < n) ⌝ }
-    ensures { λ r. ⌜ r ≡ depthRight (now (arena .entry)) n ⌝ }
+    ensures { λ r. ⌜ r ≡ depthValid (now (arena .entry)) n ⌝ }
 {
     if n == 0 {
         return true;
@@ -69,9 +72,9 @@ fn depth_right(arena: &[u8], n: u32, parent: u32) -> bool
     arena::shallow(arena) == 1
 }
 
-// Whether node n's numbers pass the questions on its links, its kind and the room left, after records that have `path_bytes` bytes of paths and the local root
-// `root`, 0 for none.
-fn numbers_right(
+// Whether node n's numbers pass the questions on its links, its kind and the room left, after
+// records that have `path_bytes` bytes of paths and the local root `root`, 0 for none.
+fn numbers_valid(
     arena: &[u8],
     n: u32,
     length: usize,
@@ -82,7 +85,7 @@ fn numbers_right(
 ) -> bool
     requires { ⌜ HasSlot (now arena) n × (length ≡ recordLengthIn (now arena) n) × (27 ≤ length) × (length ≤ 282) × (arc ≡ arcIn (now arena) n) ⌝ }
     requires { ⌜ (parent ≡ parentIn (now arena) n) × («path_bytes» ≤ 32768) ⌝ }
-    ensures { λ r. ⌜ r ≡ numbersRight (now (arena .entry)) n «path_bytes» root ⌝ }
+    ensures { λ r. ⌜ r ≡ numbersValid (now (arena .entry)) n «path_bytes» root ⌝ }
 {
     let flags = arena::flags(arena, n);
     if !crate::record::links_allowed(n, arc, flags, parent, arena::origin(arena, n)) {
@@ -95,9 +98,10 @@ fn numbers_right(
     path_bytes + (length - 27) <= 32768
 }
 
-// Whether the record of node n is right, after records that have `path_bytes` bytes of paths and the local root `root`. Its path is read by the tables lent,
-// and last: the loop over its bytes is quickest where little else is kept for later.
-fn record_right(
+// Whether the record of node n is right, after records that have `path_bytes` bytes of paths and
+// the local root `root`. Its path is read by the tables lent, and last: the loop over its bytes is
+// quickest where little else is kept for later.
+fn record_valid(
     kinds: &[u8],
     pairs: &[u64],
     arena: &[u8],
@@ -109,7 +113,7 @@ fn record_right(
 ) -> bool
     requires { ⌜ Tables (now kinds) (now pairs) ⌝ }
     requires { ⌜ HasSlot (now arena) n × (length ≡ recordLengthIn (now arena) n) × (arc ≡ arcIn (now arena) n) × («path_bytes» ≤ 32768) ⌝ }
-    ensures { λ r. ⌜ r ≡ recordRightAfter (now (arena .entry)) n «path_bytes» root ⌝ }
+    ensures { λ r. ⌜ r ≡ recordValidAfter (now (arena .entry)) n «path_bytes» root ⌝ }
 {
     if length < 28 {
         return false;
@@ -118,17 +122,18 @@ fn record_right(
         return false;
     }
     let parent = arena::parent(arena, n);
-    if !numbers_right(arena, n, length, arc, parent, path_bytes, root) {
+    if !numbers_valid(arena, n, length, arc, parent, path_bytes, root) {
         return false;
     }
-    if !depth_right(arena, n, parent) {
+    if !depth_valid(arena, n, parent) {
         return false;
     }
     let prims = arena::prim_count(arena, n);
     path::tables::has_names(kinds, pairs, arena::path(arena, n), prims)
 }
 
-// The local root where node n, with this arc, comes after those that have the local root `root`: where there are none, 0.
+// The local root where node n, with this arc, comes after those that have the local root `root`:
+// where there are none, 0.
 fn root_with(n: u32, arc: u8, root: u32) -> u32
     requires { ⌜ (n ≡ 0 → root ≡ 0) ⌝ }
     ensures { λ r. ⌜ r ≡ rootWith n arc root ⌝ }
@@ -140,7 +145,7 @@ fn root_with(n: u32, arc: u8, root: u32) -> u32
 }
 
 // Whether the header has the local root that was found. An empty graph does not use it.
-fn root_right(arena: &[u8], count: u32, root: u32) -> bool
+fn root_valid(arena: &[u8], count: u32, root: u32) -> bool
     requires { ⌜ length (now arena) ≡ arenaBytes ⌝ }
     ensures { λ r. ⌜ r ≡ (eqb count 0 || eqb (localRootIn (now (arena .entry))) root) ⌝ }
 {
@@ -151,9 +156,9 @@ fn root_right(arena: &[u8], count: u32, root: u32) -> bool
 }
 
 // Whether every record is right, and the header has their local root.
-fn records_right(arena: &[u8], count: u32) -> bool
+fn records_valid(arena: &[u8], count: u32) -> bool
     requires { ⌜ (length (now arena) ≡ arenaBytes) × (count ≡ countIn (now arena)) × (count ≤ 1024) ⌝ }
-    ensures { λ r. ⌜ r ≡ recordsRight (now (arena .entry)) ⌝ }
+    ensures { λ r. ⌜ r ≡ recordsValid (now (arena .entry)) ⌝ }
 {
     let kinds = path::rows::kinds();
     let pairs = path::rows::pairs();
@@ -163,20 +168,21 @@ fn records_right(arena: &[u8], count: u32) -> bool
     while n < count {
         let length = arena::record_length(arena, n) as usize;
         let arc = arena::arc(arena, n);
-        if !record_right(&kinds, &pairs, arena, n, length, arc, path_bytes, root) {
+        if !record_valid(&kinds, &pairs, arena, n, length, arc, path_bytes, root) {
             return false;
         }
         path_bytes += length - 27;
         root = root_with(n, arc, root);
         n += 1;
     }
-    root_right(arena, count, root)
+    root_valid(arena, count, root)
 }
 
-// Whether each entry of the order is a node that no entry before it is: then each node stands there once.
-fn entries_right(arena: &[u8], count: u32) -> bool
+// Whether each entry of the order is a node that no entry before it is: then each node stands there
+// once.
+fn entries_valid(arena: &[u8], count: u32) -> bool
     requires { ⌜ (length (now arena) ≡ arenaBytes) × (count ≡ countIn (now arena)) × (count ≤ 1024) ⌝ }
-    ensures { λ r. ⌜ r ≡ entriesRight (now (arena .entry)) ⌝ }
+    ensures { λ r. ⌜ r ≡ entriesValid (now (arena .entry)) ⌝ }
 {
     let mut seen = [0u8; 1024];
     let mut k: u32 = 0;
@@ -196,17 +202,18 @@ fn entries_right(arena: &[u8], count: u32) -> bool
 }
 
 // Whether the order is right, where it is marked.
-fn order_right(arena: &[u8], count: u32) -> bool
+fn order_valid(arena: &[u8], count: u32) -> bool
     requires { ⌜ (length (now arena) ≡ arenaBytes) × (count ≡ countIn (now arena)) × (count ≤ 1024) ⌝ }
-    ensures { λ r. ⌜ r ≡ orderRight (now (arena .entry)) ⌝ }
+    ensures { λ r. ⌜ r ≡ orderValid (now (arena .entry)) ⌝ }
 {
     if arena::ordered(arena) == 0 {
         return true;
     }
-    entries_right(arena, count)
+    entries_valid(arena, count)
 }
 
-// Whether the arena holds a graph (question 2). The tests stand in an order in which each may lean on those before it.
+// Whether the arena holds a graph (question 2). The tests stand in an order in which each may lean
+// on those before it.
 pub fn is_graph(arena: &[u8]) -> bool
     requires { ⌜ length (now arena) ≡ arenaBytes ⌝ }
     ensures { λ r. ⌜ r ≡ holdsGraph (now (arena .entry)) ⌝ }
@@ -215,14 +222,14 @@ pub fn is_graph(arena: &[u8]) -> bool
     if count > 1024 {
         return false;
     }
-    if !marks_right(arena, count) {
+    if !state_valid(arena, count) {
         return false;
     }
-    if !records_right(arena, count) {
+    if !records_valid(arena, count) {
         return false;
     }
-    if !child_lists::are_right(arena, count) {
+    if !child_lists::are_valid(arena, count) {
         return false;
     }
-    order_right(arena, count)
+    order_valid(arena, count)
 }

@@ -1,5 +1,6 @@
-// Whether bytes are what document 01's questions ask for, on any bytes. record.rt: one record, questions 4 to 7; graph.rt: a whole arena, question 2; questions.rt:
-// the questions that calls put first. Nothing is written.
+// Whether bytes are what document 01's questions ask for, on any bytes. record.rt: one record,
+// questions 4 to 7; graph.rt: a whole arena, question 2; questions.rt: the questions that calls put
+// first. Nothing is written.
 mod graph;
 mod questions;
 mod record;

@@ -1,101 +1,102 @@
-// The questions that calls put first: the size of the buffer and whether it holds a graph; whether one node, or two, can be read; and whether two nodes
-// have one parent. No public function has a `requires`: each puts its questions in document 01's order and is refused by the first whose answer is no.
-// Nothing is written.
+// The questions that calls put first: the size of the buffer and whether it holds a graph; whether
+// one node, or two, can be read; and whether two nodes have one parent. No public function has a
+// `requires`: each puts its questions in document 01's order and is refused by the first whose
+// answer is no. Nothing is written.
 // The questions are in model/specs/Calls.antt and ArenaCalls.antt.
-use model::Finished;
-use model::Numbered;
+use model::NumberResult;
 use model::Refusal;
+use model::UnitResult;
 ghost use mathlib.Core.Path.{_≡_};
 ghost use mathlib.Core.Bool.{_||_};
 ghost use mathlib.Core.List.{[], _∷_};
 ghost use lib.Dec.{eqb, ltb};
-ghost use Rattle.model.specs.Answers.{finishedRefusal};
+ghost use Rattle.model.specs.Answers.{unitRefusal};
 ghost use Rattle.model.specs.Arena.{countIn, decode};
-ghost use Rattle.model.specs.ArenaCalls.{Opened, Readable, askArena, Answered};
+ghost use Rattle.model.specs.ArenaCalls.{ValidArena, ValidNode, askArena, Answered};
 ghost use Rattle.model.specs.Calls.{readsNode, comparesNodes, comparesSiblings};
 ghost use Rattle.model.specs.Graph.{nodeAt};
 ghost use Rattle.model.specs.Refusals.{ask, refusal};
 
 // How many nodes the graph has: none in an empty one. Refused 1 or 2.
-pub fn count(arena: &[u8]) -> Numbered
+pub fn count(arena: &[u8]) -> NumberResult
     ensures { λ r. ⌜ Answered (askArena (now (arena .entry)) []) (countIn (now (arena .entry))) r ⌝ }
 {
     if arena.len() != 327744 {
-        return Numbered::Refused(Refusal::Size);
+        return NumberResult::Refused(Refusal::Size);
     }
     if !crate::graph::is_graph(arena) {
-        return Numbered::Refused(Refusal::NotAGraph);
+        return NumberResult::Refused(Refusal::NotAGraph);
     }
-    Numbered::Number(arena::count(arena))
+    NumberResult::Number(arena::count(arena))
 }
 
 // Questions 3 and 4, of a graph with `count` nodes.
-fn ask_below(count: u32, n: u32) -> Finished
-    ensures { λ r. ⌜ finishedRefusal r ≡ refusal (ask 3 (ltb 0 count) ∷ ask 4 (ltb n count) ∷ []) ⌝ }
+fn ask_below(count: u32, n: u32) -> UnitResult
+    ensures { λ r. ⌜ unitRefusal r ≡ refusal (ask 3 (ltb 0 count) ∷ ask 4 (ltb n count) ∷ []) ⌝ }
 {
     if count == 0 {
-        return Finished::Refused(Refusal::NodeZero);
+        return UnitResult::Refused(Refusal::NodeZero);
     }
     if n >= count {
-        return Finished::Refused(Refusal::Node);
+        return UnitResult::Refused(Refusal::Node);
     }
-    Finished::Done
+    UnitResult::Done
 }
 
 // Questions 1 to 4: whether node n can be read.
-pub fn ask_node(arena: &[u8], n: u32) -> Finished
-    ensures { λ r. ⌜ finishedRefusal r ≡ refusal (askArena (now (arena .entry)) (readsNode (decode (now (arena .entry))) n)) ⌝ }
+pub fn ask_node(arena: &[u8], n: u32) -> UnitResult
+    ensures { λ r. ⌜ unitRefusal r ≡ refusal (askArena (now (arena .entry)) (readsNode (decode (now (arena .entry))) n)) ⌝ }
 {
     let counted = count(arena);
     match counted {
-        Numbered::Number(nodes) => ask_below(nodes, n),
-        Numbered::Refused(refusal) => Finished::Refused(refusal),
+        NumberResult::Number(nodes) => ask_below(nodes, n),
+        NumberResult::Refused(refusal) => UnitResult::Refused(refusal),
     }
 }
 
 // Question 4 of node n, of an arena that holds a graph.
-fn ask_number(arena: &[u8], n: u32) -> Finished
-    requires { ⌜ Opened (now arena) ⌝ }
-    ensures { λ r. ⌜ finishedRefusal r ≡ refusal (ask 4 (ltb n (countIn (now (arena .entry)))) ∷ []) ⌝ }
+fn ask_number(arena: &[u8], n: u32) -> UnitResult
+    requires { ⌜ ValidArena (now arena) ⌝ }
+    ensures { λ r. ⌜ unitRefusal r ≡ refusal (ask 4 (ltb n (countIn (now (arena .entry)))) ∷ []) ⌝ }
 {
     if n >= arena::count(arena) {
-        return Finished::Refused(Refusal::Node);
+        return UnitResult::Refused(Refusal::Node);
     }
-    Finished::Done
+    UnitResult::Done
 }
 
 // Questions 1 to 4 of two nodes. The arena is checked once.
-pub fn ask_nodes(arena: &[u8], a: u32, b: u32) -> Finished
-    ensures { λ r. ⌜ finishedRefusal r ≡ refusal (askArena (now (arena .entry)) (comparesNodes (decode (now (arena .entry))) a b)) ⌝ }
+pub fn ask_nodes(arena: &[u8], a: u32, b: u32) -> UnitResult
+    ensures { λ r. ⌜ unitRefusal r ≡ refusal (askArena (now (arena .entry)) (comparesNodes (decode (now (arena .entry))) a b)) ⌝ }
 {
     let asked = ask_node(arena, a);
     match asked {
-        Finished::Done => ask_number(arena, b),
-        Finished::Refused(refusal) => Finished::Refused(refusal),
+        UnitResult::Done => ask_number(arena, b),
+        UnitResult::Refused(refusal) => UnitResult::Refused(refusal),
     }
 }
 
 // Question 8: one parent. A node with itself passes.
-fn ask_parents(arena: &[u8], a: u32, b: u32) -> Finished
-    requires { ⌜ Readable (now arena) a × Readable (now arena) b ⌝ }
-    ensures { λ r. ⌜ finishedRefusal r ≡ refusal (ask 8 (eqb a b || eqb (nodeAt (decode (now (arena .entry)) .nodes) a .parent) (nodeAt (decode (now (arena .entry)) .nodes) b .parent)) ∷ []) ⌝ }
+fn ask_parents(arena: &[u8], a: u32, b: u32) -> UnitResult
+    requires { ⌜ ValidNode (now arena) a × ValidNode (now arena) b ⌝ }
+    ensures { λ r. ⌜ unitRefusal r ≡ refusal (ask 8 (eqb a b || eqb (nodeAt (decode (now (arena .entry)) .nodes) a .parent) (nodeAt (decode (now (arena .entry)) .nodes) b .parent)) ∷ []) ⌝ }
 {
     if a == b {
-        return Finished::Done;
+        return UnitResult::Done;
     }
     if view::parent(arena, a) != view::parent(arena, b) {
-        return Finished::Refused(Refusal::NotSiblings);
+        return UnitResult::Refused(Refusal::NotSiblings);
     }
-    Finished::Done
+    UnitResult::Done
 }
 
 // Questions 1 to 4 of two nodes, and 8.
-pub fn ask_siblings(arena: &[u8], a: u32, b: u32) -> Finished
-    ensures { λ r. ⌜ finishedRefusal r ≡ refusal (askArena (now (arena .entry)) (comparesSiblings (decode (now (arena .entry))) a b)) ⌝ }
+pub fn ask_siblings(arena: &[u8], a: u32, b: u32) -> UnitResult
+    ensures { λ r. ⌜ unitRefusal r ≡ refusal (askArena (now (arena .entry)) (comparesSiblings (decode (now (arena .entry))) a b)) ⌝ }
 {
     let asked = ask_nodes(arena, a, b);
     match asked {
-        Finished::Done => ask_parents(arena, a, b),
-        Finished::Refused(refusal) => Finished::Refused(refusal),
+        UnitResult::Done => ask_parents(arena, a, b),
+        UnitResult::Refused(refusal) => UnitResult::Refused(refusal),
     }
 }

@@ -1,6 +1,8 @@
-// The check of one record: questions 4 to 7 of document 01, in that order. The reader of snapshots and adding ask it whole, the check of an arena in
-// parts. It reads the record's numbers and its path, and of the graph before it only how many nodes and path bytes it has and whether it has a local root.
-// specs/RecordCheck.antt has the questions; proofs/RecordCheckLaws.antt says that they are those of model/specs/Refusals.antt.
+// The check of one record: questions 4 to 7 of document 01, in that order. The reader of snapshots
+// and adding ask it whole, the check of an arena in parts. It reads the record's numbers and its
+// path, and of the graph before it only how many nodes and path bytes it has and whether it has a
+// local root. specs/RecordCheck.antt has the questions; proofs/RecordCheckLaws.antt says that they
+// are those of model/specs/Refusals.antt.
 use model::PrimCount;
 use model::Refusal;
 ghost use mathlib.Core.Path.{_≡_};
@@ -118,8 +120,9 @@ fn narrow(names: u16) -> u8
     names as u8
 }
 
-// The first question that a record's answer to is no, where `count` nodes with `path_bytes` bytes of paths come before it; or its prim count. `read` is what its
-// path was read as: how it is read is the caller's choice.
+// The first question that a record's answer to is no, where `count` nodes with `path_bytes` bytes
+// of paths come before it; or its prim count. `read` is what its path was read as: how it is read
+// is the caller's choice.
 pub fn check_record(
     count: u32,
     path_bytes: u32,

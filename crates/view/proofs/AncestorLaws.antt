@@ -1,5 +1,6 @@
--- `isAncestorOf` step by step up parents: false at node 0 and at the local root, true at the node itself, else what the parent says; and the loop
--- that goes so, from a node of an arena's graph (`Ancestry`). Assumes nothing.
+-- `isAncestorOf` step by step up parents: false at node 0 and at the local root, true at the node
+-- itself, else what the parent says; and the loop that goes so, from a node of an arena's graph
+-- (`Ancestry`). Assumes nothing.
 use mathlib.Core.Path.{_≡_, refl, sym, ap, _∙_}
 use mathlib.Core.Bool.{Bool, true, false, not, _||_, _&&_, or-true, and-false}
 use mathlib.Core.List.{List}
@@ -11,7 +12,7 @@ use Rattle.model.specs.Strength.{View}
 use Rattle.model.specs.Hierarchy.{isAncestorOf}
 use Rattle.laws.proofs.Views.{LegalView}
 use Rattle.laws.proofs.FollowLaws.{follow-step, follow-stop}
-use Rattle.view.specs.View.{viewIn, Standing}
+use Rattle.view.specs.View.{viewIn, ValidNodeAndRoot}
 use Rattle.view.proofs.ViewLaws.{legal, standing-lower}
 use Rattle.view.proofs.LocalRootLaws.{local-root-read}
 use Rattle.view.proofs.WalkLoops.{positive}
@@ -49,10 +50,10 @@ ancestor-step {n} {u} legal x m h p e d = rw (follow-step (legal .parent-lower) 
 
 -- the walk from y has come to m, and met neither x nor the local root before
 pub record Ancestry (bs : List ℕ) (root x y m : ℕ) : Type 0 where
-  pub standing : Standing bs root m
+  pub standing : ValidNodeAndRoot bs root m
   pub ancestor : isAncestorOf (viewIn bs) x m ≡ isAncestorOf (viewIn bs) x y
 
-pub ancestry-start : (bs : List ℕ) (root x y : ℕ) → Standing bs root y → Ancestry bs root x y y
+pub ancestry-start : (bs : List ℕ) (root x y : ℕ) → ValidNodeAndRoot bs root y → Ancestry bs root x y y
 ancestry-start bs root x y s = record { standing = s; ancestor = refl }
 
 module _ {bs : List ℕ} {root x y m : ℕ} (w : Ancestry bs root x y m) where

@@ -1,5 +1,6 @@
--- The walk of a class hierarchy from a node of an arena's graph: where it stands and the last node that it left, together (`Rising`), from
--- `rising-start` by `rising-step` to `rising-zero`, `rising-by-arc` and `rising-by-depth`. Assumes nothing.
+-- The walk of a class hierarchy from a node of an arena's graph: where it stands and the last node
+-- that it left, together (`Rising`), from `rising-start` by `rising-step` to `rising-zero`,
+-- `rising-by-arc` and `rising-by-depth`. Assumes nothing.
 use mathlib.Core.Path.{_≡_, refl, sym, ap, _∙_}
 use mathlib.Core.Bool.{Bool, true, false, cond, and-eq-true-iff, and-false}
 use mathlib.Core.List.{List}
@@ -10,12 +11,12 @@ use borrow.Author.Tests.{eq-eqb, ne-eqb, lt-ltb, eqb-true, leb-true}
 use Rattle.model.specs.Node.{Node, invalid}
 use Rattle.model.specs.Graph.{depthBelowIntroduction}
 use Rattle.model.specs.Arena.{countIn, decode, holdsGraph}
-use Rattle.model.specs.ArenaCalls.{Readable}
+use Rattle.model.specs.ArenaCalls.{ValidNode}
 use Rattle.model.specs.Strength.{View, view, follow, isClassBasedArc, replaced, startingNodeOfClassHierarchy}
 use Rattle.model.specs.Hierarchy.{laterOr, leftUpTo, topmostClassNode}
 use Rattle.laws.proofs.FollowLaws.{left-step, left-stop}
 use Rattle.laws.proofs.StrengthWalks.{leavesClass, classUp, replaced-le, class-up-lower, class-stop, class-step}
-use Rattle.view.specs.View.{viewIn, Standing}
+use Rattle.view.specs.View.{viewIn, ValidNodeAndRoot}
 use Rattle.view.proofs.ViewLaws.{legal, standing-lower}
 use Rattle.view.specs.Walks.{HierarchyOf}
 use Rattle.view.proofs.WalkLoops.{positive}
@@ -44,7 +45,7 @@ module _ (ns : List Node) (first m : ℕ) where
 -- ---- The last node left
 
 -- no node of an arena is `invalid`
-named : (bs : List ℕ) (n : ℕ) → Readable bs n → n < invalid
+named : (bs : List ℕ) (n : ℕ) → ValidNode bs n → n < invalid
 unfolding holdsGraph
 named bs n r = omega (arith, r .below, leb-true (countIn bs) 1024 (and-eq-true-iff (leb (countIn bs) 1024) _ .0 (r .opened .holds) .0))
 
@@ -69,14 +70,14 @@ later-later c m x h = go (eqb x invalid) refl
 
 -- the walk from n has come to m, and last left c; `depth` is the first node's
 pub record Rising (bs : List ℕ) (root n depth m c : ℕ) : Type 0 where
-  pub standing : Standing bs root m
+  pub standing : ValidNodeAndRoot bs root m
   pub first-depth : depth ≡ depthBelowIntroduction (decode bs .nodes) (replaced (viewIn bs) n)
   pub within : m ≤ replaced (viewIn bs) n
   pub instance : follow (leavesClass (viewIn bs) (replaced (viewIn bs) n)) (classUp (viewIn bs)) m ≡ startingNodeOfClassHierarchy (viewIn bs) n
   pub class-node : laterOr c (leftFrom (viewIn bs) (replaced (viewIn bs) n) m) ≡ topmostClassNode (viewIn bs) n
 
-module _ {bs : List ℕ} {root n first : ℕ} (s : Standing bs root n) (e : first ≡ replaced (viewIn bs) n) where
-  pub first-stands : Standing bs root first
+module _ {bs : List ℕ} {root n first : ℕ} (s : ValidNodeAndRoot bs root n) (e : first ≡ replaced (viewIn bs) n) where
+  pub first-stands : ValidNodeAndRoot bs root first
   first-stands =
       let low = replaced-le (legal bs (s .readable .opened)) n (s .readable .below) in
       standing-lower bs root n first s (omega arith)
@@ -120,7 +121,7 @@ module _ {bs : List ℕ} {root n depth m c : ℕ} (w : Rising bs root n depth m 
       (leaves-by-depth (decode bs .nodes) (replaced (viewIn bs) n) m (omega arith) (positive m some) (λ q. e (d ∙ q ∙ sym (w .first-depth))))
 
   module _ (some : m ≡ 0 → ⊥) {parent : ℕ} (p : parent ≡ viewIn bs .parent m) where
-    pub parent-stands : Standing bs root parent
+    pub parent-stands : ValidNodeAndRoot bs root parent
     parent-stands =
         let falls = legal bs (w .standing .readable .opened) .parent-lower m (positive m some) (w .standing .readable .below) in
         standing-lower bs root m parent (w .standing) (omega arith)

@@ -1,5 +1,6 @@
--- The local root of an arena that holds a graph, by the number in its header: which node it is (`local-root-read`), and which nodes have its stack
--- (`local-stack-none`, `local-stack-read`); and which nodes are propagated (`propagated-read`). Assumes nothing.
+-- The local root of an arena that holds a graph, by the number in its header: which node it is
+-- (`local-root-read`), and which nodes have its stack (`local-stack-none`, `local-stack-read`); and
+-- which nodes are propagated (`propagated-read`). Assumes nothing.
 use mathlib.Core.Path.{_≡_, refl, sym, ap, _∙_}
 use mathlib.Core.Bool.{Bool, true, false, not, _&&_, and-eq-true-iff, true≢false, and-false}
 use mathlib.Core.List.{List}
@@ -13,12 +14,12 @@ use Rattle.model.specs.Node.{rootArc, specializeArc, Node}
 use Rattle.model.specs.Graph.{nodeAt, isLocalRoot, inLocalStack}
 use Rattle.model.specs.Strength.{isPropagatedSpecializes}
 use Rattle.model.specs.Arena.{countIn, localRootBelow, decode}
-use Rattle.model.specs.ArenaCalls.{Readable}
+use Rattle.model.specs.ArenaCalls.{ValidNode}
 use Rattle.laws.proofs.ListLaws.{any-below, any-below-fails}
 use Rattle.arena.proofs.HeldArenas.{held}
 use Rattle.arena.proofs.ArenaBack.{size-decode, fresh-legal, fresh-nodes}
 use Rattle.arena.proofs.ReadNodes.{sizes, root-found, root-held}
-use Rattle.view.specs.View.{viewIn, Standing}
+use Rattle.view.specs.View.{viewIn, ValidNodeAndRoot}
 use Rattle.view.proofs.ViewLaws.{arc-of-0, readable-parent}
 
 -- ---- The number that is found
@@ -36,7 +37,7 @@ below-found ns (suc k) some = go (isLocalRoot ns k) refl (below-found ns k)
         let b = below (λ z. some (same ∙ z)) in
         rw same (omega arith, b .1)
 
-module _ (bs : List ℕ) (root n : ℕ) (s : Standing bs root n) where
+module _ (bs : List ℕ) (root n : ℕ) (s : ValidNodeAndRoot bs root n) where
   nodes : length (decode bs .nodes) ≡ countIn bs
   nodes = sizes bs (s .readable .opened)
 
@@ -57,7 +58,7 @@ module _ (bs : List ℕ) (root n : ℕ) (s : Standing bs root n) where
   pub root-is-root : (root ≡ 0 → ⊥) → isLocalRoot (decode bs .nodes) root ≡ true
   root-is-root some = rw root-is (below-found (decode bs .nodes) (countIn bs) (λ z. some (root-is ∙ z)) .1)
 
-  pub root-readable : (root ≡ 0 → ⊥) → Readable bs root
+  pub root-readable : (root ≡ 0 → ⊥) → ValidNode bs root
   root-readable some = record { opened = s .readable .opened; below = root-below some }
 
   -- "Arc Root is for node 0 and for one child of it"
@@ -119,7 +120,7 @@ module _ (bs : List ℕ) (root n : ℕ) (s : Standing bs root n) where
 
 -- ---- Propagated specializes
 
-module _ (bs : List ℕ) (root n : ℕ) (s : Standing bs root n) where
+module _ (bs : List ℕ) (root n : ℕ) (s : ValidNodeAndRoot bs root n) where
   pub not-specialize : (viewIn bs .arc n ≡ specializeArc → ⊥) → isPropagatedSpecializes (viewIn bs) n ≡ false
   unfolding isPropagatedSpecializes
   not-specialize other = rw (ne-eqb (viewIn bs .arc n) specializeArc other, and-false)
@@ -138,5 +139,5 @@ module _ (bs : List ℕ) (root n : ℕ) (s : Standing bs root n) where
   unfolding isPropagatedSpecializes
   propagated-read e =
       let above = specialize-positive e in
-      let up : Standing bs root (viewIn bs .parent n) = record { readable = readable-parent bs n (s .readable) above; root-read = s .root-read } in
+      let up : ValidNodeAndRoot bs root (viewIn bs .parent n) = record { readable = readable-parent bs n (s .readable) above; root-read = s .root-read } in
       rw (lt-ltb 0 n above, eq-eqb (viewIn bs .arc n) specializeArc e, local-root-read bs root (viewIn bs .parent n) up)

@@ -1,12 +1,13 @@
--- Where the chains of two nodes part, by two walks up parents that meet: `meet-start`, `meet-left` and `meet-right` are the steps, `meet-above`,
--- `meet-below` and `meet-apart` the ends. The higher of two numbers goes up, so neither walk passes the meeting node. `parts-by`: what is said of two chains
--- is said of their parting. Assumes nothing.
+-- Where the chains of two nodes part, by two walks up parents that meet: `meet-start`, `meet-left`
+-- and `meet-right` are the steps, `meet-above`, `meet-below` and `meet-apart` the ends. The higher
+-- of two numbers goes up, so neither walk passes the meeting node. `parts-by`: what is said of two
+-- chains is said of their parting. Assumes nothing.
 use mathlib.Core.Path.{_≡_, refl, sym, ap, _∙_}
 use mathlib.Core.List.{List, [], _∷_, _++_, append-assoc}
 use mathlib.Core.Logic.{_⊎_, inl, inr}
 use Prim.Native.Nat.{ℕ, _≤_, _<_}
 use native.Mathlib.Omega.{arith}
-use Rattle.model.specs.ArenaCalls.{Readable}
+use Rattle.model.specs.ArenaCalls.{ValidNode}
 use Rattle.model.specs.declared.Ordering.the-variants.{Less, Equal, Greater}
 use Rattle.model.specs.Strength.{View, chain, partingBy, compareNodeStrength, compareSiblingNodeStrength}
 use Rattle.laws.proofs.Views.{LegalView}
@@ -77,8 +78,8 @@ raised {u = u} legal {x = x} {l = l} p h (inr s) =
 
 -- they have come to x and y, last from l and r
 pub record Meeting (bs : List ℕ) (a b x y l r : ℕ) : Type 0 where
-  pub first : Readable bs a
-  pub second : Readable bs b
+  pub first : ValidNode bs a
+  pub second : ValidNode bs b
   pub left : Climbed (viewIn bs) a x l y
   pub right : Climbed (viewIn bs) b y r x
   pub differ : l ≡ r → ⊥
@@ -86,14 +87,14 @@ pub record Meeting (bs : List ℕ) (a b x y l r : ℕ) : Type 0 where
 pub part-same : (u : View) (a b : ℕ) → a ≡ b → Parts u a b Same
 part-same u a b e = record { chains = ap (chain (u .parent)) e; apart = tt }
 
-pub meet-start : (bs : List ℕ) (a b : ℕ) → Readable bs a → Readable bs b → (a ≡ b → ⊥) → Meeting bs a b a b a b
+pub meet-start : (bs : List ℕ) (a b : ℕ) → ValidNode bs a → ValidNode bs b → (a ≡ b → ⊥) → Meeting bs a b a b a b
 meet-start bs a b f g h = record { first = f; second = g; left = inl (refl, refl); right = inl (refl, refl); differ = h }
 
 module _ {bs : List ℕ} {a b x y l r : ℕ} (m : Meeting bs a b x y l r) where
-  pub left-readable : Readable bs x
+  pub left-readable : ValidNode bs x
   left-readable = readable-lower bs a x (m .first) (climbed-le (m .left))
 
-  pub right-readable : Readable bs y
+  pub right-readable : ValidNode bs y
   right-readable = readable-lower bs b y (m .second) (climbed-le (m .right))
 
   module _ (h : y ≤ x) (d : x ≡ y → ⊥) {parent : ℕ} (e : parent ≡ viewIn bs .parent x) where

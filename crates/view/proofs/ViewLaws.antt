@@ -1,5 +1,6 @@
--- The view of an arena that holds a graph: its links go to lower nodes (`legal`), so what is met from a node can be read (`readable-lower`,
--- `standing-lower`); and what it has of a node by the node's fields (`seen`, `depth-read`). Assumes nothing.
+-- The view of an arena that holds a graph: its links go to lower nodes (`legal`), so what is met
+-- from a node can be read (`readable-lower`, `standing-lower`); and what it has of a node by the
+-- node's fields (`seen`, `depth-read`). Assumes nothing.
 use mathlib.Core.Path.{_≡_, sym, ap, _∙_}
 use mathlib.Core.List.{List}
 use Prim.Native.Nat.{ℕ, _-_, _≤_, _<_}
@@ -10,17 +11,17 @@ use Rattle.model.specs.Path.{primCount}
 use Rattle.model.specs.Node.{rootArc, Node}
 use Rattle.model.specs.Graph.{nodeAt, depthBelowIntroduction}
 use Rattle.model.specs.Arena.{countIn, primCountIn, nodeIn, decode}
-use Rattle.model.specs.ArenaCalls.{Opened, Readable}
+use Rattle.model.specs.ArenaCalls.{ValidArena, ValidNode}
 use Rattle.laws.proofs.Views.{LegalView}
 use Rattle.arena.specs.Slot.{arcIn, flagsIn, stackIn, parentIn, originIn, depthIn, siblingIn}
 use Rattle.arena.proofs.HeldArenas.{held}
 use Rattle.arena.proofs.ArenaBack.{size-decode, fresh-legal, fresh-nodes}
 use Rattle.arena.proofs.ReadNodes.{node-read, fields-read, parent-read}
-use Rattle.view.specs.View.{viewIn, Standing}
+use Rattle.view.specs.View.{viewIn, ValidNodeAndRoot}
 
 -- ---- Links
 
-module _ (bs : List ℕ) (o : Opened bs) where
+module _ (bs : List ℕ) (o : ValidArena bs) where
   pub legal : LegalView (countIn bs) (viewIn bs)
   legal =
       let h = held bs (o .holds) in
@@ -36,16 +37,16 @@ module _ (bs : List ℕ) (o : Opened bs) where
       let same = fresh-nodes bs h in
       rw same at (fresh-legal bs h .node-0 (omega (arith, ap length same, size-decode bs h)) .arc)
 
-pub readable-lower : (bs : List ℕ) (n m : ℕ) → Readable bs n → m ≤ n → Readable bs m
+pub readable-lower : (bs : List ℕ) (n m : ℕ) → ValidNode bs n → m ≤ n → ValidNode bs m
 readable-lower bs n m r l = record { opened = r .opened; below = omega (arith, r .below) }
 
-pub readable-parent : (bs : List ℕ) (n : ℕ) → Readable bs n → 0 < n → Readable bs (viewIn bs .parent n)
+pub readable-parent : (bs : List ℕ) (n : ℕ) → ValidNode bs n → 0 < n → ValidNode bs (viewIn bs .parent n)
 readable-parent bs n r h = readable-lower bs n (viewIn bs .parent n) r (omega (arith, legal bs (r .opened) .parent-lower n h (r .below)))
 
-pub readable-origin : (bs : List ℕ) (n : ℕ) → Readable bs n → 0 < n → Readable bs (viewIn bs .origin n)
+pub readable-origin : (bs : List ℕ) (n : ℕ) → ValidNode bs n → 0 < n → ValidNode bs (viewIn bs .origin n)
 readable-origin bs n r h = readable-lower bs n (viewIn bs .origin n) r (omega (arith, legal bs (r .opened) .origin-lower n h (r .below)))
 
-pub standing-lower : (bs : List ℕ) (root n m : ℕ) → Standing bs root n → m ≤ n → Standing bs root m
+pub standing-lower : (bs : List ℕ) (root n m : ℕ) → ValidNodeAndRoot bs root n → m ≤ n → ValidNodeAndRoot bs root m
 standing-lower bs root n m s l = record { readable = readable-lower bs n m (s .readable) l; root-read = s .root-read }
 
 -- ---- Fields
@@ -60,7 +61,7 @@ pub record Seen (bs : List ℕ) (n : ℕ) : Type 0 where
   pub sibling : viewIn bs .sibling n ≡ siblingIn bs n
   pub path : nodeAt (decode bs .nodes) n .path ≡ nodeIn bs n .path
 
-pub seen : (bs : List ℕ) (n : ℕ) → Readable bs n → Seen bs n
+pub seen : (bs : List ℕ) (n : ℕ) → ValidNode bs n → Seen bs n
 seen bs n r =
     let node = node-read bs n r in
     let fields = fields-read bs n r in
@@ -76,7 +77,7 @@ seen bs n r =
     }
 
 -- the depth below introduction by the fields that are read
-pub depth-read : (bs : List ℕ) (n : ℕ) → Readable bs n → 0 < n
+pub depth-read : (bs : List ℕ) (n : ℕ) → ValidNode bs n → 0 < n
     → depthBelowIntroduction (decode bs .nodes) n ≡ primCountIn bs (parentIn bs n) - depthIn bs n
 unfolding depthBelowIntroduction
 depth-read bs n r h =

@@ -1,5 +1,6 @@
--- The loops of this crate that walk from a node of an arena's graph, each with its step and its ends: up origins (`Originating`), outward
--- (`Nesting`) and up over relocates (`Skipping`). Assumes nothing.
+-- The loops of this crate that walk from a node of an arena's graph, each with its step and its
+-- ends: up origins (`Originating`), outward (`Nesting`) and up over relocates (`Skipping`). Assumes
+-- nothing.
 use mathlib.Core.Path.{_≡_, refl, sym, ap, _∙_}
 use mathlib.Core.Bool.{true, false}
 use mathlib.Core.List.{List}
@@ -7,10 +8,10 @@ use Prim.Native.Nat.{ℕ, _+_, _≤_, _<_}
 use native.Mathlib.Omega.{arith}
 use borrow.Author.Tests.{eq-eqb, ne-eqb}
 use Rattle.model.specs.Node.{relocateArc}
-use Rattle.model.specs.ArenaCalls.{Readable}
+use Rattle.model.specs.ArenaCalls.{ValidNode}
 use Rattle.model.specs.Strength.{originRootNode, originHops, outward, isNestedUnder, skipRelocates}
 use Rattle.laws.proofs.StrengthWalks.{origin-root-zero, origin-root-authored, origin-root-step, origin-hops-zero, origin-hops-authored, origin-hops-step, outward-lower, nested-self, nested-zero, nested-step, skip-zero, skip-stop, skip-step}
-use Rattle.view.specs.View.{viewIn, Standing}
+use Rattle.view.specs.View.{viewIn, ValidNodeAndRoot}
 use Rattle.view.proofs.ViewLaws.{legal, readable-lower, standing-lower}
 use Rattle.view.specs.Walks.{RootOf}
 
@@ -21,12 +22,12 @@ positive n some = omega arith
 
 -- the walk from n has come to m by k steps
 pub record Originating (bs : List ℕ) (n m k : ℕ) : Type 0 where
-  pub readable : Readable bs m
+  pub readable : ValidNode bs m
   pub within : m + k ≤ n
   pub node : originRootNode (viewIn bs) m ≡ originRootNode (viewIn bs) n
   pub hops : k + originHops (viewIn bs) m ≡ originHops (viewIn bs) n
 
-pub originating-start : (bs : List ℕ) (n : ℕ) → Readable bs n → Originating bs n n 0
+pub originating-start : (bs : List ℕ) (n : ℕ) → ValidNode bs n → Originating bs n n 0
 originating-start bs n r = record { readable = r; within = omega arith; node = refl; hops = omega arith }
 
 module _ {bs : List ℕ} {n m k : ℕ} (w : Originating bs n m k) where
@@ -65,10 +66,10 @@ module _ {bs : List ℕ} {n m k : ℕ} (w : Originating bs n m k) where
 
 -- the walk from x has come to m, and has not met y before
 pub record Nesting (bs : List ℕ) (root x y m : ℕ) : Type 0 where
-  pub standing : Standing bs root m
+  pub standing : ValidNodeAndRoot bs root m
   pub nested : isNestedUnder (viewIn bs) m y ≡ isNestedUnder (viewIn bs) x y
 
-pub nesting-start : (bs : List ℕ) (root x y : ℕ) → Standing bs root x → Nesting bs root x y x
+pub nesting-start : (bs : List ℕ) (root x y : ℕ) → ValidNodeAndRoot bs root x → Nesting bs root x y x
 nesting-start bs root x y s = record { standing = s; nested = refl }
 
 module _ {bs : List ℕ} {root x y m : ℕ} (w : Nesting bs root x y m) where
@@ -97,10 +98,10 @@ module _ {bs : List ℕ} {root x y m : ℕ} (w : Nesting bs root x y m) where
 
 -- the walk from n has come to m
 pub record Skipping (bs : List ℕ) (n m : ℕ) : Type 0 where
-  pub readable : Readable bs m
+  pub readable : ValidNode bs m
   pub skipped : skipRelocates (viewIn bs) m ≡ skipRelocates (viewIn bs) n
 
-pub skipping-start : (bs : List ℕ) (n : ℕ) → Readable bs n → Skipping bs n n
+pub skipping-start : (bs : List ℕ) (n : ℕ) → ValidNode bs n → Skipping bs n n
 skipping-start bs n r = record { readable = r; skipped = refl }
 
 module _ {bs : List ℕ} {n m : ℕ} (w : Skipping bs n m) where

@@ -61,7 +61,8 @@ partedAt same above below siblings Above = above
 partedAt same above below siblings Below = below
 partedAt same above below siblings (Apart x y) = siblings x y
 
--- "the same node is Equal; an ancestor is stronger (Less); else compare the siblings where the chains part"
+-- "the same node is Equal; an ancestor is stronger (Less); else compare the siblings where the
+-- chains part"
 abbrev pub comparedAt : (ℕ → ℕ → Ordering) → Parting → Ordering
 comparedAt siblings r = partedAt Equal Less Greater siblings r
 

@@ -1,20 +1,22 @@
 // Class hierarchies: where one starts, its topmost class, and its depth.
 ghost use mathlib.Core.Path.{_≡_};
 ghost use Prim.Native.Nat.{_<_};
-ghost use Rattle.model.specs.ArenaCalls.{Readable};
+ghost use Rattle.model.specs.ArenaCalls.{ValidNode};
 ghost use Rattle.model.specs.Strength.{namespaceDepthForClassHierarchy, skipRelocates, classDepth};
-ghost use Rattle.view.specs.View.{viewIn, Standing};
+ghost use Rattle.view.specs.View.{viewIn, ValidNodeAndRoot};
 ghost use Rattle.view.specs.Walks.{HierarchyOf};
 
-// The node that inherits or specializes a class hierarchy, and its topmost class, 4,294,967,295 where the node is no class's instance.
+// The node that inherits or specializes a class hierarchy, and its topmost class, 4,294,967,295
+// where the node is no class's instance.
 pub struct ClassHierarchy {
     pub instance: u32,
     pub class_node: u32,
 }
 
-// Where the class hierarchy of node n starts: up over class arcs with one depth below introduction, a propagated specializes being its origin.
+// Where the class hierarchy of node n starts: up over class arcs with one depth below introduction,
+// a propagated specializes being its origin.
 pub fn starting_node_of_class_hierarchy(arena: &[u8], root: u32, n: u32) -> ClassHierarchy
-    requires { ⌜ Standing (now arena) root n ⌝ }
+    requires { ⌜ ValidNodeAndRoot (now arena) root n ⌝ }
     ensures { λ r. ⌜ HierarchyOf (viewIn (now (arena .entry))) n r ⌝ }
 {
     let mut instance = crate::relations::replaced(arena, root, n);
@@ -44,7 +46,7 @@ pub fn starting_node_of_class_hierarchy(arena: &[u8], root: u32, n: u32) -> Clas
 
 // The first node from n upward that is no Relocate.
 fn skip_relocates(arena: &[u8], n: u32) -> u32
-    requires { ⌜ Readable (now arena) n ⌝ }
+    requires { ⌜ ValidNode (now arena) n ⌝ }
     ensures { λ r. ⌜ r ≡ skipRelocates (viewIn (now (arena .entry))) n ⌝ }
 {
     let mut node = n;
@@ -59,7 +61,7 @@ fn skip_relocates(arena: &[u8], n: u32) -> u32
 
 // D(n) of document 01: the depth of the node that starts the class hierarchy of node n.
 fn namespace_depth_for_class_hierarchy(arena: &[u8], root: u32, n: u32) -> u16
-    requires { ⌜ Standing (now arena) root n ⌝ }
+    requires { ⌜ ValidNodeAndRoot (now arena) root n ⌝ }
     ensures { λ r. ⌜ r ≡ namespaceDepthForClassHierarchy (viewIn (now (arena .entry))) n ⌝ }
 {
     let start = starting_node_of_class_hierarchy(arena, root, n);
@@ -68,7 +70,7 @@ fn namespace_depth_for_class_hierarchy(arena: &[u8], root: u32, n: u32) -> u16
 
 // The class depth of node n: 0 if it is authored, else D of its origin.
 pub fn class_depth(arena: &[u8], root: u32, n: u32) -> u16
-    requires { ⌜ Standing (now arena) root n × (0 < n) ⌝ }
+    requires { ⌜ ValidNodeAndRoot (now arena) root n × (0 < n) ⌝ }
     ensures { λ r. ⌜ r ≡ classDepth (viewIn (now (arena .entry))) n ⌝ }
 {
     let origin = crate::fields::origin(arena, n);

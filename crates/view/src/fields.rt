@@ -1,11 +1,11 @@
 // What the comparison reads of one node: a function for each field of `View`.
 ghost use mathlib.Core.Path.{_≡_};
-ghost use Rattle.model.specs.ArenaCalls.{Readable};
+ghost use Rattle.model.specs.ArenaCalls.{ValidNode};
 ghost use Rattle.view.specs.View.{viewIn};
 
 // The parent of node n.
 pub fn parent(arena: &[u8], n: u32) -> u32
-    requires { ⌜ Readable (now arena) n ⌝ }
+    requires { ⌜ ValidNode (now arena) n ⌝ }
     ensures { λ r. ⌜ r ≡ viewIn (now (arena .entry)) .parent n ⌝ }
 {
     arena::parent(arena, n)
@@ -13,7 +13,7 @@ pub fn parent(arena: &[u8], n: u32) -> u32
 
 // The origin of node n.
 pub fn origin(arena: &[u8], n: u32) -> u32
-    requires { ⌜ Readable (now arena) n ⌝ }
+    requires { ⌜ ValidNode (now arena) n ⌝ }
     ensures { λ r. ⌜ r ≡ viewIn (now (arena .entry)) .origin n ⌝ }
 {
     arena::origin(arena, n)
@@ -21,7 +21,7 @@ pub fn origin(arena: &[u8], n: u32) -> u32
 
 // The arc of node n.
 pub fn arc(arena: &[u8], n: u32) -> u8
-    requires { ⌜ Readable (now arena) n ⌝ }
+    requires { ⌜ ValidNode (now arena) n ⌝ }
     ensures { λ r. ⌜ r ≡ viewIn (now (arena .entry)) .arc n ⌝ }
 {
     arena::arc(arena, n)
@@ -29,7 +29,7 @@ pub fn arc(arena: &[u8], n: u32) -> u8
 
 // The rank of node n's arc, the smaller the stronger.
 pub fn rank(arena: &[u8], n: u32) -> u8
-    requires { ⌜ Readable (now arena) n ⌝ }
+    requires { ⌜ ValidNode (now arena) n ⌝ }
     ensures { λ r. ⌜ r ≡ viewIn (now (arena .entry)) .rank n ⌝ }
 {
     arena::arc(arena, n)
@@ -37,7 +37,7 @@ pub fn rank(arena: &[u8], n: u32) -> u8
 
 // Whether node n is HAS_SPECIALIZES.
 pub fn has_specializes(arena: &[u8], n: u32) -> bool
-    requires { ⌜ Readable (now arena) n ⌝ }
+    requires { ⌜ ValidNode (now arena) n ⌝ }
     ensures { λ r. ⌜ r ≡ viewIn (now (arena .entry)) .special n ⌝ }
 {
     arena::flags(arena, n) / 8 % 2 == 1
@@ -45,7 +45,7 @@ pub fn has_specializes(arena: &[u8], n: u32) -> bool
 
 // The namespace depth of node n.
 pub fn depth(arena: &[u8], n: u32) -> u16
-    requires { ⌜ Readable (now arena) n ⌝ }
+    requires { ⌜ ValidNode (now arena) n ⌝ }
     ensures { λ r. ⌜ r ≡ viewIn (now (arena .entry)) .depth n ⌝ }
 {
     arena::depth(arena, n)
@@ -53,7 +53,7 @@ pub fn depth(arena: &[u8], n: u32) -> u16
 
 // The sibling number of node n.
 pub fn sibling(arena: &[u8], n: u32) -> u16
-    requires { ⌜ Readable (now arena) n ⌝ }
+    requires { ⌜ ValidNode (now arena) n ⌝ }
     ensures { λ r. ⌜ r ≡ viewIn (now (arena .entry)) .sibling n ⌝ }
 {
     arena::sibling(arena, n)

@@ -1,8 +1,9 @@
-// Chains of origins: where one begins, and whether two nodes are nested. Every step goes to a lower node, and no chain is stored.
+// Chains of origins: where one begins, and whether two nodes are nested. Every step goes to a lower
+// node, and no chain is stored.
 ghost use mathlib.Core.Path.{_≡_};
-ghost use Rattle.model.specs.ArenaCalls.{Readable};
+ghost use Rattle.model.specs.ArenaCalls.{ValidNode};
 ghost use Rattle.model.specs.Strength.{isNestedUnder, originsAreNested};
-ghost use Rattle.view.specs.View.{viewIn, Standing};
+ghost use Rattle.view.specs.View.{viewIn, ValidNodeAndRoot};
 ghost use Rattle.view.specs.Walks.{RootOf};
 
 // R(n) of document 01 and its hops.
@@ -13,7 +14,7 @@ pub struct OriginRoot {
 
 // Where the origins from node n on begin, and how many steps that is.
 pub fn origin_root_node(arena: &[u8], n: u32) -> OriginRoot
-    requires { ⌜ Readable (now arena) n ⌝ }
+    requires { ⌜ ValidNode (now arena) n ⌝ }
     ensures { λ r. ⌜ RootOf (viewIn (now (arena .entry))) n r ⌝ }
 {
     let mut node = n;
@@ -31,7 +32,7 @@ pub fn origin_root_node(arena: &[u8], n: u32) -> OriginRoot
 
 // Whether y is met from x, itself counted, going outward.
 fn is_nested_under(arena: &[u8], root: u32, x: u32, y: u32) -> bool
-    requires { ⌜ Standing (now arena) root x ⌝ }
+    requires { ⌜ ValidNodeAndRoot (now arena) root x ⌝ }
     ensures { λ r. ⌜ r ≡ isNestedUnder (viewIn (now (arena .entry))) x y ⌝ }
 {
     let mut n = x;
@@ -46,7 +47,7 @@ fn is_nested_under(arena: &[u8], root: u32, x: u32, y: u32) -> bool
 
 // Whether one of two nodes is met from the other.
 pub fn origins_are_nested(arena: &[u8], root: u32, a: u32, b: u32) -> bool
-    requires { ⌜ Standing (now arena) root a × Standing (now arena) root b ⌝ }
+    requires { ⌜ ValidNodeAndRoot (now arena) root a × ValidNodeAndRoot (now arena) root b ⌝ }
     ensures { λ r. ⌜ r ≡ originsAreNested (viewIn (now (arena .entry))) a b ⌝ }
 {
     if is_nested_under(arena, root, a, b) {

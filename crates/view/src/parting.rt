@@ -1,11 +1,12 @@
 // Chains of parents: where two part, and whether one node stands in another's.
 ghost use mathlib.Core.Path.{_≡_};
-ghost use Rattle.model.specs.ArenaCalls.{Readable};
+ghost use Rattle.model.specs.ArenaCalls.{ValidNode};
 ghost use Rattle.model.specs.Hierarchy.{isAncestorOf};
-ghost use Rattle.view.specs.View.{viewIn, Standing};
+ghost use Rattle.view.specs.View.{viewIn, ValidNodeAndRoot};
 ghost use Rattle.view.specs.Walks.{Parts};
 
-// Where the chains of two nodes, from node 0 down, part: nowhere, below the first node, below the second, or at two siblings.
+// Where the chains of two nodes, from node 0 down, part: nowhere, below the first node, below the
+// second, or at two siblings.
 pub enum Parting {
     Same,
     Above,
@@ -13,9 +14,10 @@ pub enum Parting {
     Apart(u32, u32),
 }
 
-// Where the chains of nodes a and b part. The higher of two numbers is lifted to its parent until they are one: parents are lower.
+// Where the chains of nodes a and b part. The higher of two numbers is lifted to its parent until
+// they are one: parents are lower.
 pub fn part_chains(arena: &[u8], a: u32, b: u32) -> Parting
-    requires { ⌜ Readable (now arena) a × Readable (now arena) b ⌝ }
+    requires { ⌜ ValidNode (now arena) a × ValidNode (now arena) b ⌝ }
     ensures { λ r. ⌜ Parts (viewIn (now (arena .entry))) a b r ⌝ }
 {
     if a == b {
@@ -45,7 +47,7 @@ pub fn part_chains(arena: &[u8], a: u32, b: u32) -> Parting
 
 // Whether x is met from y, itself counted, before the local root and node 0.
 pub fn is_ancestor_of(arena: &[u8], root: u32, x: u32, y: u32) -> bool
-    requires { ⌜ Standing (now arena) root x × Standing (now arena) root y ⌝ }
+    requires { ⌜ ValidNodeAndRoot (now arena) root x × ValidNodeAndRoot (now arena) root y ⌝ }
     ensures { λ r. ⌜ r ≡ isAncestorOf (viewIn (now (arena .entry))) x y ⌝ }
 {
     let mut node = y;

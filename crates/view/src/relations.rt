@@ -1,9 +1,9 @@
 // What the comparison's lines ask of one node: authored, implied, propagated.
 ghost use mathlib.Core.Path.{_≡_};
 ghost use Prim.Native.Nat.{_<_};
-ghost use Rattle.model.specs.ArenaCalls.{Readable};
+ghost use Rattle.model.specs.ArenaCalls.{ValidNode};
 ghost use Rattle.model.specs.Strength.{isAuthored, isImplied, isClassBasedArc, isPropagatedSpecializes, outward, replaced};
-ghost use Rattle.view.specs.View.{viewIn, Standing};
+ghost use Rattle.view.specs.View.{viewIn, ValidNodeAndRoot};
 
 // Whether a node with this arc is a class's instance: Inherit or Specialize.
 pub fn is_class_based(arc: u8) -> bool
@@ -17,7 +17,7 @@ pub fn is_class_based(arc: u8) -> bool
 
 // Whether node n is authored: its origin is its parent.
 pub fn is_authored(arena: &[u8], n: u32) -> bool
-    requires { ⌜ Readable (now arena) n ⌝ }
+    requires { ⌜ ValidNode (now arena) n ⌝ }
     ensures { λ r. ⌜ r ≡ isAuthored (viewIn (now (arena .entry))) n ⌝ }
 {
     arena::origin(arena, n) == arena::parent(arena, n)
@@ -25,16 +25,17 @@ pub fn is_authored(arena: &[u8], n: u32) -> bool
 
 // Whether node n is implied: its site differs from its origin's. Node 0 has no origin.
 pub fn is_implied(arena: &[u8], n: u32) -> bool
-    requires { ⌜ Readable (now arena) n × (0 < n) ⌝ }
+    requires { ⌜ ValidNode (now arena) n × (0 < n) ⌝ }
     ensures { λ r. ⌜ r ≡ isImplied (viewIn (now (arena .entry))) n ⌝ }
 {
     let origin = arena::origin(arena, n);
     !crate::sites::same_site(arena, n, origin)
 }
 
-// Whether node n is a propagated specializes: arc Specialize, the local root as parent, and its origin's site.
+// Whether node n is a propagated specializes: arc Specialize, the local root as parent, and its
+// origin's site.
 pub fn is_propagated_specializes(arena: &[u8], root: u32, n: u32) -> bool
-    requires { ⌜ Standing (now arena) root n ⌝ }
+    requires { ⌜ ValidNodeAndRoot (now arena) root n ⌝ }
     ensures { λ r. ⌜ r ≡ isPropagatedSpecializes (viewIn (now (arena .entry))) n ⌝ }
 {
     if arena::arc(arena, n) != 6 {
@@ -52,7 +53,7 @@ pub fn is_propagated_specializes(arena: &[u8], root: u32, n: u32) -> bool
 
 // The origin of a propagated specializes; any other node is itself.
 pub fn replaced(arena: &[u8], root: u32, n: u32) -> u32
-    requires { ⌜ Standing (now arena) root n ⌝ }
+    requires { ⌜ ValidNodeAndRoot (now arena) root n ⌝ }
     ensures { λ r. ⌜ r ≡ replaced (viewIn (now (arena .entry))) n ⌝ }
 {
     if is_propagated_specializes(arena, root, n) {
@@ -63,7 +64,7 @@ pub fn replaced(arena: &[u8], root: u32, n: u32) -> u32
 
 // The step outward from node n: to the origin of a propagated specializes, else to the parent.
 pub fn outward(arena: &[u8], root: u32, n: u32) -> u32
-    requires { ⌜ Standing (now arena) root n ⌝ }
+    requires { ⌜ ValidNodeAndRoot (now arena) root n ⌝ }
     ensures { λ r. ⌜ r ≡ outward (viewIn (now (arena .entry))) n ⌝ }
 {
     if is_propagated_specializes(arena, root, n) {

@@ -2,13 +2,13 @@
 ghost use mathlib.Core.Path.{_≡_};
 ghost use Prim.Native.Nat.{_-_, _≤_};
 ghost use Rattle.model.specs.Arena.{decode};
-ghost use Rattle.model.specs.ArenaCalls.{Readable};
+ghost use Rattle.model.specs.ArenaCalls.{ValidNode};
 ghost use Rattle.model.specs.Graph.{depthBelowIntroduction};
-ghost use Rattle.view.specs.View.{viewIn, Standing};
+ghost use Rattle.view.specs.View.{viewIn, ValidNodeAndRoot};
 
 // Whether two nodes have one site: the same stack and the same path.
 pub fn same_site(arena: &[u8], a: u32, b: u32) -> bool
-    requires { ⌜ Readable (now arena) a × Readable (now arena) b ⌝ }
+    requires { ⌜ ValidNode (now arena) a × ValidNode (now arena) b ⌝ }
     ensures { λ r. ⌜ r ≡ viewIn (now (arena .entry)) .sameSite a b ⌝ }
 {
     if arena::stack(arena, a) != arena::stack(arena, b) {
@@ -19,7 +19,7 @@ pub fn same_site(arena: &[u8], a: u32, b: u32) -> bool
 
 // Whether node n has the local root's stack: never where there is no local root.
 pub fn in_local_stack(arena: &[u8], root: u32, n: u32) -> bool
-    requires { ⌜ Standing (now arena) root n ⌝ }
+    requires { ⌜ ValidNodeAndRoot (now arena) root n ⌝ }
     ensures { λ r. ⌜ r ≡ viewIn (now (arena .entry)) .localStack n ⌝ }
 {
     if root == 0 {
@@ -28,7 +28,8 @@ pub fn in_local_stack(arena: &[u8], root: u32, n: u32) -> bool
     arena::stack(arena, root) == arena::stack(arena, n)
 }
 
-// The prims of the parent's path that were there when the node was introduced, taken from all of them; 0 where there were more.
+// The prims of the parent's path that were there when the node was introduced, taken from all of
+// them; 0 where there were more.
 fn less(prims: u8, depth: u16) -> u16
     ensures { λ r. ⌜ (r ≡ prims - depth) × (r ≤ 255) ⌝ }
 {
@@ -40,7 +41,7 @@ fn less(prims: u8, depth: u16) -> u16
 
 // The depth below introduction of node n.
 pub fn depth_below(arena: &[u8], n: u32) -> u16
-    requires { ⌜ Readable (now arena) n ⌝ }
+    requires { ⌜ ValidNode (now arena) n ⌝ }
     ensures { λ r. ⌜ (r ≡ depthBelowIntroduction (decode (now (arena .entry)) .nodes) n) × (r ≤ 255) ⌝ }
 {
     if n == 0 {

@@ -1,4 +1,5 @@
--- `store_head` meets its contract: the four stores are one, and the prim count is its own byte. Assumes nothing.
+-- `store_head` meets its contract: the four stores are one, and the prim count is its own byte.
+-- Assumes nothing.
 use mathlib.Core.Path.{ap, _∙_}
 use mathlib.Core.List.{List, [], _∷_}
 use Prim.Native.Nat.{ℕ, _+_}

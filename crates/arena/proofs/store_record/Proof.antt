@@ -1,4 +1,5 @@
--- `store_record` meets its contract: the five stores are one, and the length is that of the record stored. Assumes nothing.
+-- `store_record` meets its contract: the five stores are one, and the length is that of the record
+-- stored. Assumes nothing.
 use mathlib.Core.Path.{_≡_, sym, ap, _∙_}
 use mathlib.Core.List.{[], _∷_, _++_}
 use Prim.Native.Nat.{ℕ, _+_}

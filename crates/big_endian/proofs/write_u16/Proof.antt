@@ -1,4 +1,5 @@
--- `write_u16` meets its contract: the two stored bytes are the digits of the number. Assumes nothing.
+-- `write_u16` meets its contract: the two stored bytes are the digits of the number. Assumes
+-- nothing.
 use borrow.Author.Needs.{needs}
 use native.Mathlib.Omega.{arith}
 use lib.ListN.{length-set}

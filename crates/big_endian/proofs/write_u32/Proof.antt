@@ -1,4 +1,5 @@
--- `write_u32` meets its contract: the four stored bytes are the digits of the number. Assumes nothing.
+-- `write_u32` meets its contract: the four stored bytes are the digits of the number. Assumes
+-- nothing.
 use borrow.Author.Needs.{needs}
 use native.Mathlib.Omega.{arith}
 use lib.ListN.{length-set}

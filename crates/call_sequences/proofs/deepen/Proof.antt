@@ -1,4 +1,5 @@
--- `deepen` makes the call `deepening`, by `append_child_name_to_all_sites`' contract. Assumes nothing.
+-- `deepen` makes the call `deepening`, by `append_child_name_to_all_sites`' contract. Assumes
+-- nothing.
 use Rattle.call_sequences.proofs.StepTies.{append-deepens}
 use Rattle.call_sequences.proofs.deepen.Statement.{statement}
 use Rattle.call_sequences.proofs.deepen.Tie as tie

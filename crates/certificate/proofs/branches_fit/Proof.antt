@@ -1,5 +1,6 @@
--- `branches_fit` meets its contract. The loop's invariant: the children before `at` are the node's, and the list fits where the rest of it does after
--- `from`. The measure is how many are left. Assumes nothing.
+-- `branches_fit` meets its contract. The loop's invariant: the children before `at` are the node's,
+-- and the list fits where the rest of it does after `from`. The measure is how many are left.
+-- Assumes nothing.
 use native.Mathlib.Omega.{arith}
 use mathlib.Core.Bool.{false≢true}
 use Prim.Native.Nat.{ℕ, _-_, _<_}

@@ -1,5 +1,5 @@
--- `certify` meets its contract. The loop's invariant: the lists of the nodes below `parent` fit and are in order, and stand up to `start`. The
--- measure is how many nodes are left. Assumes nothing.
+-- `certify` meets its contract. The loop's invariant: the lists of the nodes below `parent` fit and
+-- are in order, and stand up to `start`. The measure is how many nodes are left. Assumes nothing.
 use native.Mathlib.Omega.{arith}
 use mathlib.Core.Path.{_≡_, refl, _∙_}
 use mathlib.Core.Bool.{false≢true}

@@ -1,5 +1,6 @@
--- `copies_in_order` meets its contract. The loop's invariant: up to `i` all are HAS_SPECIALIZES, of one R where depths differ, each follows the one
--- before it, and the authored ones rise. The measure is how many are left. Assumes nothing.
+-- `copies_in_order` meets its contract. The loop's invariant: up to `i` all are HAS_SPECIALIZES, of
+-- one R where depths differ, each follows the one before it, and the authored ones rise. The
+-- measure is how many are left. Assumes nothing.
 use native.Mathlib.Omega.{arith}
 use mathlib.Core.Bool.{false≢true}
 use Prim.Native.Nat.{_+_, _-_, _<_}

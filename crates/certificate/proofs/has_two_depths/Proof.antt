@@ -1,5 +1,5 @@
--- `has_two_depths` meets its contract. The loop's invariant: the children before `i` have the first one's depth. The measure is how many are left.
--- Assumes nothing.
+-- `has_two_depths` meets its contract. The loop's invariant: the children before `i` have the first
+-- one's depth. The measure is how many are left. Assumes nothing.
 use native.Mathlib.Omega.{arith}
 use mathlib.Core.Path.{sym, _∙_}
 use mathlib.Core.Bool.{false≢true}

@@ -1,5 +1,5 @@
--- `is_before` meets its contract: what a verdict asks are both origins or both R, and these have places.
--- Assumes nothing.
+-- `is_before` meets its contract: what a verdict asks are both origins or both R, and these have
+-- places. Assumes nothing.
 use mathlib.Core.Path.{ap, _∙_}
 use Prim.Native.Nat.{_<_}
 use lib.ListN.{length}

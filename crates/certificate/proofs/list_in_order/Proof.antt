@@ -1,5 +1,5 @@
--- `list_in_order` meets its contract. The loop's invariant: the runs up to `at` are in order, and their ranks below `least`. The measure is how many
--- children are left. Assumes nothing.
+-- `list_in_order` meets its contract. The loop's invariant: the runs up to `at` are in order, and
+-- their ranks below `least`. The measure is how many children are left. Assumes nothing.
 use native.Mathlib.Omega.{arith}
 use mathlib.Core.Path.{_≡_, refl, _∙_}
 use mathlib.Core.Bool.{false≢true}

@@ -1,5 +1,5 @@
--- `neighbours_in_order` meets its contract. The loop's invariant: up to `i` no child is a copy, and each is before the next. The measure is how many
--- are left. Assumes nothing.
+-- `neighbours_in_order` meets its contract. The loop's invariant: up to `i` no child is a copy, and
+-- each is before the next. The measure is how many are left. Assumes nothing.
 use native.Mathlib.Omega.{arith}
 use mathlib.Core.Path.{sym, _∙_}
 use mathlib.Core.Bool.{false≢true}

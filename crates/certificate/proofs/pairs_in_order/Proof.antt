@@ -1,5 +1,6 @@
--- `pairs_in_order` meets its contract. The outer loop's invariant: nothing is found, and each child before `i` is before all later ones; the inner
--- one's: and the one at `i` is before those up to `j`. The measures are how many are left to each. Assumes nothing.
+-- `pairs_in_order` meets its contract. The outer loop's invariant: nothing is found, and each child
+-- before `i` is before all later ones; the inner one's: and the one at `i` is before those up to
+-- `j`. The measures are how many are left to each. Assumes nothing.
 use native.Mathlib.Omega.{arith}
 use mathlib.Core.Path.{_≡_, refl, sym, _∙_}
 use mathlib.Core.Bool.{true, false≢true}

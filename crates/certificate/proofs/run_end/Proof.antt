@@ -1,5 +1,5 @@
--- `run_end` meets its contract. The loop's invariant: the children before `i` have the first one's rank. The measure is how many are left.
--- Assumes nothing.
+-- `run_end` meets its contract. The loop's invariant: the children before `i` have the first one's
+-- rank. The measure is how many are left. Assumes nothing.
 use native.Mathlib.Omega.{arith}
 use mathlib.Core.Path.{refl, sym, _∙_}
 use Prim.Native.Nat.{_-_, _<_}

@@ -1,4 +1,5 @@
--- `run_in_order` meets its contract: a part of one child is in order, and each of the three tests is enough. Assumes nothing.
+-- `run_in_order` meets its contract: a part of one child is in order, and each of the three tests
+-- is enough. Assumes nothing.
 use borrow.Author.Needs.{needs}
 use native.Mathlib.Omega.{arith}
 use Rattle.certificate.proofs.CertificateParts.{alone-in-order}

@@ -1,4 +1,5 @@
--- `cull_rooted` meets its contract: the flags found are those of the culled graph, and all that is stored. Assumes nothing.
+-- `cull_rooted` meets its contract: the flags found are those of the culled graph, and all that is
+-- stored. Assumes nothing.
 use mathlib.Core.Path.{refl, _∙_}
 use borrow.Author.Needs.{needs}
 use native.Mathlib.Omega.{arith}

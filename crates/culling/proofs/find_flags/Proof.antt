@@ -1,4 +1,5 @@
--- `find_flags` meets its contract. The invariant of its loop: the nodes from n on are decided. The measure is n. Assumes nothing.
+-- `find_flags` meets its contract. The invariant of its loop: the nodes from n on are decided. The
+-- measure is n. Assumes nothing.
 use mathlib.Core.Path.{sym, ap, _∙_}
 use Prim.Native.Nat.{_-_}
 use native.Mathlib.Omega.{arith}
@@ -7,7 +8,7 @@ use lib.ListN.{length-set}
 use Rattle.laws.proofs.BigEndianLaws.{Bytes}
 use Rattle.laws.proofs.StoredLaws.{bytes-by-place}
 use Rattle.arena.proofs.ReadNodes.{has-slot}
-use Rattle.view.specs.View.{Standing}
+use Rattle.view.specs.View.{ValidNodeAndRoot}
 use Rattle.view.proofs.ViewLaws.{seen}
 use Rattle.culling.specs.Culled.{withCulled}
 use Rattle.culling.proofs.DecidingLaws.{Deciding, stands, deciding-start, here-below, parent-below, step-culled, step-left, deciding-end}
@@ -15,10 +16,10 @@ use Rattle.culling.proofs.find_flags.Statement.{statement}
 use Rattle.culling.proofs.find_flags.Tie as tie
 
 abbrev Inv-loop : tie.InvT-loop
-Inv-loop arena count root busy₀ flags₀ n₀ busy flags n = Deciding arena busy flags n
+Inv-loop arena count root unculled₀ flags₀ n₀ unculled flags n = Deciding arena unculled flags n
 
 abbrev μ-loop : tie.MeasureT-loop
-μ-loop arena count root busy₀ flags₀ n₀ busy flags n = n
+μ-loop arena count root unculled₀ flags₀ n₀ unculled flags n = n
 
 bytes : (c : tie.After-shared-slice-known Inv-loop μ-loop) → Bytes (c .before .args .arena .now)
 bytes c = bytes-by-place (c .before .args .arena .now) (λ k. c .shared-slice-known .given k .fits)
@@ -30,7 +31,7 @@ loop-holds c =
 
 -- the node to be decided can be read
 reads : (c : tie.In-loop Inv-loop μ-loop)
-    → let s = c .before .before .before .before .before in Standing (s .args .arena .now) (s .args .root) (c .before .loop .n - 1)
+    → let s = c .before .before .before .before .before in ValidNodeAndRoot (s .args .arena .now) (s .args .root) (c .before .loop .n - 1)
 reads c =
     let known = c .before .before .before .before in
     stands _ (bytes known) _ _ (known .before .pre .0) _
@@ -47,7 +48,7 @@ flags-requires c κs = has-slot _ _ (reads c .readable)
 
 slice-read-can-cull : tie.Need-slice-read-can-cull Inv-loop μ-loop
 slice-read-can-cull c =
-    let l = c .before .before in omega (arith, has-slot _ _ (reads l .readable) .within, l .before .loop .inv .busy-long)
+    let l = c .before .before in omega (arith, has-slot _ _ (reads l .readable) .within, l .before .loop .inv .unculled-long)
 
 can-cull-requires : tie.Need-can-cull-requires Inv-loop μ-loop
 can-cull-requires c κs = reads (c .before .before)
@@ -79,17 +80,17 @@ slice-write-flags-2 c =
 parent-requires : tie.Need-parent-requires Inv-loop μ-loop
 parent-requires c κs = reads (c .before .before .before .before) .readable
 
-cast-busy : tie.Need-cast-busy Inv-loop μ-loop
-cast-busy c = search needs
+cast-unculled : tie.Need-cast-unculled Inv-loop μ-loop
+cast-unculled c = search needs
 
-slice-write-busy : tie.Need-slice-write-busy Inv-loop μ-loop
-slice-write-busy c =
+slice-write-unculled : tie.Need-slice-write-unculled Inv-loop μ-loop
+slice-write-unculled c =
     let l = c .before .before .before .before .before in
     let known = l .before .before .before .before in
     omega (
       arith,
       has-slot _ _ (reads l .readable) .within,
-      l .before .loop .inv .busy-long,
+      l .before .loop .inv .unculled-long,
       c .parent .ensures,
       parent-below _ (bytes known) _ _ (known .before .pre .0) _ _ _ (l .before .loop .inv) (l .loop-test .taken),
     )
@@ -112,7 +113,7 @@ slice-write-flags-3 : tie.Need-slice-write-flags-3 Inv-loop μ-loop
 slice-write-flags-3 c = omega (arith, c .before .before .loop .inv .flags-long)
 
 same-length : tie.Need-same-length Inv-loop μ-loop
-same-length c = c .before .before .loop .inv .busy-long ∙ sym (c .before .before .before .before .before .before .pre .1 .0)
+same-length c = c .before .before .loop .inv .unculled-long ∙ sym (c .before .before .before .before .before .before .pre .1 .0)
 
 same-length-2 : tie.Need-same-length-2 Inv-loop μ-loop
 same-length-2 c =
@@ -145,8 +146,8 @@ find-flags-spec =
     loop-again
     slice-write-flags-2
     parent-requires
-    cast-busy
-    slice-write-busy
+    cast-unculled
+    slice-write-unculled
     loop-less-2
     loop-again-2
     flags-requires-2

@@ -1,4 +1,5 @@
--- `put_front` meets its contract: the three parts, one after the other, are the front of a line. Assumes nothing.
+-- `put_front` meets its contract: the three parts, one after the other, are the front of a line.
+-- Assumes nothing.
 use borrow.Author.Needs.{needs}
 use mathlib.Core.Path.{ap}
 use mathlib.Core.List.{_∷_, _++_}

@@ -1,4 +1,5 @@
--- `put_head` meets its contract: the three parts, one after the other, are the first line. Assumes nothing.
+-- `put_head` meets its contract: the three parts, one after the other, are the first line. Assumes
+-- nothing.
 use borrow.Author.Needs.{needs}
 use native.Mathlib.Omega.{arith}
 use Rattle.listing.specs.Texts.{headLine}

@@ -1,4 +1,5 @@
--- `put_line` meets its contract: the fields that are read are the node's, and the front and the rest are its line. Assumes nothing.
+-- `put_line` meets its contract: the fields that are read are the node's, and the front and the
+-- rest are its line. Assumes nothing.
 use borrow.Author.Needs.{needs}
 use mathlib.Core.List.{[], _∷_}
 use native.Mathlib.Omega.{arith}

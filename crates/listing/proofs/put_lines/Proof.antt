@@ -1,5 +1,5 @@
--- `put_lines` meets its contract. The loop's invariant is `Listed`: the lines of the first i entries are put, and end at `at`.
--- The measure is how many entries are left. Assumes nothing.
+-- `put_lines` meets its contract. The loop's invariant is `Listed`: the lines of the first i
+-- entries are put, and end at `at`. The measure is how many entries are left. Assumes nothing.
 use Prim.Native.Nat.{_-_, _<_}
 use borrow.Author.Needs.{needs}
 use native.Mathlib.Omega.{arith}

@@ -1,4 +1,5 @@
--- `put_rest` meets its contract: the three parts, one after the other, are the end of a line. Assumes nothing.
+-- `put_rest` meets its contract: the three parts, one after the other, are the end of a line.
+-- Assumes nothing.
 use borrow.Author.Needs.{needs}
 use native.Mathlib.Omega.{arith}
 use Rattle.listing.proofs.PutLaws.{put-thrice}

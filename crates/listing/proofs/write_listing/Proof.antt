@@ -3,13 +3,13 @@ use mathlib.Core.Path.{_≡_, sym, _∙_}
 use borrow.Author.Needs.{needs}
 use borrow.Author.Tests.{not-true, not-false}
 use Rattle.model.specs.Arena.{countIn}
-use Rattle.model.specs.ArenaCalls.{Opened}
+use Rattle.model.specs.ArenaCalls.{ValidArena}
 use Rattle.listing.proofs.CallLaws.{not-arena, not-buffer, no-graph, no-node, not-ordered, written}
 use Rattle.listing.proofs.write_listing.Statement.{statement}
 use Rattle.listing.proofs.write_listing.Tie as tie
 
 -- past questions 1 and 2
-opened : (c : tie.Else3) → Opened (c .before .before .before .before .before .before .args .arena .now)
+opened : (c : tie.Else3) → ValidArena (c .before .before .before .before .before .before .args .arena .now)
 opened c = record { whole = c .before .before .before .if1 .left; holds = sym (c .before .is-graph .ensures) ∙ not-false _ (c .if3 .left) }
 
 -- past question 3

@@ -1,4 +1,5 @@
--- `append_child_name` meets its contract: the questions in their order, and then the bytes. Assumes nothing.
+-- `append_child_name` meets its contract: the questions in their order, and then the bytes. Assumes
+-- nothing.
 use borrow.Author.Needs.{needs}
 use native.Mathlib.Omega.{arith}
 use Rattle.path.proofs.JoiningLaws.{joinable-short, refused-size, refused-path, refused-capacity, joinable, joinable-named, accepted}

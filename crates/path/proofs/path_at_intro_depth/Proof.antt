@@ -1,4 +1,5 @@
--- `path_at_intro_depth` meets its contract: the front part has the introduction path's length. Assumes nothing.
+-- `path_at_intro_depth` meets its contract: the front part has the introduction path's length.
+-- Assumes nothing.
 use borrow.Author.Needs.{needs}
 use mathlib.Core.Path.{sym, ap}
 use Prim.Native.Nat.{_-_, ℕ}

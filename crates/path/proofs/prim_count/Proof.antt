@@ -1,4 +1,5 @@
--- `prim_count` meets its contract: what is longer than 255 bytes is no path, and the rest is read. Assumes nothing.
+-- `prim_count` meets its contract: what is longer than 255 bytes is no path, and the rest is read.
+-- Assumes nothing.
 use borrow.Author.Needs.{needs}
 use Rattle.path.proofs.ReadingLaws.{count-prims-long, count-prims-reads}
 use mathlib.Core.Path.{_∙_}

@@ -1,5 +1,5 @@
--- `same_path` meets its contract. The loop's invariant: the bytes before `i` are equal. The measure is what is left of the length.
--- Assumes nothing.
+-- `same_path` meets its contract. The loop's invariant: the bytes before `i` are equal. The measure
+-- is what is left of the length. Assumes nothing.
 use borrow.Author.Needs.{needs}
 use native.Mathlib.Omega.{arith}
 use Prim.Native.Nat.{ℕ, _-_, _≤_, _<_}

@@ -1,4 +1,5 @@
--- `path` meets its contract: the part handed back is what follows the numbers of the record. Assumes nothing.
+-- `path` meets its contract: the part handed back is what follows the numbers of the record.
+-- Assumes nothing.
 use mathlib.Core.Path.{_≡_, sym, ap, _∙_}
 use Prim.Native.Nat.{ℕ, _+_, _-_}
 use borrow.Author.Needs.{needs}

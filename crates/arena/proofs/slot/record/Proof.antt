@@ -1,4 +1,5 @@
--- `record` meets its contract: the part handed back is the record of the slot, from its length on. Assumes nothing.
+-- `record` meets its contract: the part handed back is the record of the slot, from its length on.
+-- Assumes nothing.
 use mathlib.Core.Path.{_≡_, ap}
 use Prim.Native.Nat.{ℕ, _+_, _-_}
 use borrow.Author.Needs.{needs}

@@ -1,5 +1,5 @@
--- `ask_pairs` meets its contract. The invariant of its loop: none of the first `i` pairs is refused. The measure is what is left of the pairs. Assumes
--- nothing.
+-- `ask_pairs` meets its contract. The invariant of its loop: none of the first `i` pairs is
+-- refused. The measure is what is left of the pairs. Assumes nothing.
 use native.Mathlib.Omega.{arith}
 use mathlib.Core.Path.{_≡_, refl, sym, ap, _∙_}
 use Prim.Native.Nat.{_-_, _/_, _≤_}

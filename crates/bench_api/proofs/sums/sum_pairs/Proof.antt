@@ -1,5 +1,6 @@
--- `sum_pairs` meets its contract. The invariant of its loop: `sum` is the sum of the first `i` pairs, each of which adds less than 256. The measure is what
--- is left of the pairs. Assumes nothing.
+-- `sum_pairs` meets its contract. The invariant of its loop: `sum` is the sum of the first `i`
+-- pairs, each of which adds less than 256. The measure is what is left of the pairs. Assumes
+-- nothing.
 use borrow.Author.Needs.{needs}
 use native.Mathlib.Omega.{arith}
 use mathlib.Core.Path.{_≡_, refl, ap, ap₂, _∙_}

@@ -1,5 +1,5 @@
--- `calls::input::answer_block` is safe and ends. The invariant of its loop: the five lent buffers keep their lengths.
--- The measure is what is left of the block. Assumes nothing.
+-- `calls::input::answer_block` is safe and ends. The invariant of its loop: the five lent buffers
+-- keep their lengths. The measure is what is left of the block. Assumes nothing.
 use Prim.Native.Nat.{_-_}
 use mathlib.Core.Path.{_≡_}
 use borrow.Author.Needs.{needs}

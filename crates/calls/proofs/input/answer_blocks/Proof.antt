@@ -1,5 +1,5 @@
--- `calls::input::answer_blocks` is safe and ends. The invariant of its loop: the six lent buffers keep their lengths.
--- The measure is the number of turns that are left. Assumes nothing.
+-- `calls::input::answer_blocks` is safe and ends. The invariant of its loop: the six lent buffers
+-- keep their lengths. The measure is the number of turns that are left. Assumes nothing.
 use mathlib.Core.Path.{_≡_}
 use borrow.Author.Needs.{needs}
 use native.Mathlib.Omega.{arith}

@@ -1,5 +1,6 @@
--- `calls_look::children::put_list` is safe and ends. The invariant of its loop: the lent buffer keeps its length, and `left` is a number of nodes.
--- The measure is how many nodes the list can still have. Assumes nothing.
+-- `calls_look::children::put_list` is safe and ends. The invariant of its loop: the lent buffer
+-- keeps its length, and `left` is a number of nodes. The measure is how many nodes the list can
+-- still have. Assumes nothing.
 use Prim.Native.Nat.{_≤_}
 use mathlib.Core.Path.{_≡_}
 use borrow.Author.Needs.{needs}

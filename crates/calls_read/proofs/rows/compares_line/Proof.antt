@@ -1,4 +1,5 @@
--- `compares_line` is safe and ends: where the count is answered, the arena holds a graph and that is its count. Assumes nothing.
+-- `compares_line` is safe and ends: where the count is answered, the arena holds a graph and that
+-- is its count. Assumes nothing.
 use borrow.Author.Needs.{needs}
 use Rattle.laws.proofs.ArenaCallLaws.{count-number}
 use Rattle.calls_read.proofs.rows.compares_line.Statement.{statement}

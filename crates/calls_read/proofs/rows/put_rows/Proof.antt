@@ -1,4 +1,5 @@
--- `put_rows` is safe and ends. The invariant of its loop: the output keeps its length. The measure is what is left of the count. Assumes nothing.
+-- `put_rows` is safe and ends. The invariant of its loop: the output keeps its length. The measure
+-- is what is left of the count. Assumes nothing.
 use borrow.Author.Needs.{needs}
 use native.Mathlib.Omega.{arith}
 use Prim.Native.Nat.{_-_}

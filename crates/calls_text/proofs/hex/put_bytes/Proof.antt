@@ -1,5 +1,5 @@
--- `calls_text::hex::put_bytes` is safe and ends. The invariant of its loop: the lent buffer keeps its length.
--- The measure is how many bytes are left. Assumes nothing.
+-- `calls_text::hex::put_bytes` is safe and ends. The invariant of its loop: the lent buffer keeps
+-- its length. The measure is how many bytes are left. Assumes nothing.
 use Prim.Native.Nat.{_-_}
 use mathlib.Core.Path.{_≡_}
 use borrow.Author.Needs.{needs}

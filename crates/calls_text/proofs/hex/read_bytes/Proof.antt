@@ -1,5 +1,5 @@
--- `calls_text::hex::read_bytes` is safe and ends. The invariant of its loop: the lent buffer keeps its length.
--- The measure is what is left of the word. Assumes nothing.
+-- `calls_text::hex::read_bytes` is safe and ends. The invariant of its loop: the lent buffer keeps
+-- its length. The measure is what is left of the word. Assumes nothing.
 use Prim.Native.Nat.{_-_}
 use mathlib.Core.Path.{_≡_}
 use borrow.Author.Needs.{needs}

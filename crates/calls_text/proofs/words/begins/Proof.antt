@@ -1,5 +1,5 @@
--- `calls_words::begins` is safe and ends. Nothing has to hold from turn to turn, so the invariant of its loop is `Unit {0}`.
--- The measure is what is left of the name. Assumes nothing.
+-- `calls_words::begins` is safe and ends. Nothing has to hold from turn to turn, so the invariant
+-- of its loop is `Unit {0}`. The measure is what is left of the name. Assumes nothing.
 use Prim.Native.Nat.{_-_}
 use borrow.Author.Needs.{needs}
 use lib.ListN.{length}

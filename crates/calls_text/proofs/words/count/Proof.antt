@@ -1,5 +1,5 @@
--- `calls_words::count` is safe and ends. The invariant of its loop: each word and the space after it took a byte at least.
--- The measure is what is left of the line. Assumes nothing.
+-- `calls_words::count` is safe and ends. The invariant of its loop: each word and the space after
+-- it took a byte at least. The measure is what is left of the line. Assumes nothing.
 use Prim.Native.Nat.{_+_, _-_, _≤_}
 use borrow.Author.Needs.{needs}
 use lib.ListN.{length}

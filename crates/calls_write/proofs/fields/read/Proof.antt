@@ -1,5 +1,5 @@
--- `calls_make::fields::read` is safe and ends. The invariant of its loop: `at` is within the line, and the numbers keep their length.
--- The measure is how many numbers are left. Assumes nothing.
+-- `calls_make::fields::read` is safe and ends. The invariant of its loop: `at` is within the line,
+-- and the numbers keep their length. The measure is how many numbers are left. Assumes nothing.
 use Prim.Native.Nat.{_-_, _≤_}
 use mathlib.Core.Path.{_≡_}
 use borrow.Author.Needs.{needs}

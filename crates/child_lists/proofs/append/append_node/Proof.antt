@@ -1,5 +1,5 @@
--- `append_node` meets its contract: its stores are those of `encode-append`. The numbers of the node fit their widths because their types say so.
--- Assumes nothing.
+-- `append_node` meets its contract: its stores are those of `encode-append`. The numbers of the
+-- node fit their widths because their types say so. Assumes nothing.
 use mathlib.Core.Path.{_≡_, sym, ap, subst, _∙_}
 use mathlib.Core.Bool.{Bool}
 use mathlib.Core.List.{List}

@@ -1,5 +1,5 @@
--- `link_child` meets its contract: a record that was loaded has the links that the arena has, so storing it with one changed changes that one.
--- Assumes nothing.
+-- `link_child` meets its contract: a record that was loaded has the links that the arena has, so
+-- storing it with one changed changes that one. Assumes nothing.
 use mathlib.Core.Path.{_≡_, sym, ap, _∙_}
 use mathlib.Core.Bool.{false}
 use mathlib.Core.List.{List}

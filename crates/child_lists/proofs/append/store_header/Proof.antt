@@ -1,4 +1,5 @@
--- `store_header` meets its contract: the two stores, and the third where the arc is Root. Assumes nothing.
+-- `store_header` meets its contract: the two stores, and the third where the arc is Root. Assumes
+-- nothing.
 use mathlib.Core.Path.{ap, _∙_}
 use mathlib.Core.Bool.{false}
 use borrow.Author.Needs.{needs}
@@ -14,8 +15,8 @@ add-write-count c = search needs
 write-count-requires : tie.Need-write-count-requires
 write-count-requires c κs = search needs
 
-write-marks-requires : tie.Need-write-marks-requires
-write-marks-requires c κs = search needs
+write-state-requires : tie.Need-write-state-requires
+write-state-requires c κs = search needs
 
 write-local-root-requires : tie.Need-write-local-root-requires
 write-local-root-requires c κs = search needs
@@ -30,7 +31,7 @@ returns c =
     let a = count .before .before .before .args in
     rw (eq-eqb (a .arc) rootArc (c .before .before .before .before .if1 .taken))
     (c .before .before .write-local-root .ensures
-    ∙ ap (localRootStored (a .n)) (marks .write-marks .ensures ∙ ap (marksStored false false (a .shallow)) (count .write-count .ensures)))
+    ∙ ap (localRootStored (a .n)) (marks .write-state .ensures ∙ ap (marksStored false false (a .shallow)) (count .write-count .ensures)))
 
 same-length-2 : tie.Need-same-length-2
 same-length-2 c = search needs
@@ -41,7 +42,7 @@ returns-2 c =
     let count = marks .before .before .before .before in
     let a = count .before .before .before .args in
     rw (ne-eqb (a .arc) rootArc (c .if1 .left))
-    (marks .write-marks .ensures ∙ ap (marksStored false false (a .shallow)) (count .write-count .ensures))
+    (marks .write-state .ensures ∙ ap (marksStored false false (a .shallow)) (count .write-count .ensures))
 
 pub store-header-spec : {M : Type 1} → statement M
 store-header-spec =
@@ -49,7 +50,7 @@ store-header-spec =
     (tie.spec
     add-write-count
     write-count-requires
-    write-marks-requires
+    write-state-requires
     write-local-root-requires
     same-length
     returns

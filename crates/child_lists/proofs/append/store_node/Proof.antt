@@ -1,4 +1,5 @@
--- `store_node` meets its contract: the links are none, and they are no part of the record. Assumes nothing.
+-- `store_node` meets its contract: the links are none, and they are no part of the record. Assumes
+-- nothing.
 use mathlib.Core.Path.{_≡_, ap, _∙_}
 use borrow.Author.Needs.{needs}
 use Rattle.model.specs.Node.{invalid}

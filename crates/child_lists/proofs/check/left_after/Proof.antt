@@ -1,5 +1,5 @@
--- `left_after` meets its contract. The loop's invariant: the walk from here on answers what the whole walk does. The measure is what is left of the
--- budget. Assumes nothing.
+-- `left_after` meets its contract. The loop's invariant: the walk from here on answers what the
+-- whole walk does. The measure is what is left of the budget. Assumes nothing.
 use native.Mathlib.Omega.{arith}
 use mathlib.Core.Path.{_≡_, sym, ap, _∙_}
 use mathlib.Core.List.{List}

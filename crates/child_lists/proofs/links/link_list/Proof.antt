@@ -1,5 +1,5 @@
--- `link_list` meets its contract. The invariant of its loop: the children from `at` on are linked, and `head` is the first of them. The
--- measure is how many are before `at`. Assumes nothing.
+-- `link_list` meets its contract. The invariant of its loop: the children from `at` on are linked,
+-- and `head` is the first of them. The measure is how many are before `at`. Assumes nothing.
 use mathlib.Core.Path.{_≡_, ap, _∙_}
 use Prim.Native.Nat.{ℕ, _-_, _≤_, _<_}
 use native.Mathlib.Omega.{arith}

@@ -1,5 +1,6 @@
--- `link_lists` meets its contract. The invariant of its loop: the parents before `parent` have their links, and `start` is where the next part
--- begins. The measure is how many parents are left. Assumes nothing.
+-- `link_lists` meets its contract. The invariant of its loop: the parents before `parent` have
+-- their links, and `start` is where the next part begins. The measure is how many parents are left.
+-- Assumes nothing.
 use mathlib.Core.Path.{_≡_, subst, _∙_}
 use Prim.Native.Nat.{ℕ, _-_, _≤_}
 use native.Mathlib.Omega.{arith}

@@ -1,5 +1,5 @@
--- `write_entries` meets its contract. The invariant of its loop: storing the entries from n on leaves what storing all leaves. The measure is how
--- many are left. Assumes nothing.
+-- `write_entries` meets its contract. The invariant of its loop: storing the entries from n on
+-- leaves what storing all leaves. The measure is how many are left. Assumes nothing.
 use mathlib.Core.Path.{refl, _∙_}
 use Prim.Native.Nat.{_-_}
 use native.Mathlib.Omega.{arith}

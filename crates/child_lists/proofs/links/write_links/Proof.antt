@@ -1,5 +1,5 @@
--- `write_links` meets its contract. The invariant of its loop: the links of the first n nodes are stored. The measure is how many are left.
--- Assumes nothing.
+-- `write_links` meets its contract. The invariant of its loop: the links of the first n nodes are
+-- stored. The measure is how many are left. Assumes nothing.
 use mathlib.Core.Path.{_≡_, refl, ap, _∙_}
 use mathlib.Core.List.{List}
 use Prim.Native.Nat.{ℕ, suc, _+_, _-_, _≤_}

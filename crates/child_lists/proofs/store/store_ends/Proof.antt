@@ -1,4 +1,5 @@
--- `storing::store_ends` meets its contract: the next sibling of the record is the one that the arena has. Assumes nothing.
+-- `storing::store_ends` meets its contract: the next sibling of the record is the one that the
+-- arena has. Assumes nothing.
 use mathlib.Core.Path.{ap, _∙_}
 use borrow.Author.Needs.{needs}
 use Rattle.laws.proofs.StoredLaws.{bytes-by-place}

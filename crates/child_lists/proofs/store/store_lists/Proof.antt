@@ -1,5 +1,6 @@
--- `storing::store_lists` meets its contract. The invariant of its loop: the lists of the nodes before `parent` are stored, and `start` is where the next
--- part begins. The measure is how many nodes are left. Assumes nothing.
+-- `storing::store_lists` meets its contract. The invariant of its loop: the lists of the nodes
+-- before `parent` are stored, and `start` is where the next part begins. The measure is how many
+-- nodes are left. Assumes nothing.
 use mathlib.Core.Path.{_≡_, ap, _∙_}
 use Prim.Native.Nat.{ℕ, _-_, _≤_}
 use native.Mathlib.Omega.{arith}

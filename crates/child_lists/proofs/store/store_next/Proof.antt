@@ -1,4 +1,5 @@
--- `storing::store_next` meets its contract: the other links of the record are those that the arena has. Assumes nothing.
+-- `storing::store_next` meets its contract: the other links of the record are those that the arena
+-- has. Assumes nothing.
 use mathlib.Core.Path.{_∙_}
 use borrow.Author.Needs.{needs}
 use Rattle.laws.proofs.StoredLaws.{bytes-by-place}

@@ -1,5 +1,6 @@
--- `storing::store_nexts` meets its contract. The invariant of its loop: the siblings after the children from `at` on are stored, and `head` is the first
--- of these. The measure is how many are before `at`. Assumes nothing.
+-- `storing::store_nexts` meets its contract. The invariant of its loop: the siblings after the
+-- children from `at` on are stored, and `head` is the first of these. The measure is how many are
+-- before `at`. Assumes nothing.
 use mathlib.Core.Path.{_≡_, ap, _∙_}
 use Prim.Native.Nat.{ℕ, _-_, _≤_}
 use native.Mathlib.Omega.{arith}

@@ -1,5 +1,6 @@
--- `read_input` is safe and ends, and what it answers lies within the buffer. The loop's invariant: the buffer keeps its length, and holds what was
--- read. The measure is what is left of the buffer. Assumes nothing.
+-- `read_input` is safe and ends, and what it answers lies within the buffer. The loop's invariant:
+-- the buffer keeps its length, and holds what was read. The measure is what is left of the buffer.
+-- Assumes nothing.
 use Prim.Native.Nat.{_-_, _≤_}
 use mathlib.Core.Path.{_≡_}
 use borrow.Author.Needs.{needs}

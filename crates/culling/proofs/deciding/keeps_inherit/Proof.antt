@@ -6,7 +6,7 @@ use borrow.Author.Needs.{needs}
 use borrow.Author.Tests.{eq-eqb, ne-eqb, not-true, not-false}
 use lib.Dec.{eqb}
 use Rattle.model.specs.Arena.{decode}
-use Rattle.model.specs.ArenaCalls.{Readable}
+use Rattle.model.specs.ArenaCalls.{ValidNode}
 use Rattle.model.specs.Path.{primCount}
 use Rattle.model.specs.Node.{inheritArc}
 use Rattle.model.specs.Graph.{nodeAt, pathAtIntroduction}
@@ -39,7 +39,7 @@ introducer-requires : tie.Need-introducer-requires
 introducer-requires c κs = search needs
 
 -- t can be read
-reads-t : (c : tie.After-introducer) → Readable (c .before .before .before .before .before .before .args .arena .now) (c .introducer .result)
+reads-t : (c : tie.After-introducer) → ValidNode (c .before .before .before .before .before .before .args .arena .now) (c .introducer .result)
 reads-t c = readable-lower _ _ _ (c .before .before .before .before .before .before .pre .readable) (c .introducer .ensures .1)
 
 prim-count-requires : tie.Need-prim-count-requires

@@ -1,4 +1,5 @@
--- `append_name_to_all_sites` meets its contract: its stores are those of `encode-deepened`. Assumes nothing.
+-- `append_name_to_all_sites` meets its contract: its stores are those of `encode-deepened`. Assumes
+-- nothing.
 use mathlib.Core.Path.{_≡_, sym, subst, _∙_}
 use mathlib.Core.List.{List}
 use Prim.Native.Nat.{ℕ}
@@ -17,14 +18,14 @@ arena-bytes : (c : tie.After-slice-known) → Bytes (c .before .args .arena .now
 arena-bytes c = bytes-by-place (c .before .args .arena .now) (λ k. c .slice-known .given k .fits)
 
 -- the arena with its new marks
-marks : (c : tie.After-write-marks)
+marks : (c : tie.After-write-state)
     → let start = c .before .before .before .before .before .before .before .before .before .before .before in
     let a = start .before .args in
-    c .write-marks .last .0 ≡ marked (a .arena .now) (a .name .now) (arena-bytes start) (start .before .pre)
+    c .write-state .last .0 ≡ marked (a .arena .now) (a .name .now) (arena-bytes start) (start .before .pre)
 marks c =
     let shallow = c .before .before in
     let final = shallow .before .before in
-    c .write-marks .ensures
+    c .write-state .ensures
     ∙ (λ i. marksStored (final .before .before .keeps-order .ensures i) (eqb (final .finalized .ensures i) 1) (eqb (shallow .shallow .ensures i) 1)
     (c .before .before .before .before .before .before .before .before .before .before .before .before .args .arena .now))
 
@@ -40,8 +41,8 @@ finalized-requires c κs = search needs
 shallow-requires : tie.Need-shallow-requires
 shallow-requires c κs = search needs
 
-write-marks-requires : tie.Need-write-marks-requires
-write-marks-requires c κs = search needs
+write-state-requires : tie.Need-write-state-requires
+write-state-requires c κs = search needs
 
 deepen-sites-requires : tie.Need-deepen-sites-requires
 deepen-sites-requires c κs =
@@ -49,7 +50,7 @@ deepen-sites-requires c κs =
     let counting = marking .before .before .before .before .before .before .before .before in
     let start = counting .before .before .before in
     let a = start .before .args in
-    subst (AllJoin (marking .write-marks .last .0) (a .name .now)) (sym (counting .count .ensures))
+    subst (AllJoin (marking .write-state .last .0) (a .name .now)) (sym (counting .count .ensures))
     (subst (λ (s : List ℕ). AllJoin s (a .name .now) (countIn (a .arena .now))) (sym (marks marking))
     (marked-join (a .arena .now) (a .name .now) (arena-bytes start) (start .before .pre)))
 
@@ -73,7 +74,7 @@ append-name-to-all-sites-spec =
     keeps-order-requires
     finalized-requires
     shallow-requires
-    write-marks-requires
+    write-state-requires
     deepen-sites-requires
     same-length
     returns)

@@ -1,12 +1,12 @@
--- `paths_fit` meets its contract. The invariant of its loop: with the sum so far, the paths from node n on decide question 7. The measure is how many are
--- left. Assumes nothing.
+-- `paths_fit` meets its contract. The invariant of its loop: with the sum so far, the paths from
+-- node n on decide question 7. The measure is how many are left. Assumes nothing.
 use mathlib.Core.Path.{_≡_, sym, ap, _∙_}
 use mathlib.Core.List.{List}
 use Prim.Native.Nat.{ℕ, _+_, _-_, _*_, _≤_}
 use native.Mathlib.Omega.{arith}
 use lib.ListN.{length}
 use Rattle.model.specs.Arena.{decode, nodeIn}
-use Rattle.model.specs.ArenaCalls.{Readable}
+use Rattle.model.specs.ArenaCalls.{ValidNode}
 use Rattle.model.specs.Calls.{pathsFit}
 use Rattle.model.specs.Deepening.{deepen}
 use Rattle.model.specs.Path.{separator, appendName}
@@ -24,7 +24,7 @@ Inv-loop arena name count sum₀ n₀ sum n = (n ≤ count) × (sum ≤ n * 255)
 abbrev μ-loop : tie.MeasureT-loop
 μ-loop arena name count sum₀ n₀ sum n = count - n
 
-reads-it : (c : tie.In-loop Inv-loop μ-loop) → Readable (c .before .before .before .before .before .args .arena .now) (c .before .loop .n)
+reads-it : (c : tie.In-loop Inv-loop μ-loop) → ValidNode (c .before .before .before .before .before .args .arena .now) (c .before .loop .n)
 reads-it c = record {
   opened = c .before .before .before .before .before .pre;
   below = omega (arith, c .before .before .count .ensures, c .loop-test .taken);

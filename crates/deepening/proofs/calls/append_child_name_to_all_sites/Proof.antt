@@ -1,4 +1,5 @@
--- `append_child_name_to_all_sites` meets its contract: where no question refuses, the name is appended. Assumes nothing.
+-- `append_child_name_to_all_sites` meets its contract: where no question refuses, the name is
+-- appended. Assumes nothing.
 use borrow.Author.Needs.{needs}
 use mathlib.Core.Path.{_≡_}
 use Rattle.model.specs.Refusals.{refusal}

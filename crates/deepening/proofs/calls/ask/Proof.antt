@@ -1,8 +1,9 @@
--- `ask` meets its contract: where the arena holds a graph, questions 3, 5 and 7 are left. Assumes nothing.
+-- `ask` meets its contract: where the arena holds a graph, questions 3, 5 and 7 are left. Assumes
+-- nothing.
 use borrow.Author.Needs.{needs}
 use mathlib.Core.Path.{_≡_, sym, _∙_}
 use Rattle.model.specs.Arena.{countIn, decode}
-use Rattle.model.specs.ArenaCalls.{Opened}
+use Rattle.model.specs.ArenaCalls.{ValidArena}
 use Rattle.model.specs.Calls.{deepenQuestions}
 use Rattle.laws.proofs.ArenaCallLaws.{asked-on, count-number, count-refused}
 use Rattle.deepening.proofs.calls.ask.Statement.{statement}
@@ -10,7 +11,7 @@ use Rattle.deepening.proofs.calls.ask.Tie as tie
 
 -- where the count is answered, the arena holds a graph and that is its count
 opened : (c : tie.After-known-told)
-    → Opened (c .before .before .before .before .before .before .args .arena .now) × (c .before .counted .given .0 .0 ≡ countIn (c .before .before .before .before .before .before .args .arena .now))
+    → ValidArena (c .before .before .before .before .before .before .args .arena .now) × (c .before .counted .given .0 .0 ≡ countIn (c .before .before .before .before .before .before .args .arena .now))
 opened c = count-number _ _ _ (rw (c .before .counted .given .1) at (c .before .before .before .count .ensures))
 
 count-requires : tie.Need-count-requires

@@ -1,4 +1,5 @@
--- `ask_opened` meets its contract: each test is one question, in the order of their numbers. Assumes nothing.
+-- `ask_opened` meets its contract: each test is one question, in the order of their numbers.
+-- Assumes nothing.
 use borrow.Author.Needs.{needs}
 use mathlib.Core.Path.{_≡_, sym, _∙_}
 use mathlib.Core.Bool.{true}

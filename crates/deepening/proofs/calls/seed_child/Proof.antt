@@ -1,4 +1,5 @@
--- `seed_child` meets its contract: question 1 of the arena that is filled, and where no question of the other refuses, it is filled. Assumes nothing.
+-- `seed_child` meets its contract: question 1 of the arena that is filled, and where no question of
+-- the other refuses, it is filled. Assumes nothing.
 use borrow.Author.Needs.{needs}
 use mathlib.Core.Path.{_≡_}
 use Rattle.model.specs.Refusals.{refusal}

@@ -22,8 +22,8 @@ local-root-requires c κs = search needs
 write-count-requires : tie.Need-write-count-requires
 write-count-requires c κs = search needs
 
-write-marks-requires : tie.Need-write-marks-requires
-write-marks-requires c κs = search needs
+write-state-requires : tie.Need-write-state-requires
+write-state-requires c κs = search needs
 
 write-local-root-requires : tie.Need-write-local-root-requires
 write-local-root-requires c κs = search needs
@@ -39,7 +39,7 @@ returns c =
     let shallow = root .before in
     let final = shallow .before in
     c .before .before .write-local-root .ensures
-    ∙ (λ i. localRootStored (root .local-root .ensures i) (marks .write-marks .ensures i))
+    ∙ (λ i. localRootStored (root .local-root .ensures i) (marks .write-state .ensures i))
     ∙ ap (localRootStored (localRootIn (final .before .before .before .before .args .from .now)))
     (λ i. marksStored (final .before .keeps-order .ensures i) (eqb (final .finalized .ensures i) 1) (eqb (shallow .shallow .ensures i) 1)
     (count .write-count .ensures i))
@@ -53,7 +53,7 @@ seed-header-spec =
     shallow-requires
     local-root-requires
     write-count-requires
-    write-marks-requires
+    write-state-requires
     write-local-root-requires
     same-length
     returns)

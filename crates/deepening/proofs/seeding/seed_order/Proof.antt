@@ -1,4 +1,5 @@
--- `seeding::seed_order` meets its contract. The invariant of its loop is `Copying`, the measure how many entries are left. Assumes nothing.
+-- `seeding::seed_order` meets its contract. The invariant of its loop is `Copying`, the measure how
+-- many entries are left. Assumes nothing.
 use mathlib.Core.Path.{ap, _∙_}
 use Prim.Native.Nat.{ℕ, _-_}
 use native.Mathlib.Omega.{arith}

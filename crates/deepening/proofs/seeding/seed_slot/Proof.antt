@@ -1,4 +1,5 @@
--- `seeding::seed_slot` meets its contract: the links are those of the other arena, and the record that is stored is the deepened node's. Assumes nothing.
+-- `seeding::seed_slot` meets its contract: the links are those of the other arena, and the record
+-- that is stored is the deepened node's. Assumes nothing.
 use mathlib.Core.Path.{ap, _∙_}
 use borrow.Author.Needs.{needs}
 use Rattle.model.specs.Arena.{nodeIn}

@@ -1,5 +1,5 @@
--- `seeding::seed_slots` meets its contract. The invariant of its loop: the slots of the first n nodes are stored. The measure is how many are left. Assumes
--- nothing.
+-- `seeding::seed_slots` meets its contract. The invariant of its loop: the slots of the first n
+-- nodes are stored. The measure is how many are left. Assumes nothing.
 use mathlib.Core.Path.{_≡_, refl, ap, _∙_}
 use Prim.Native.Nat.{ℕ, suc, _+_, _-_, _≤_}
 use native.Mathlib.Omega.{arith}

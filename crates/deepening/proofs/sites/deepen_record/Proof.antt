@@ -1,4 +1,5 @@
--- `sites::deepen_record` meets its contract: the new path is written, and the record has one prim more and the new path's length. Assumes nothing.
+-- `sites::deepen_record` meets its contract: the new path is written, and the record has one prim
+-- more and the new path's length. Assumes nothing.
 use mathlib.Core.Path.{_≡_, sym, ap, _∙_}
 use mathlib.Core.List.{List, _++_}
 use Prim.Native.Nat.{ℕ, _+_, _-_}

@@ -1,4 +1,5 @@
--- `sites::deepen_site` meets its contract: the record that is stored is the deepened node's. Assumes nothing.
+-- `sites::deepen_site` meets its contract: the record that is stored is the deepened node's.
+-- Assumes nothing.
 use mathlib.Core.Path.{_∙_}
 use borrow.Author.Needs.{needs}
 use Rattle.deepening.proofs.DeepenedSites.{front-length, front-counted, record-joined}

@@ -1,4 +1,5 @@
--- `sites::deepen_sites` meets its contract. The invariant of its loop: the sites of the first n nodes are stored. The measure is how many are left. Assumes nothing.
+-- `sites::deepen_sites` meets its contract. The invariant of its loop: the sites of the first n
+-- nodes are stored. The measure is how many are left. Assumes nothing.
 use mathlib.Core.Path.{_≡_, refl, sym, ap, subst, _∙_}
 use mathlib.Core.List.{List}
 use Prim.Native.Nat.{ℕ, _-_, _≤_}

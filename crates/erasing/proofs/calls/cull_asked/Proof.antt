@@ -1,4 +1,5 @@
--- `cull_asked` meets its contract: question 3, and then every node is culled that can be. Assumes nothing.
+-- `cull_asked` meets its contract: question 3, and then every node is culled that can be. Assumes
+-- nothing.
 use borrow.Author.Needs.{needs}
 use mathlib.Core.Path.{sym, _∙_}
 use native.Mathlib.Omega.{arith}

@@ -1,4 +1,5 @@
--- `cull_subtrees_without_opinions` meets its contract: where the arena holds a graph, question 3 is left. Assumes nothing.
+-- `cull_subtrees_without_opinions` meets its contract: where the arena holds a graph, question 3 is
+-- left. Assumes nothing.
 use borrow.Author.Needs.{needs}
 use Rattle.model.specs.Arena.{countIn, decode}
 use Rattle.laws.proofs.ArenaCallLaws.{count-number, count-refused}

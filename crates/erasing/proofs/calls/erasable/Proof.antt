@@ -1,4 +1,5 @@
--- `erasable` meets its contract: question 1 of the set, and where the arena holds a graph, question 3 is left. Assumes nothing.
+-- `erasable` meets its contract: question 1 of the set, and where the arena holds a graph, question
+-- 3 is left. Assumes nothing.
 use borrow.Author.Needs.{needs}
 use mathlib.Core.Path.{sym, _∙_}
 use Rattle.model.specs.Arena.{countIn, decode}

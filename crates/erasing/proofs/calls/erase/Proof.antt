@@ -1,4 +1,5 @@
--- `erase` meets its contract: question 1 of the set, and where the arena holds a graph, questions 3 and 11 are left. Assumes nothing.
+-- `erase` meets its contract: question 1 of the set, and where the arena holds a graph, questions 3
+-- and 11 are left. Assumes nothing.
 use borrow.Author.Needs.{needs}
 use mathlib.Core.Path.{sym, _∙_}
 use Rattle.model.specs.Arena.{countIn, decode}

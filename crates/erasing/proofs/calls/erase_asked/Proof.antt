@@ -1,4 +1,5 @@
--- `erase_asked` meets its contract: questions 3 and 11, and then the set is erased. Assumes nothing.
+-- `erase_asked` meets its contract: questions 3 and 11, and then the set is erased. Assumes
+-- nothing.
 use borrow.Author.Needs.{needs}
 use mathlib.Core.Path.{_≡_, sym, _∙_}
 use mathlib.Core.Bool.{true}

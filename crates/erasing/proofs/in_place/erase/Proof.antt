@@ -1,4 +1,5 @@
--- `erase` meets its contract: the new numbers, and what `write_erased` leaves by them. Assumes nothing.
+-- `erase` meets its contract: the new numbers, and what `write_erased` leaves by them. Assumes
+-- nothing.
 use mathlib.Core.Path.{refl, ap, _∙_}
 use native.Mathlib.Omega.{arith}
 use borrow.Author.Needs.{needs}

@@ -1,4 +1,5 @@
--- `write_erased` meets its contract: what it finds and stores is that of `erased-encoded`. Assumes nothing.
+-- `write_erased` meets its contract: what it finds and stores is that of `erased-encoded`. Assumes
+-- nothing.
 use mathlib.Core.Path.{refl, ap, _∙_}
 use native.Mathlib.Omega.{arith}
 use borrow.Author.Needs.{needs}

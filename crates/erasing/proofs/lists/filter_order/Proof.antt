@@ -1,10 +1,11 @@
--- `filter_order` meets its contract. The invariant of its loop: the entries from `n` on are left, and what is kept of the others stands up to `kept`.
--- The measure is how many are left. Assumes nothing.
+-- `filter_order` meets its contract. The invariant of its loop: the entries from `n` on are left,
+-- and what is kept of the others stands up to `kept`. The measure is how many are left. Assumes
+-- nothing.
 use native.Mathlib.Omega.{arith}
 use mathlib.Core.Path.{_≡_, sym, _∙_}
 use Prim.Native.Nat.{_-_, _<_}
 use Rattle.model.specs.Arena.{countIn, orderedIn}
-use Rattle.model.specs.ArenaCalls.{Opened, Readable}
+use Rattle.model.specs.ArenaCalls.{ValidArena, ValidNode}
 use Rattle.arena.proofs.ReadNodes.{has-slot}
 use Rattle.erasing.proofs.KeptOrder.{Filtering, filtered-none, entry-readable, filtering-start, filtering-room, filtering-kept, filtering-gone, filtering-ends}
 use Rattle.erasing.proofs.lists.filter_order.Statement.{statement}
@@ -20,7 +21,7 @@ abbrev μ-loop : tie.MeasureT-loop
 abbrev entry : tie.At-loop Inv-loop μ-loop → tie.Start Inv-loop μ-loop
 entry c = c .before .before .before .before .before .before .before
 
-opened : (c : tie.At-loop Inv-loop μ-loop) → Opened (entry c .args .arena .now)
+opened : (c : tie.At-loop Inv-loop μ-loop) → ValidArena (entry c .args .arena .now)
 opened c = entry c .pre .0 .0
 
 ordered : (c : tie.At-loop Inv-loop μ-loop) → orderedIn (entry c .args .arena .now) ≡ 1
@@ -30,7 +31,7 @@ below : (c : tie.In-loop Inv-loop μ-loop) → c .before .loop .n < countIn (ent
 below c = omega (arith, c .loop-test .taken, entry (c .before) .pre .0 .1)
 
 module _ (c : tie.After-order-entry Inv-loop μ-loop) where
-  reads-it : Readable (entry (c .before .before) .args .arena .now) (c .order-entry .result)
+  reads-it : ValidNode (entry (c .before .before) .args .arena .now) (c .order-entry .result)
   reads-it = entry-readable (opened (c .before .before)) (ordered (c .before .before)) (below (c .before)) (c .order-entry .ensures)
 
   small : c .order-entry .result < 1024

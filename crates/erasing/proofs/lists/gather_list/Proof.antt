@@ -1,8 +1,9 @@
--- `gather_list` meets its contract. The invariant of its loop: the children from `child` on are left, and what is kept of the others stands from
--- `start` to `end`. The measure is how many are left. Assumes nothing.
+-- `gather_list` meets its contract. The invariant of its loop: the children from `child` on are
+-- left, and what is kept of the others stands from `start` to `end`. The measure is how many are
+-- left. Assumes nothing.
 use native.Mathlib.Omega.{arith}
 use Prim.Native.Nat.{_<_}
-use Rattle.model.specs.ArenaCalls.{Opened}
+use Rattle.model.specs.ArenaCalls.{ValidArena}
 use Rattle.arena.proofs.ReadNodes.{has-slot}
 use Rattle.erasing.proofs.KeptChildren.{left, Walking, walking-start, walking-readable, walking-room, walking-less, walking-kept, walking-gone, walking-ends}
 use Rattle.erasing.proofs.lists.gather_list.Statement.{statement}
@@ -18,7 +19,7 @@ abbrev μ-loop : tie.MeasureT-loop
 abbrev entry : tie.At-loop Inv-loop μ-loop → tie.Start Inv-loop μ-loop
 entry c = c .before .before .before .before .before .before
 
-opened : (c : tie.At-loop Inv-loop μ-loop) → Opened (entry c .args .arena .now)
+opened : (c : tie.At-loop Inv-loop μ-loop) → ValidArena (entry c .args .arena .now)
 opened c = entry c .pre .0 .0
 
 module _ (c : tie.In-loop Inv-loop μ-loop) where

@@ -1,11 +1,11 @@
--- `gather_lists` meets its contract. The invariant of its loop: the lists of the kept nodes below `n` stand up to `start`. The measure is how many nodes
--- are left. Assumes nothing.
+-- `gather_lists` meets its contract. The invariant of its loop: the lists of the kept nodes below
+-- `n` stand up to `start`. The measure is how many nodes are left. Assumes nothing.
 use native.Mathlib.Omega.{arith}
 use mathlib.Core.Path.{_≡_, sym, _∙_, subst}
 use Prim.Native.Nat.{ℕ, _+_, _-_, _≤_, _<_}
 use lib.ListN.{length, getD}
 use Rattle.model.specs.Arena.{countIn, decode}
-use Rattle.model.specs.ArenaCalls.{Opened}
+use Rattle.model.specs.ArenaCalls.{ValidArena}
 use Rattle.model.specs.Erasing.{stays, newNumber}
 use Rattle.model.specs.Graph.{childrenOf}
 use Rattle.laws.proofs.EraseLists.{new-number-no-larger}
@@ -25,7 +25,7 @@ abbrev μ-loop : tie.MeasureT-loop
 abbrev entry : tie.At-loop Inv-loop μ-loop → tie.Start Inv-loop μ-loop
 entry c = c .before .before .before .before .before .before
 
-opened : (c : tie.At-loop Inv-loop μ-loop) → Opened (entry c .args .arena .now)
+opened : (c : tie.At-loop Inv-loop μ-loop) → ValidArena (entry c .args .arena .now)
 opened c = entry c .pre .0 .0
 
 module _ (c : tie.In-loop Inv-loop μ-loop) where

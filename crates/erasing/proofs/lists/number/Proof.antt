@@ -1,5 +1,5 @@
--- `number` meets its contract. The invariant of its loop: the nodes below `n` have their numbers, and `kept` of them stay. The measure is how many are
--- left. Assumes nothing.
+-- `number` meets its contract. The invariant of its loop: the nodes below `n` have their numbers,
+-- and `kept` of them stay. The measure is how many are left. Assumes nothing.
 use native.Mathlib.Omega.{arith}
 use mathlib.Core.Path.{sym, _∙_}
 use mathlib.Core.Logic.{⊎-elim}

@@ -1,4 +1,5 @@
--- `move_record` meets its contract: the path stands in the room it was copied to, and the rest is `record-moved`. Assumes nothing.
+-- `move_record` meets its contract: the path stands in the room it was copied to, and the rest is
+-- `record-moved`. Assumes nothing.
 use mathlib.Core.Path.{_≡_, sym, ap, _∙_}
 use mathlib.Core.List.{List}
 use Prim.Native.Nat.{ℕ, _+_}

@@ -1,5 +1,5 @@
--- `move_records` meets its contract. The invariant of its loop: the kept of the first n nodes have moved (`Moving`). The measure is how many are left.
--- Assumes nothing.
+-- `move_records` meets its contract. The invariant of its loop: the kept of the first n nodes have
+-- moved (`Moving`). The measure is how many are left. Assumes nothing.
 use mathlib.Core.Path.{_≡_, refl, sym, _∙_}
 use Prim.Native.Nat.{_-_}
 use native.Mathlib.Omega.{arith}

@@ -1,4 +1,5 @@
--- `new_link` meets its contract: a number below the count is looked up, any other stays. Assumes nothing.
+-- `new_link` meets its contract: a number below the count is looked up, any other stays. Assumes
+-- nothing.
 use borrow.Author.Needs.{needs}
 use borrow.Author.Tests.{lt-ltb, le-ltb}
 use Rattle.erasing.proofs.records.new_link.Statement.{statement}

@@ -1,4 +1,5 @@
--- `can_erase` meets its contract. The invariant of its loop: the nodes below `n` pass. The measure is how many are left. Assumes nothing.
+-- `can_erase` meets its contract. The invariant of its loop: the nodes below `n` pass. The measure
+-- is how many are left. Assumes nothing.
 use native.Mathlib.Omega.{arith}
 use borrow.Author.Tests.{not-true, not-false}
 use mathlib.Core.Path.{sym, _∙_}

@@ -5,7 +5,7 @@ use borrow.Author.Tests.{not-true, not-false}
 use mathlib.Core.Path.{_≡_, sym, ap, _∙_}
 use mathlib.Core.Bool.{true}
 use Rattle.model.specs.Node.{culledFlag, hasFlag}
-use Rattle.model.specs.ArenaCalls.{Readable}
+use Rattle.model.specs.ArenaCalls.{ValidNode}
 use Rattle.arena.specs.Slot.{flagsIn}
 use Rattle.arena.proofs.ReadNodes.{has-slot}
 use Rattle.erasing.proofs.MarkLaws.{mark-beyond, mark-unculled, mark-specs, mark-level, mark-set}
@@ -13,7 +13,7 @@ use Rattle.erasing.proofs.sets.mark.Statement.{statement}
 use Rattle.erasing.proofs.sets.mark.Tie as tie
 
 -- n is a node
-reads-it : (c : tie.Else1) → Readable (c .before .before .args .arena .now) (c .before .before .args .n)
+reads-it : (c : tie.Else1) → ValidNode (c .before .before .args .arena .now) (c .before .before .args .n)
 reads-it c = record { opened = c .before .before .pre .0; below = omega (arith, c .if1 .left, c .before .before .pre .1) }
 
 -- and CULLED

@@ -1,4 +1,5 @@
--- `mark_all` meets its contract. The invariant of its loop: the bytes below `n` are marked. The measure is how many are left. Assumes nothing.
+-- `mark_all` meets its contract. The invariant of its loop: the bytes below `n` are marked. The
+-- measure is how many are left. Assumes nothing.
 use native.Mathlib.Omega.{arith}
 use mathlib.Core.Path.{_≡_, sym, _∙_}
 use Prim.Native.Nat.{_-_, _≤_}

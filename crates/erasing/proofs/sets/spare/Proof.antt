@@ -1,11 +1,12 @@
--- `spare` meets its contract. The invariant of its loop: the nodes from `n` on have spared their links. The measure is `n`. Assumes nothing.
+-- `spare` meets its contract. The invariant of its loop: the nodes from `n` on have spared their
+-- links. The measure is `n`. Assumes nothing.
 use native.Mathlib.Omega.{arith}
 use mathlib.Core.Path.{_≡_, sym, _∙_}
 use Prim.Native.Nat.{_-_, _≤_, _<_}
 use lib.ListN.{length-set}
 use Rattle.model.specs.Graph.{size}
 use Rattle.model.specs.Arena.{decode}
-use Rattle.model.specs.ArenaCalls.{Readable}
+use Rattle.model.specs.ArenaCalls.{ValidNode}
 use Rattle.arena.proofs.HeldArenas.{held}
 use Rattle.arena.proofs.ReadNodes.{sizes, has-slot}
 use Rattle.view.proofs.ViewLaws.{readable-parent, readable-origin}
@@ -24,7 +25,7 @@ fits : (s : tie.Start Inv-loop μ-loop) → size (decode (s .args .arena .now)) 
 fits s = let o = s .pre .0 .0 in omega (arith, sizes (s .args .arena .now) o, held (s .args .arena .now) (o .holds) .few)
 
 -- the node of this way round can be read
-reads-it : (c : tie.In-loop Inv-loop μ-loop) → Readable (c .before .before .before .before .args .arena .now) (c .before .loop .n - 1)
+reads-it : (c : tie.In-loop Inv-loop μ-loop) → ValidNode (c .before .before .before .before .args .arena .now) (c .before .loop .n - 1)
 reads-it c =
     let s = c .before .before .before .before in
     record { opened = s .pre .0 .0; below = omega (arith, c .loop-test, c .before .loop .inv .0, s .pre .0 .1) }

@@ -1,4 +1,5 @@
--- `fill` meets its contract. The loop's invariant: the rows below `n` are filled. The measure is how many are left. Assumes nothing.
+-- `fill` meets its contract. The loop's invariant: the rows below `n` are filled. The measure is
+-- how many are left. Assumes nothing.
 use mathlib.Core.Path.{sym, _∙_}
 use Prim.Native.Nat.{_-_}
 use native.Mathlib.Omega.{arith}

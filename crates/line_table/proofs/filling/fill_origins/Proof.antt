@@ -1,4 +1,5 @@
--- `fill_origins` meets its contract: cell after cell, of an authored node or from the row of its origin. Assumes nothing.
+-- `fill_origins` meets its contract: cell after cell, of an authored node or from the row of its
+-- origin. Assumes nothing.
 use borrow.Author.Needs.{needs}
 use native.Mathlib.Omega.{arith}
 use Rattle.line_table.specs.LineTable.{nodeRow}

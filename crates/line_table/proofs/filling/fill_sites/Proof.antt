@@ -1,4 +1,5 @@
--- `fill_sites` meets its contract: cell after cell, of a propagated specializes or of another node. Assumes nothing.
+-- `fill_sites` meets its contract: cell after cell, of a propagated specializes or of another node.
+-- Assumes nothing.
 use borrow.Author.Needs.{needs}
 use mathlib.Core.Path.{sym, ap, _∙_}
 use native.Mathlib.Omega.{arith}

@@ -1,4 +1,5 @@
--- `hierarchy_depth` meets its contract: the hierarchy stays at the node, or goes on from the row above or ends there. Assumes nothing.
+-- `hierarchy_depth` meets its contract: the hierarchy stays at the node, or goes on from the row
+-- above or ends there. Assumes nothing.
 use borrow.Author.Needs.{needs}
 use mathlib.Core.Path.{sym, ap, _∙_}
 use native.Mathlib.Omega.{arith}

@@ -1,4 +1,5 @@
--- `skipped_depth` meets its contract: the node is no Relocate, or its parent's row has it. Assumes nothing.
+-- `skipped_depth` meets its contract: the node is no Relocate, or its parent's row has it. Assumes
+-- nothing.
 use borrow.Author.Needs.{needs}
 use mathlib.Core.Path.{sym, _∙_}
 use native.Mathlib.Omega.{arith}

@@ -1,4 +1,5 @@
--- `weigh_same_root` meets its contract: class depths, hops or the local line differ, or the origins are asked. Assumes nothing.
+-- `weigh_same_root` meets its contract: class depths, hops or the local line differ, or the origins
+-- are asked. Assumes nothing.
 use borrow.Author.Needs.{needs}
 use mathlib.Core.Path.{refl, sym, _∙_}
 use Rattle.line_table.proofs.EntryLines.{class-depths-differ, hops-not-alike, local-settles, local-asks}

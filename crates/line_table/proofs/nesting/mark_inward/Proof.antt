@@ -1,5 +1,5 @@
--- `mark_inward` meets its contract. The loop's invariant: each node below `m` is marked if r is met from it. The measure is how many are left.
--- Assumes nothing.
+-- `mark_inward` meets its contract. The loop's invariant: each node below `m` is marked if r is met
+-- from it. The measure is how many are left. Assumes nothing.
 use mathlib.Core.Path.{_≡_, _∙_}
 use mathlib.Core.Logic.{⊎-elim}
 use Prim.Native.Nat.{ℕ, _+_, _*_, _-_, _<_}

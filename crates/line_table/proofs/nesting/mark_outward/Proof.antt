@@ -1,4 +1,5 @@
--- `mark_outward` meets its contract. The loop's invariant is `Outgoing`. The measure is `x`: an outward step goes to a lower node. Assumes nothing.
+-- `mark_outward` meets its contract. The loop's invariant is `Outgoing`. The measure is `x`: an
+-- outward step goes to a lower node. Assumes nothing.
 use mathlib.Core.Path.{_≡_, refl}
 use Prim.Native.Nat.{ℕ, _+_, _*_, _<_}
 use native.Mathlib.Omega.{arith}

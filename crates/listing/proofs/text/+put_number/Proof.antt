@@ -1,4 +1,5 @@
--- `put_number` meets its contract: the digits of the tenth and then the last are the number's. The measure is the number. Assumes nothing.
+-- `put_number` meets its contract: the digits of the tenth and then the last are the number's. The
+-- measure is the number. Assumes nothing.
 use borrow.Author.Needs.{needs}
 use mathlib.Core.Path.{sym}
 use Prim.Native.Nat.{ℕ, _<_}

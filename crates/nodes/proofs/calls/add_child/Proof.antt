@@ -12,7 +12,7 @@ use Rattle.model.specs.Graph.{withNode}
 use Rattle.arena.specs.declared.Node.{Node}
 use Rattle.arena.specs.Slot.{nodeOf}
 use Rattle.model.specs.Arena.{arenaBytes, countIn, decode, encode}
-use Rattle.model.specs.ArenaCalls.{Opened}
+use Rattle.model.specs.ArenaCalls.{ValidArena}
 use Rattle.laws.proofs.ArenaCallLaws.{wrote-not-arena, wrote-not-graph}
 use Rattle.arena.proofs.ReadNodes.{has-slot}
 use Rattle.nodes.specs.Describing.{descOf, addQuestions}
@@ -21,7 +21,7 @@ use Rattle.nodes.proofs.calls.add_child.Statement.{statement}
 use Rattle.nodes.proofs.calls.add_child.Tie as tie
 
 -- past the second test the arena holds a graph
-opened : (c : tie.Else2) → Opened (c .before .before .before .before .before .before .args .arena .now)
+opened : (c : tie.Else2) → ValidArena (c .before .before .before .before .before .before .args .arena .now)
 opened c =
     record { whole = c .before .before .before .if1 .left; holds = sym (c .before .is-graph .ensures) ∙ not-false _ (c .if2 .left) }
 

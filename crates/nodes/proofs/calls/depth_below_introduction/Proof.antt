@@ -1,14 +1,14 @@
 -- `depth_below_introduction` meets its contract. Assumes nothing.
 use borrow.Author.Needs.{needs}
 use mathlib.Core.Path.{sym}
-use Rattle.model.specs.ArenaCalls.{Readable}
+use Rattle.model.specs.ArenaCalls.{ValidNode}
 use Rattle.laws.proofs.ArenaCallLaws.{answered-refused, answered-number}
 use Rattle.arena.proofs.ReadNodes.{readable}
 use Rattle.nodes.proofs.calls.depth_below_introduction.Statement.{statement}
 use Rattle.nodes.proofs.calls.depth_below_introduction.Tie as tie
 
 -- questions 1 to 4 pass
-reads-it : (c : tie.After-enum-told) → Readable (c .before .before .before .before .args .arena .now) (c .before .before .before .before .args .n)
+reads-it : (c : tie.After-enum-told) → ValidNode (c .before .before .before .before .args .arena .now) (c .before .before .before .before .args .n)
 reads-it c = readable _ _ (sym (rw (c .enum-told .given .1) at (c .before .before .ask-node .ensures)))
 
 ask-node-requires : tie.Need-ask-node-requires

@@ -3,7 +3,7 @@ use borrow.Author.Needs.{needs}
 use mathlib.Core.Path.{_≡_}
 use mathlib.Core.List.{[]}
 use Rattle.model.specs.Arena.{countIn}
-use Rattle.model.specs.ArenaCalls.{Opened}
+use Rattle.model.specs.ArenaCalls.{ValidArena}
 use Rattle.laws.proofs.ArenaCallLaws.{count-number, count-refused}
 use Rattle.nodes.proofs.QueryLaws.{no-graph, one-graph}
 use Rattle.nodes.proofs.calls.graph_info.Statement.{statement}
@@ -11,7 +11,7 @@ use Rattle.nodes.proofs.calls.graph_info.Tie as tie
 
 -- where the count is answered, the arena holds a graph and that is its count
 opened : (c : tie.After-known-told)
-    → Opened (c .before .before .before .before .before .args .arena .now) × (c .before .counted .given .0 .0 ≡ countIn (c .before .before .before .before .before .args .arena .now))
+    → ValidArena (c .before .before .before .before .before .args .arena .now) × (c .before .counted .given .0 .0 ≡ countIn (c .before .before .before .before .before .args .arena .now))
 opened c =
     count-number _ _ _ (rw (c .before .counted .given .1) at (c .before .before .before .count .ensures))
 

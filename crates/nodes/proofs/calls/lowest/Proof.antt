@@ -1,5 +1,5 @@
--- `lowest` meets its contract. The loop's invariant: the lowest from `n` on is the lowest of all. The measure is what is left of the count.
--- Assumes nothing.
+-- `lowest` meets its contract. The loop's invariant: the lowest from `n` on is the lowest of all.
+-- The measure is what is left of the count. Assumes nothing.
 use borrow.Author.Needs.{needs}
 use native.Mathlib.Omega.{arith}
 use Prim.Native.Nat.{_-_, _≤_}

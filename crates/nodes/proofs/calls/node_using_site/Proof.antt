@@ -1,16 +1,17 @@
--- `node_using_site` meets its contract: where the arena holds a graph, questions 3 and 5 are left. Assumes nothing.
+-- `node_using_site` meets its contract: where the arena holds a graph, questions 3 and 5 are left.
+-- Assumes nothing.
 use borrow.Author.Needs.{needs}
 use mathlib.Core.Path.{_≡_}
 use Rattle.model.specs.Arena.{countIn, decode}
 use Rattle.model.specs.Calls.{usesSite}
-use Rattle.model.specs.ArenaCalls.{Opened}
+use Rattle.model.specs.ArenaCalls.{ValidArena}
 use Rattle.laws.proofs.ArenaCallLaws.{answered-refused, answered-more, count-number, count-refused}
 use Rattle.nodes.proofs.calls.node_using_site.Statement.{statement}
 use Rattle.nodes.proofs.calls.node_using_site.Tie as tie
 
 -- where the count is answered, the arena holds a graph and that is its count
 opened : (c : tie.After-known-told)
-    → Opened (c .before .before .before .before .before .before .args .arena .now) × (c .before .counted .given .0 .0 ≡ countIn (c .before .before .before .before .before .before .args .arena .now))
+    → ValidArena (c .before .before .before .before .before .before .args .arena .now) × (c .before .counted .given .0 .0 ≡ countIn (c .before .before .before .before .before .before .args .arena .now))
 opened c =
     count-number _ _ _ (rw (c .before .counted .given .1) at (c .before .before .before .count .ensures))
 

@@ -6,14 +6,14 @@ use Rattle.model.specs.Arena.{decode}
 use Rattle.model.specs.ArenaCalls.{askArena}
 use Rattle.model.specs.Calls.{readsNode}
 use Rattle.model.specs.Node.{Node}
-use Rattle.model.specs.ArenaCalls.{Readable}
+use Rattle.model.specs.ArenaCalls.{ValidNode}
 use Rattle.nodes.proofs.QueryLaws.{not-handed, handed-on}
 use Rattle.arena.proofs.ReadNodes.{readable, has-path, node-read}
 use Rattle.nodes.proofs.calls.path.Statement.{statement}
 use Rattle.nodes.proofs.calls.path.Tie as tie
 
 -- questions 1 to 4 pass
-reads-it : (c : tie.After-enum-told) → Readable (c .before .before .before .before .args .arena .now) (c .before .before .before .before .args .n)
+reads-it : (c : tie.After-enum-told) → ValidNode (c .before .before .before .before .args .arena .now) (c .before .before .before .before .args .n)
 reads-it c = readable _ _ (sym (rw (c .enum-told .given .1) at (c .before .before .ask-node .ensures)))
 
 ask-node-requires : tie.Need-ask-node-requires

@@ -1,4 +1,5 @@
--- `check_desc` meets its contract: the check of a record, put the node with what was missing put in. Assumes nothing.
+-- `check_desc` meets its contract: the check of a record, put the node with what was missing put
+-- in. Assumes nothing.
 use borrow.Author.Needs.{needs}
 use mathlib.Core.Path.{ap}
 use mathlib.Core.Bool.{not}

@@ -1,12 +1,12 @@
--- `path_bytes` meets its contract. The loop's invariant: the sum and the bytes from `n` on are all of them. The measure is what is left of the count.
--- Assumes nothing.
+-- `path_bytes` meets its contract. The loop's invariant: the sum and the bytes from `n` on are all
+-- of them. The measure is what is left of the count. Assumes nothing.
 use borrow.Author.Needs.{needs}
 use native.Mathlib.Omega.{arith}
 use Prim.Native.Nat.{_+_, _-_, _≤_}
 use mathlib.Core.Path.{_≡_}
 use Rattle.model.specs.Arena.{decode}
 use Rattle.model.specs.Refusals.{pathBytes}
-use Rattle.model.specs.ArenaCalls.{Readable}
+use Rattle.model.specs.ArenaCalls.{ValidNode}
 use Rattle.arena.proofs.ReadNodes.{has-slot, has-path}
 use Rattle.nodes.proofs.DescribingLaws.{bytesFrom, bytes-start, bytes-step, bytes-end, few-bytes}
 use Rattle.nodes.proofs.description.path_bytes.Statement.{statement}
@@ -18,7 +18,7 @@ Inv-loop arena count sum₀ n₀ sum n = (n ≤ count) × (sum + bytesFrom arena
 abbrev μ-loop : tie.MeasureT-loop
 μ-loop arena count sum₀ n₀ sum n = count - n
 
-reads-it : (c : tie.In-loop Inv-loop μ-loop) → Readable (c .before .before .before .args .arena .now) (c .before .loop .n)
+reads-it : (c : tie.In-loop Inv-loop μ-loop) → ValidNode (c .before .before .before .args .arena .now) (c .before .loop .n)
 reads-it c = record { opened = c .before .before .before .pre .0; below = omega (arith, c .before .before .before .pre .1, c .loop-test .taken) }
 
 -- with one node more

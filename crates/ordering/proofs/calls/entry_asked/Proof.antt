@@ -1,4 +1,5 @@
--- `entry_asked` meets its contract: questions 3, 4 and 10, and then the slot's entry. Assumes nothing.
+-- `entry_asked` meets its contract: questions 3, 4 and 10, and then the slot's entry. Assumes
+-- nothing.
 use borrow.Author.Needs.{needs}
 use mathlib.Core.Path.{_≡_, sym, _∙_}
 use mathlib.Core.Bool.{true}

@@ -1,4 +1,5 @@
--- `finalize_asked` meets its contract: questions 3 and 9, the last not put where the graph is finalized. Assumes nothing.
+-- `finalize_asked` meets its contract: questions 3 and 9, the last not put where the graph is
+-- finalized. Assumes nothing.
 use borrow.Author.Needs.{needs}
 use mathlib.Core.Path.{_≡_, sym, _∙_}
 use Prim.Native.Nat.{_<_}

@@ -1,4 +1,5 @@
--- `finalize_strength_order` meets its contract: where the arena holds a graph, questions 3 and 9 are left. Assumes nothing.
+-- `finalize_strength_order` meets its contract: where the arena holds a graph, questions 3 and 9
+-- are left. Assumes nothing.
 use borrow.Author.Needs.{needs}
 use Rattle.model.specs.Arena.{countIn, decode}
 use Rattle.laws.proofs.ArenaCallLaws.{count-number, count-refused}

@@ -1,8 +1,9 @@
--- `order_entry` meets its contract: where the arena holds a graph, questions 3, 4 and 10 are left. Assumes nothing.
+-- `order_entry` meets its contract: where the arena holds a graph, questions 3, 4 and 10 are left.
+-- Assumes nothing.
 use borrow.Author.Needs.{needs}
 use mathlib.Core.Path.{_≡_}
 use Rattle.model.specs.Arena.{countIn, decode}
-use Rattle.model.specs.ArenaCalls.{Opened}
+use Rattle.model.specs.ArenaCalls.{ValidArena}
 use Rattle.model.specs.Calls.{readsEntry}
 use Rattle.laws.proofs.ArenaCallLaws.{answered-refused, answered-more, count-number, count-refused}
 use Rattle.ordering.proofs.calls.order_entry.Statement.{statement}
@@ -10,7 +11,7 @@ use Rattle.ordering.proofs.calls.order_entry.Tie as tie
 
 -- where the count is answered, the arena holds a graph and that is its count
 opened : (c : tie.After-known-told)
-    → Opened (c .before .before .before .before .before .args .arena .now) × (c .before .counted .given .0 .0 ≡ countIn (c .before .before .before .before .before .args .arena .now))
+    → ValidArena (c .before .before .before .before .before .args .arena .now) × (c .before .counted .given .0 .0 ≡ countIn (c .before .before .before .before .before .args .arena .now))
 opened c = count-number _ _ _ (rw (c .before .counted .given .1) at (c .before .before .before .count .ensures))
 
 count-requires : tie.Need-count-requires

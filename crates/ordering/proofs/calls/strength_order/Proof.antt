@@ -1,4 +1,5 @@
--- `strength_order` meets its contract: question 1 of the buffer, and where the arena holds a graph, questions 3 and 10 are left. Assumes nothing.
+-- `strength_order` meets its contract: question 1 of the buffer, and where the arena holds a graph,
+-- questions 3 and 10 are left. Assumes nothing.
 use borrow.Author.Needs.{needs}
 use mathlib.Core.Path.{sym, _∙_}
 use Rattle.model.specs.Arena.{countIn, decode}

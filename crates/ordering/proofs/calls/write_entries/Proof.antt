@@ -1,5 +1,5 @@
--- `write_entries` meets its contract. The loop's invariant is `Listed`: the first n entries are written. The measure is how many are left.
--- Assumes nothing.
+-- `write_entries` meets its contract. The loop's invariant is `Listed`: the first n entries are
+-- written. The measure is how many are left. Assumes nothing.
 use borrow.Author.Needs.{needs}
 use mathlib.Core.Path.{sym, ap, _∙_}
 use Prim.Native.Nat.{ℕ, _*_, _-_, _<_}

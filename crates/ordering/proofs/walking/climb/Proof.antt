@@ -1,5 +1,6 @@
--- `walking::climb` meets its contract. The invariant of its loop: climbing from the node leads where climbing from the start does. The measure is the
--- node, since a parent is lower. Assumes nothing.
+-- `walking::climb` meets its contract. The invariant of its loop: climbing from the node leads
+-- where climbing from the start does. The measure is the node, since a parent is lower. Assumes
+-- nothing.
 use mathlib.Core.Path.{_≡_, refl, sym, ap, _∙_}
 use Prim.Native.Nat.{ℕ, _+_, _≤_}
 use native.Mathlib.Omega.{arith}

@@ -1,4 +1,5 @@
--- `walking::look_ahead` meets its contract: climbing from a node leads to its sibling, or where it does from its parent. Assumes nothing.
+-- `walking::look_ahead` meets its contract: climbing from a node leads to its sibling, or where it
+-- does from its parent. Assumes nothing.
 use borrow.Author.Needs.{needs}
 use mathlib.Core.Path.{sym, ap, _∙_}
 use Prim.Native.Nat.{ℕ, _+_}

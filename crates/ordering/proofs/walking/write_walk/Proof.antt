@@ -1,5 +1,6 @@
--- `walking::write_walk` meets its contract. The invariant of its loop: `at` steps lead to x, all nodes up to it are stored, and what is kept is true. The
--- measure is how many are left. Assumes nothing.
+-- `walking::write_walk` meets its contract. The invariant of its loop: `at` steps lead to x, all
+-- nodes up to it are stored, and what is kept is true. The measure is how many are left. Assumes
+-- nothing.
 use mathlib.Core.Path.{refl, sym, _∙_}
 use Prim.Native.Nat.{_-_, _≤_}
 use native.Mathlib.Omega.{arith}

@@ -1,4 +1,5 @@
--- `order_graph` meets its contract: lists that stand in order are an order of the graph; else `sort_graph` decides. Assumes nothing.
+-- `order_graph` meets its contract: lists that stand in order are an order of the graph; else
+-- `sort_graph` decides. Assumes nothing.
 use mathlib.Core.Path.{sym, subst}
 use mathlib.Core.Bool.{true}
 use native.Mathlib.Omega.{arith}

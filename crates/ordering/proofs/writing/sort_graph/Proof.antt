@@ -1,5 +1,5 @@
--- `sort_graph` meets its contract: where every list has an order, `write_sorted` leaves the ordered graph; else nothing is written. Assumes
--- nothing.
+-- `sort_graph` meets its contract: where every list has an order, `write_sorted` leaves the ordered
+-- graph; else nothing is written. Assumes nothing.
 use mathlib.Core.Path.{refl, sym, subst, _∙_}
 use Prim.Native.Nat.{ℕ}
 use borrow.Author.Needs.{needs}

@@ -1,4 +1,5 @@
--- `write_sorted` meets its contract: the links of the sorted lists are the ordered graph's, and so is the walk. Assumes nothing.
+-- `write_sorted` meets its contract: the links of the sorted lists are the ordered graph's, and so
+-- is the walk. Assumes nothing.
 use mathlib.Core.Path.{_≡_, sym, ap, subst, _∙_}
 use mathlib.Core.List.{List}
 use Prim.Native.Nat.{ℕ}
@@ -22,14 +23,14 @@ ready c =
       has-order = s .pre .0 .3;
     }
 
-write-marks-requires : tie.Need-write-marks-requires
-write-marks-requires c κs = search needs
+write-state-requires : tie.Need-write-state-requires
+write-state-requires c κs = search needs
 
 store-lists-requires : tie.Need-store-lists-requires
 store-lists-requires c κs =
     let marks = c .before .before .before in
     let k = marks .before .before .before .before in
-    (marks .write-marks .kept .0 ∙ k .before .pre .0 .0 .whole, few _ _ (ready k), parted _ _ (ready k) _ _ (k .before .pre .1))
+    (marks .write-state .kept .0 ∙ k .before .pre .0 .0 .whole, few _ _ (ready k), parted _ _ (ready k) _ _ (k .before .pre .1))
 
 -- the arena once the links are stored
 stored : (c : tie.After-store-lists) → let k = c .before .before .before .before .before .before .before .before in
@@ -39,10 +40,10 @@ stored c =
     let marks = known .before .before in
     let k = marks .before .before .before .before in
     let a = k .before .args in
-    let marked = marks .write-marks .ensures in
+    let marked = marks .write-state .ensures in
     c .store-lists .ensures ∙ ap (listsStored (a .sorted .now) (a .ends .now) (a .count)) marked
     ∙ lists-stored _ _ (ready k) _ _ (k .before .pre .1)
-    (subst Bytes marked (bytes-by-place (marks .write-marks .last .0) (λ i. known .slice-known2 .given i .fits)))
+    (subst Bytes marked (bytes-by-place (marks .write-state .last .0) (λ i. known .slice-known2 .given i .fits)))
 
 write-walk-requires : tie.Need-write-walk-requires
 write-walk-requires c κs =
@@ -61,4 +62,4 @@ returns c =
     walk .write-walk .ensures ∙ ap (walkStored (k .before .args .count)) (stored lists) ∙ walk-written _ _ (ready k)
 
 pub write-sorted-spec : {M : Type 1} → statement M
-write-sorted-spec = tie.close (tie.spec write-marks-requires store-lists-requires write-walk-requires same-length returns)
+write-sorted-spec = tie.close (tie.spec write-state-requires store-lists-requires write-walk-requires same-length returns)

@@ -1,4 +1,5 @@
--- `write_standing` meets its contract: the links are those of the sorted lists, so marks and walk are all that is new. Assumes nothing.
+-- `write_standing` meets its contract: the links are those of the sorted lists, so marks and walk
+-- are all that is new. Assumes nothing.
 use mathlib.Core.Path.{_≡_, sym, ap, subst, _∙_}
 use mathlib.Core.List.{List}
 use Prim.Native.Nat.{ℕ}
@@ -22,12 +23,12 @@ ready c =
     }
 
 -- the arena once the marks are written
-marked : (c : tie.After-write-marks) → let k = c .before .before in
-    c .write-marks .last .0 ≡ linked (k .before .args .arena .now) (k .before .args .count) (ready k)
-marked c = let k = c .before .before in c .write-marks .ensures ∙ links-stand _ _ (ready k) (k .before .pre .3)
+marked : (c : tie.After-write-state) → let k = c .before .before in
+    c .write-state .last .0 ≡ linked (k .before .args .arena .now) (k .before .args .count) (ready k)
+marked c = let k = c .before .before in c .write-state .ensures ∙ links-stand _ _ (ready k) (k .before .pre .3)
 
-write-marks-requires : tie.Need-write-marks-requires
-write-marks-requires c κs = search needs
+write-state-requires : tie.Need-write-state-requires
+write-state-requires c κs = search needs
 
 write-walk-requires : tie.Need-write-walk-requires
 write-walk-requires c κs =
@@ -46,4 +47,4 @@ returns c =
     walk .write-walk .ensures ∙ ap (walkStored (k .before .args .count)) (marked marks) ∙ walk-written _ _ (ready k)
 
 pub write-standing-spec : {M : Type 1} → statement M
-write-standing-spec = tie.close (tie.spec write-marks-requires write-walk-requires same-length returns)
+write-standing-spec = tie.close (tie.spec write-state-requires write-walk-requires same-length returns)

@@ -1,4 +1,5 @@
--- `before_name` meets its contract: what the name starts after tells whether a slash goes with it. Assumes nothing.
+-- `before_name` meets its contract: what the name starts after tells whether a slash goes with it.
+-- Assumes nothing.
 use borrow.Author.Needs.{needs}
 use native.Mathlib.Omega.{arith}
 use Rattle.path.proofs.BackwardLaws.{before-first, before-slash, before-bare}

@@ -1,5 +1,5 @@
--- `name_start` meets its contract. The loop's invariant: the first `k` bytes have the last name's start that the first `end` have. The
--- measure is `k`. Assumes nothing.
+-- `name_start` meets its contract. The loop's invariant: the first `k` bytes have the last name's
+-- start that the first `end` have. The measure is `k`. Assumes nothing.
 use borrow.Author.Needs.{needs}
 use native.Mathlib.Omega.{arith}
 use Rattle.path.proofs.BackwardLaws.{start-at-slash, start-at-brace, start-before, start-none}

@@ -1,4 +1,5 @@
--- `parent_length` meets its contract: the tests are the definition's, in its order. Assumes nothing.
+-- `parent_length` meets its contract: the tests are the definition's, in its order. Assumes
+-- nothing.
 use borrow.Author.Needs.{needs}
 use native.Mathlib.Omega.{arith}
 use Rattle.path.proofs.BackwardLaws.{parent-selected, parent-none, parent-named}

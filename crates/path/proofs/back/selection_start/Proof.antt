@@ -1,5 +1,5 @@
--- `selection_start` meets its contract. The loop's invariant: the last `{` of the first `k` bytes is that of the first `end`. The measure
--- is `k`. Assumes nothing.
+-- `selection_start` meets its contract. The loop's invariant: the last `{` of the first `k` bytes
+-- is that of the first `end`. The measure is `k`. Assumes nothing.
 use borrow.Author.Needs.{needs}
 use native.Mathlib.Omega.{arith}
 use Rattle.path.proofs.BackwardLaws.{brace-hit, after-miss, brace-none}

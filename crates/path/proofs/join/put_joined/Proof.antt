@@ -1,4 +1,5 @@
--- `put_joined` meets its contract: path, slash and name, each over what the last left. Assumes nothing.
+-- `put_joined` meets its contract: path, slash and name, each over what the last left. Assumes
+-- nothing.
 use borrow.Author.Needs.{needs}
 use native.Mathlib.Omega.{arith}
 use mathlib.Core.Path.{_∙_, ap}

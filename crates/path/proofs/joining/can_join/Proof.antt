@@ -1,4 +1,5 @@
--- `joining::can_join` meets its contract: the tests are the definition's, in its order. Assumes nothing.
+-- `joining::can_join` meets its contract: the tests are the definition's, in its order. Assumes
+-- nothing.
 use borrow.Author.Needs.{needs}
 use mathlib.Core.Path.{_∙_, sym, ap}
 use borrow.Author.Tests.{not-true, not-false}

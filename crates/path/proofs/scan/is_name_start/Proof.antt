@@ -1,4 +1,5 @@
--- `is_name_start` meets its contract: the tests are the definition's, in its order. Assumes nothing.
+-- `is_name_start` meets its contract: the tests are the definition's, in its order. Assumes
+-- nothing.
 use borrow.Author.Needs.{needs}
 use mathlib.Core.Path.{_∙_, sym}
 use Rattle.model.specs.Path.{isNameStart}

@@ -1,4 +1,5 @@
--- `name_begins` meets its contract: within the path its byte is tested, past it nothing stands. Assumes nothing.
+-- `name_begins` meets its contract: within the path its byte is tested, past it nothing stands.
+-- Assumes nothing.
 use borrow.Author.Needs.{needs}
 use borrow.Author.Tests.{lt-ltb, le-ltb}
 use Rattle.path.proofs.scan.name_begins.Statement.{statement}

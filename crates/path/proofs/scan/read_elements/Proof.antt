@@ -1,5 +1,5 @@
--- `read_elements` meets its contract. The loop's invariant is `ReadTo`: the reading from here comes to what it came to at the start.
--- The measure is what is left of the length. Assumes nothing.
+-- `read_elements` meets its contract. The loop's invariant is `ReadTo`: the reading from here comes
+-- to what it came to at the start. The measure is what is left of the length. Assumes nothing.
 use borrow.Author.Needs.{needs}
 use Rattle.path.proofs.ReadingLaws.{ReadTo, read-none, read-all, read-name-more, read-selection-more, read-fails}
 use Prim.Native.Nat.{_-_}

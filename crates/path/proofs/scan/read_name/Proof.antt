@@ -1,4 +1,5 @@
--- `read_name` meets its contract: a byte that begins a name must stand there, and the run behind it belongs to it. Assumes nothing.
+-- `read_name` meets its contract: a byte that begins a name must stand there, and the run behind it
+-- belongs to it. Assumes nothing.
 use borrow.Author.Needs.{needs}
 use native.Mathlib.Omega.{arith}
 use Rattle.path.proofs.ReadingLaws.{no-name, name-read, begins-within}

@@ -1,5 +1,5 @@
--- `read_selection` meets its contract: set, `=`, selection and `}` are read in turn, and each that is missing fails the reading.
--- Assumes nothing.
+-- `read_selection` meets its contract: set, `=`, selection and `}` are read in turn, and each that
+-- is missing fails the reading. Assumes nothing.
 use borrow.Author.Needs.{needs}
 use borrow.Author.Tests.{not-true, not-false}
 use native.Mathlib.Omega.{arith}

@@ -1,4 +1,5 @@
--- `stands` meets its contract: within the path its byte is compared, past it nothing stands. Assumes nothing.
+-- `stands` meets its contract: within the path its byte is compared, past it nothing stands.
+-- Assumes nothing.
 use borrow.Author.Needs.{needs}
 use borrow.Author.Tests.{lt-ltb, le-ltb}
 use Rattle.path.proofs.scan.stands.Statement.{statement}

@@ -1,5 +1,5 @@
--- `word_end` meets its contract. The loop's invariant: every byte from `at` up to `i` is a word byte. The measure is what is left of the
--- length. Assumes nothing.
+-- `word_end` meets its contract. The loop's invariant: every byte from `at` up to `i` is a word
+-- byte. The measure is what is left of the length. Assumes nothing.
 use borrow.Author.Needs.{needs}
 use Rattle.path.proofs.ReadingLaws.{passed-none, passed-more, stops-at, stops-past}
 use Prim.Native.Nat.{_-_}

@@ -1,4 +1,5 @@
--- `has_names` meets its contract: the number that the reading ends with has the names and a state in which a path may end. Assumes nothing.
+-- `has_names` meets its contract: the number that the reading ends with has the names and a state
+-- in which a path may end. Assumes nothing.
 use borrow.Author.Needs.{needs}
 use mathlib.Core.Path.{_≡_, sym, ap, _∙_}
 use native.Mathlib.Omega.{arith}

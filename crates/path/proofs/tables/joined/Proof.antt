@@ -1,4 +1,5 @@
--- `joined` meets its contract: the parts of the number are the state and the names. Assumes nothing.
+-- `joined` meets its contract: the parts of the number are the state and the names. Assumes
+-- nothing.
 use borrow.Author.Needs.{needs}
 use native.Mathlib.Omega.{arith}
 use Rattle.path.proofs.PathTables.{joined-ends}

@@ -1,5 +1,6 @@
--- `read_behind_slash` meets its contract. The loop's invariant is `Reached`: the reading from here comes to what it came to behind the first slash. The measure
--- is what is left of the length. Assumes nothing.
+-- `read_behind_slash` meets its contract. The loop's invariant is `Reached`: the reading from here
+-- comes to what it came to behind the first slash. The measure is what is left of the length.
+-- Assumes nothing.
 use borrow.Author.Needs.{needs}
 use Prim.Native.Nat.{_-_}
 use native.Mathlib.Omega.{arith}

@@ -1,4 +1,5 @@
--- `read_last` meets its contract: one step more where a byte is left, and then the end. Assumes nothing.
+-- `read_last` meets its contract: one step more where a byte is left, and then the end. Assumes
+-- nothing.
 use borrow.Author.Needs.{needs}
 use mathlib.Core.Path.{ap, _∙_}
 use Prim.Native.Nat.{ℕ, _+_, _/_, _%_, _^_}

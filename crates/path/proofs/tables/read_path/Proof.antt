@@ -1,4 +1,5 @@
--- `read_path` meets its contract: only `/` is a path that has no name behind its first slash. Assumes nothing.
+-- `read_path` meets its contract: only `/` is a path that has no name behind its first slash.
+-- Assumes nothing.
 use borrow.Author.Needs.{needs}
 use mathlib.Core.Path.{sym, _∙_}
 use native.Mathlib.Omega.{arith}

@@ -1,4 +1,5 @@
--- `read_rest` meets its contract: one pair more where two bytes are left, and then the last byte. Assumes nothing.
+-- `read_rest` meets its contract: one pair more where two bytes are left, and then the last byte.
+-- Assumes nothing.
 use borrow.Author.Needs.{needs}
 use Prim.Native.Nat.{_+_}
 use native.Mathlib.Omega.{arith}

@@ -1,4 +1,5 @@
--- `row_of_one` meets its contract: the kind that the table has is below 8, so the row is there. Assumes nothing.
+-- `row_of_one` meets its contract: the kind that the table has is below 8, so the row is there.
+-- Assumes nothing.
 use borrow.Author.Needs.{needs}
 use Prim.Native.Nat.{ℕ, _+_, _<_}
 use mathlib.Core.Path.{ap, _∙_}

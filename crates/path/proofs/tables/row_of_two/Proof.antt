@@ -1,4 +1,5 @@
--- `row_of_two` meets its contract: the kinds that the table has are below 8, so the row is there. Assumes nothing.
+-- `row_of_two` meets its contract: the kinds that the table has are below 8, so the row is there.
+-- Assumes nothing.
 use borrow.Author.Needs.{needs}
 use Prim.Native.Nat.{ℕ, _+_, _*_, _<_}
 use mathlib.Core.Path.{ap, _∙_}

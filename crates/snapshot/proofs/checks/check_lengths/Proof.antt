@@ -1,4 +1,5 @@
--- `check_lengths` meets its contract: each field of the front that is missing or wrong refuses, and the records are asked the rest. Assumes nothing.
+-- `check_lengths` meets its contract: each field of the front that is missing or wrong refuses, and
+-- the records are asked the rest. Assumes nothing.
 use mathlib.Core.Path.{_≡_, sym, ap, _∙_}
 use mathlib.Core.List.{List}
 use Prim.Native.Nat.{ℕ, _+_, _≤_}

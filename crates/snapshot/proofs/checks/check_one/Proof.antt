@@ -1,4 +1,5 @@
--- `check_one` meets its contract: no field is missing from so long a record, and those that it takes are the record's. Assumes nothing.
+-- `check_one` meets its contract: no field is missing from so long a record, and those that it
+-- takes are the record's. Assumes nothing.
 use mathlib.Core.Path.{sym, ap, _∙_}
 use borrow.Author.Needs.{needs}
 use native.Mathlib.Omega.{arith}

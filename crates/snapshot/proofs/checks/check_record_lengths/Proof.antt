@@ -1,5 +1,5 @@
--- `check_record_lengths` meets its contract. The loop's invariant is `Asked`: what is left passes question 12 where all of it does.
--- The measure is how many records are left. Assumes nothing.
+-- `check_record_lengths` meets its contract. The loop's invariant is `Asked`: what is left passes
+-- question 12 where all of it does. The measure is how many records are left. Assumes nothing.
 use mathlib.Core.Path.{_≡_, sym, ap, _∙_}
 use mathlib.Core.List.{List}
 use Prim.Native.Nat.{ℕ}

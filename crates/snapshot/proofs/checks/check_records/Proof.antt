@@ -1,5 +1,5 @@
--- `check_records` meets its contract. The loop's invariant is `CheckedTo`: the records from here on are refused as all of them are.
--- The measure is how many records are left. Assumes nothing.
+-- `check_records` meets its contract. The loop's invariant is `CheckedTo`: the records from here on
+-- are refused as all of them are. The measure is how many records are left. Assumes nothing.
 use mathlib.Core.Path.{sym, _∙_}
 use Prim.Native.Nat.{_-_, _≤_, _<_}
 use borrow.Author.Needs.{needs}

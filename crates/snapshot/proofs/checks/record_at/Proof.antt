@@ -1,4 +1,5 @@
--- `record_at` meets its contract: the part handed back is what the length before it counts. Assumes nothing.
+-- `record_at` meets its contract: the part handed back is what the length before it counts. Assumes
+-- nothing.
 use mathlib.Core.Path.{_≡_, ap}
 use Prim.Native.Nat.{ℕ, _+_, _-_}
 use borrow.Author.Needs.{needs}

@@ -1,4 +1,5 @@
--- `take_length` meets its contract: each of the record's tests that fails leaves the length missing. Assumes nothing.
+-- `take_length` meets its contract: each of the record's tests that fails leaves the length
+-- missing. Assumes nothing.
 use mathlib.Core.Path.{_≡_, sym, ap, _∙_}
 use Prim.Native.Nat.{_+_, _≤_}
 use borrow.Author.Needs.{needs}

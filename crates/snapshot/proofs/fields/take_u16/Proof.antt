@@ -1,4 +1,5 @@
--- `take_u16` meets its contract: where the bytes end before the field it is missing. Assumes nothing.
+-- `take_u16` meets its contract: where the bytes end before the field it is missing. Assumes
+-- nothing.
 use borrow.Author.Needs.{needs}
 use native.Mathlib.Omega.{arith}
 use Rattle.snapshot.proofs.FieldLaws.{field-there, field-missing}

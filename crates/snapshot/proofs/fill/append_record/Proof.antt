@@ -1,4 +1,5 @@
--- `append_record` meets its contract: no field is missing, and the node read, with the path behind its numbers, is the record's. Assumes nothing.
+-- `append_record` meets its contract: no field is missing, and the node read, with the path behind
+-- its numbers, is the record's. Assumes nothing.
 use mathlib.Core.Path.{ap, subst, _∙_}
 use borrow.Author.Needs.{needs}
 use Rattle.model.specs.Node.{Node}

@@ -10,8 +10,8 @@ use Rattle.snapshot.proofs.fill.clear.Tie as tie
 write-count-requires : tie.Need-write-count-requires
 write-count-requires c κs = search needs
 
-write-marks-requires : tie.Need-write-marks-requires
-write-marks-requires c κs = search needs
+write-state-requires : tie.Need-write-state-requires
+write-state-requires c κs = search needs
 
 same-length : tie.Need-same-length
 same-length c = search needs
@@ -21,7 +21,7 @@ returns c =
     let marked = c .before .before in
     let counted = marked .before .before .before .before in
     let s = counted .before .before .before in
-    marked .write-marks .ensures ∙ ap (marksStored false false false) (counted .write-count .ensures) ∙ sym (empty-encode (s .args .arena .now) (s .pre))
+    marked .write-state .ensures ∙ ap (marksStored false false false) (counted .write-count .ensures) ∙ sym (empty-encode (s .args .arena .now) (s .pre))
 
 pub clear-spec : {M : Type 1} → statement M
-clear-spec = tie.close (tie.spec write-count-requires write-marks-requires same-length returns)
+clear-spec = tie.close (tie.spec write-count-requires write-state-requires same-length returns)

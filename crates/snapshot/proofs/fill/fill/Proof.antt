@@ -1,5 +1,5 @@
--- `fill` meets its contract. The loop's invariant is `Filled`: the arena is the encoding of the graph of the first n records.
--- The measure is how many records are left. Assumes nothing.
+-- `fill` meets its contract. The loop's invariant is `Filled`: the arena is the encoding of the
+-- graph of the first n records. The measure is how many records are left. Assumes nothing.
 use mathlib.Core.Path.{sym, _∙_}
 use Prim.Native.Nat.{_+_, _-_, _≤_, _<_}
 use borrow.Author.Needs.{needs}

@@ -1,4 +1,5 @@
--- `read_node` meets its contract: no field is missing from so long a record, and those taken make its node. Assumes nothing.
+-- `read_node` meets its contract: no field is missing from so long a record, and those taken make
+-- its node. Assumes nothing.
 use mathlib.Core.Path.{refl, sym, ap, _∙_}
 use borrow.Author.Needs.{needs}
 use native.Mathlib.Omega.{arith}

@@ -1,8 +1,9 @@
--- `read_snapshot` meets its contract: refused by either pass that asks, the arena keeps its bytes; else it is filled. Assumes nothing.
+-- `read_snapshot` meets its contract: refused by either pass that asks, the arena keeps its bytes;
+-- else it is filled. Assumes nothing.
 use mathlib.Core.Path.{_≡_, refl, sym, ap, _∙_}
 use borrow.Author.Needs.{needs}
 use Rattle.model.specs.Graph.{emptyGraph}
-use Rattle.model.specs.Answers.{finishedRefusal}
+use Rattle.model.specs.Answers.{unitRefusal}
 use Rattle.model.specs.Calls.{readInto}
 use Rattle.snapshot.specs.SnapshotReading.{Exact}
 use Rattle.snapshot.proofs.ReaderLaws.{exact-read, not-exact, refused-read, filled-read}
@@ -18,7 +19,7 @@ exact c = exact-read (entry c .args .bytes .now) _ (sym (c .before .before .befo
 
 -- and their records the others
 passed : (c : tie.After-enum-told2) → readInto (entry (c .before .before .before .before .before) .args .bytes .now) emptyGraph .refused ≡ 0
-passed c = sym (c .before .before .before .check-records .ensures .refused) ∙ ap finishedRefusal (c .enum-told2 .given .1)
+passed c = sym (c .before .before .before .check-records .ensures .refused) ∙ ap unitRefusal (c .enum-told2 .given .1)
 
 check-lengths-requires : tie.Need-check-lengths-requires
 check-lengths-requires c κs = search needs
@@ -59,7 +60,7 @@ fill-requires c κs = record {
   whole = entry (c .before .before .before .before .before .before .before) .pre;
   exact = exact (c .before .before .before .before .before .before .before);
   accepted = passed (c .before .before);
-  named = c .before .before .before .before .before .check-records .ensures .named (ap finishedRefusal (c .before .before .enum-told2 .given .1));
+  named = c .before .before .before .before .before .check-records .ensures .named (ap unitRefusal (c .before .before .enum-told2 .given .1));
   long = c .before .before .before .before .before .check-records .kept .1 .1 .0;
 }
 

@@ -1,5 +1,5 @@
--- `write_records` meets its contract. The loop's invariant is `Copied`: the first n records stand behind the front, and end at `at`.
--- The measure is how many nodes are left. Assumes nothing.
+-- `write_records` meets its contract. The loop's invariant is `Copied`: the first n records stand
+-- behind the front, and end at `at`. The measure is how many nodes are left. Assumes nothing.
 use mathlib.Core.Path.{sym, _∙_}
 use Prim.Native.Nat.{_+_, _-_, _≤_, _<_}
 use borrow.Author.Needs.{needs}

@@ -1,4 +1,5 @@
--- `write_snapshot` meets its contract: the records and the front before them are the snapshot, which fits. Assumes nothing.
+-- `write_snapshot` meets its contract: the records and the front before them are the snapshot,
+-- which fits. Assumes nothing.
 use mathlib.Core.Path.{sym, _∙_}
 use borrow.Author.Needs.{needs}
 use native.Mathlib.Omega.{arith}

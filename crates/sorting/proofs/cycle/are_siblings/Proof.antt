@@ -1,4 +1,5 @@
--- `are_siblings` meets its contract: the second and the third are children of the first one's parent. Assumes nothing.
+-- `are_siblings` meets its contract: the second and the third are children of the first one's
+-- parent. Assumes nothing.
 use borrow.Author.Needs.{needs}
 use native.Mathlib.Omega.{arith}
 use mathlib.Core.Path.{refl, sym}

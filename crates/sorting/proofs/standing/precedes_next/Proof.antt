@@ -1,6 +1,6 @@
 -- `standing::precedes_next` meets its contract. Assumes nothing.
 use mathlib.Core.Path.{sym, subst, _∙_}
-use Rattle.model.specs.ArenaCalls.{Readable}
+use Rattle.model.specs.ArenaCalls.{ValidNode}
 use Rattle.laws.proofs.StoredLaws.{bytes-by-place}
 use Rattle.arena.proofs.ReadNodes.{has-slot}
 use Rattle.view.specs.View.{viewIn}
@@ -21,7 +21,7 @@ precedes-requires c κs =
     let s = read .before .before in
     let e = read .next-sibling .ensures in (
       s .pre,
-      subst (Readable (s .args .arena .now)) (sym e)
+      subst (ValidNode (s .args .arena .now)) (sym e)
           (next-readable (s .args .arena .now) (bytes-by-place (s .args .arena .now) (λ k. read .before .shared-slice-known .given k .fits))
           (s .pre .opened) (s .args .x)
           (s .pre .below) (λ none. c .if1 .left (e ∙ none))),

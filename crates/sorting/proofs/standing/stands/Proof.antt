@@ -1,16 +1,16 @@
--- `standing::stands` meets its contract. The invariant of its loop: each node below x that has a next sibling precedes it. The measure is how many
--- nodes are left. Assumes nothing.
+-- `standing::stands` meets its contract. The invariant of its loop: each node below x that has a
+-- next sibling precedes it. The measure is how many nodes are left. Assumes nothing.
 use mathlib.Core.Bool.{false≢true}
 use Prim.Native.Nat.{_-_}
 use native.Mathlib.Omega.{arith}
 use borrow.Author.Tests.{not-false}
 use Rattle.laws.proofs.StoredLaws.{bytes-by-place}
-use Rattle.sorting.proofs.StandingLaws.{Standing, standing-step, standing-ends}
+use Rattle.sorting.proofs.StandingLaws.{ValidNodeAndRoot, standing-step, standing-ends}
 use Rattle.sorting.proofs.standing.stands.Statement.{statement}
 use Rattle.sorting.proofs.standing.stands.Tie as tie
 
 abbrev Inv-loop : tie.InvT-loop
-Inv-loop arena count x₀ x = Standing arena x
+Inv-loop arena count x₀ x = ValidNodeAndRoot arena x
 
 abbrev μ-loop : tie.MeasureT-loop
 μ-loop arena count x₀ x = count - x

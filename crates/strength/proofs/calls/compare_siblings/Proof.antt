@@ -1,4 +1,5 @@
--- `compare_siblings` meets its contract: one node twice is Equal, and two different nodes with one parent are above node 0. Assumes nothing.
+-- `compare_siblings` meets its contract: one node twice is Equal, and two different nodes with one
+-- parent are above node 0. Assumes nothing.
 use mathlib.Core.Path.{sym, ap, _∙_}
 use Rattle.model.specs.Strength.{viewOf, compareSiblingNodeStrength}
 use Rattle.model.specs.Arena.{decode}

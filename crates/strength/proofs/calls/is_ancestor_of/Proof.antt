@@ -2,7 +2,7 @@
 use borrow.Author.Needs.{needs}
 use mathlib.Core.Path.{sym, ap}
 use Rattle.model.specs.Lists.{bit}
-use Rattle.model.specs.ArenaCalls.{Readable}
+use Rattle.model.specs.ArenaCalls.{ValidNode}
 use Rattle.laws.proofs.ArenaCallLaws.{answered-refused, answered-number}
 use Rattle.validate.proofs.AskingLaws.{both-readable}
 use Rattle.strength.proofs.calls.is_ancestor_of.Statement.{statement}
@@ -10,7 +10,7 @@ use Rattle.strength.proofs.calls.is_ancestor_of.Tie as tie
 
 -- questions 1 to 4 pass
 reads-both : (c : tie.After-enum-told)
-    → Readable (c .before .before .before .before .args .arena .now) (c .before .before .before .before .args .x) × Readable (c .before .before .before .before .args .arena .now) (c .before .before .before .before .args .y)
+    → ValidNode (c .before .before .before .before .args .arena .now) (c .before .before .before .before .args .x) × ValidNode (c .before .before .before .before .args .arena .now) (c .before .before .before .before .args .y)
 reads-both c = both-readable _ _ _ (sym (rw (c .enum-told .given .1) at (c .before .before .ask-nodes .ensures)))
 
 ask-nodes-requires : tie.Need-ask-nodes-requires

@@ -1,14 +1,14 @@
 -- `starting_node_of_class_hierarchy` meets its contract. Assumes nothing.
 use borrow.Author.Needs.{needs}
 use mathlib.Core.Path.{sym}
-use Rattle.model.specs.ArenaCalls.{Readable}
+use Rattle.model.specs.ArenaCalls.{ValidNode}
 use Rattle.arena.proofs.ReadNodes.{readable}
 use Rattle.strength.proofs.HierarchyLaws.{no-hierarchy, one-hierarchy}
 use Rattle.strength.proofs.calls.starting_node_of_class_hierarchy.Statement.{statement}
 use Rattle.strength.proofs.calls.starting_node_of_class_hierarchy.Tie as tie
 
 -- questions 1 to 4 pass
-reads-it : (c : tie.After-enum-told) → Readable (c .before .before .before .before .args .arena .now) (c .before .before .before .before .args .n)
+reads-it : (c : tie.After-enum-told) → ValidNode (c .before .before .before .before .args .arena .now) (c .before .before .before .before .args .n)
 reads-it c = readable _ _ (sym (rw (c .enum-told .given .1) at (c .before .before .ask-node .ensures)))
 
 ask-node-requires : tie.Need-ask-node-requires

@@ -1,5 +1,6 @@
--- The two comparisons of the cycle meet their contracts: siblings ask nodes whose sum is lower, and nodes ask siblings whose sum is no higher. The measures
--- are twice the sum, and one more for nodes. Assumes nothing.
+-- The two comparisons of the cycle meet their contracts: siblings ask nodes whose sum is lower, and
+-- nodes ask siblings whose sum is no higher. The measures are twice the sum, and one more for
+-- nodes. Assumes nothing.
 use borrow.Author.Needs.{needs}
 use mathlib.Core.Path.{_∙_}
 use Prim.Native.Nat.{ℕ, _+_, _*_, _<_}

@@ -1,4 +1,5 @@
--- `settle_siblings` meets its contract: two siblings are settled at once, or compared in the cycle. Assumes nothing.
+-- `settle_siblings` meets its contract: two siblings are settled at once, or compared in the cycle.
+-- Assumes nothing.
 use borrow.Author.Needs.{needs}
 use Rattle.strength.proofs.ComparisonCycle.{at-once, left-open}
 use Rattle.strength.proofs.comparison.settle_siblings.Statement.{statement}

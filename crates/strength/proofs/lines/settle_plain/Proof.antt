@@ -1,4 +1,5 @@
--- `settle_plain` meets its contract: the plain lines settle it, or ask of one node twice. Assumes nothing.
+-- `settle_plain` meets its contract: the plain lines settle it, or ask of one node twice. Assumes
+-- nothing.
 use borrow.Author.Needs.{needs}
 use Rattle.strength.proofs.SiblingLines.{not-both-special}
 use Rattle.strength.proofs.ComparisonCycle.{siblings-resolved, asked-itself}

@@ -1,11 +1,11 @@
--- `first_copy` meets its contract. The loop's invariant: the first copy from `child` on, of `left` nodes, is the first of the whole list. The measure is
--- `left`. Assumes nothing.
+-- `first_copy` meets its contract. The loop's invariant: the first copy from `child` on, of `left`
+-- nodes, is the first of the whole list. The measure is `left`. Assumes nothing.
 use native.Mathlib.Omega.{arith}
 use mathlib.Core.Path.{_≡_, sym, ap, _∙_}
 use Prim.Native.Nat.{ℕ}
 use Rattle.model.specs.Hierarchy.{firstIn, isCopy}
 use Rattle.model.specs.Arena.{countIn, childrenIn}
-use Rattle.model.specs.ArenaCalls.{Readable}
+use Rattle.model.specs.ArenaCalls.{ValidNode}
 use Rattle.arena.proofs.ReadNodes.{has-slot}
 use Rattle.view.specs.View.{viewIn}
 use Rattle.strength.proofs.CopyLaws.{copyFrom, copy-taken, copy-passed, copies-end}
@@ -19,7 +19,7 @@ abbrev μ-loop : tie.MeasureT-loop
 μ-loop arena root n count child₀ left₀ child left = left
 
 -- a child that is below the count is a node
-child-read : (c : tie.Else1 Inv-loop μ-loop) → Readable (c .before .before .before .before .before .before .args .arena .now) (c .before .before .loop .child)
+child-read : (c : tie.Else1 Inv-loop μ-loop) → ValidNode (c .before .before .before .before .before .before .args .arena .now) (c .before .before .loop .child)
 child-read c = record { opened = c .before .before .before .before .before .before .pre .readable .opened; below = omega (arith, c .if1 .left, c .before .before .before .before .count .ensures) }
 
 count-requires : tie.Need-count-requires Inv-loop μ-loop

@@ -1,4 +1,5 @@
--- `weigh_specializes` meets its contract: the depth line settles, or the rest of the list goes on. Assumes nothing.
+-- `weigh_specializes` meets its contract: the depth line settles, or the rest of the list goes on.
+-- Assumes nothing.
 use borrow.Author.Needs.{needs}
 use mathlib.Core.Path.{sym, _∙_}
 use Rattle.strength.proofs.SpecializesLaws.{depth-less, depth-greater, depth-passed}

@@ -5,8 +5,8 @@ use mathlib.Core.Bool.{true}
 use Prim.Native.Nat.{_≤_}
 use native.Mathlib.Omega.{arith}
 use borrow.Author.Tests.{not-true, not-false}
-use Rattle.model.specs.Arena.{countIn, marksRight}
-use Rattle.validate.specs.Validate.{recordsRight}
+use Rattle.model.specs.Arena.{countIn, stateValid}
+use Rattle.validate.specs.Validate.{recordsValid}
 use Rattle.validate.proofs.RecordsLaws.{records-parented}
 use Rattle.validate.proofs.HoldsTests.{many-nodes, marks-fail, records-fail, lists-fail, order-left}
 use Rattle.validate.proofs.graph.is_graph.Statement.{statement}
@@ -16,11 +16,11 @@ use Rattle.validate.proofs.graph.is_graph.Tie as tie
 few : (c : tie.Else1) → countIn (c .before .before .before .args .arena .now) ≤ 1024
 few c = omega (arith, c .if1 .left, c .before .count .ensures)
 
-marks : (c : tie.Else2) → marksRight (c .before .before .before .before .before .args .arena .now) ≡ true
-marks c = sym (c .before .marks-right .ensures) ∙ not-false _ (c .if2 .left)
+marks : (c : tie.Else2) → stateValid (c .before .before .before .before .before .args .arena .now) ≡ true
+marks c = sym (c .before .state-valid .ensures) ∙ not-false _ (c .if2 .left)
 
-records : (c : tie.Else3) → recordsRight (c .before .before .before .before .before .before .before .args .arena .now) ≡ true
-records c = sym (c .before .records-right .ensures) ∙ not-false _ (c .if3 .left)
+records : (c : tie.Else3) → recordsValid (c .before .before .before .before .before .before .before .args .arena .now) ≡ true
+records c = sym (c .before .records-valid .ensures) ∙ not-false _ (c .if3 .left)
 
 count-requires : tie.Need-count-requires
 count-requires c κs = search needs
@@ -28,25 +28,25 @@ count-requires c κs = search needs
 returns : tie.Need-returns
 returns c = sym (many-nodes _ (c .before .before .before .pre) (omega (arith, c .if1 .taken, c .before .count .ensures)))
 
-marks-right-requires : tie.Need-marks-right-requires
-marks-right-requires c κs = search needs
+state-valid-requires : tie.Need-state-valid-requires
+state-valid-requires c κs = search needs
 
 returns-2 : tie.Need-returns-2
 returns-2 c =
     let t = c .before .before in
-    sym (marks-fail _ (t .before .before .before .pre) (few t) (sym (c .before .marks-right .ensures) ∙ not-true _ (c .if2 .taken)))
+    sym (marks-fail _ (t .before .before .before .pre) (few t) (sym (c .before .state-valid .ensures) ∙ not-true _ (c .if2 .taken)))
 
-records-right-requires : tie.Need-records-right-requires
-records-right-requires c κs = search needs
+records-valid-requires : tie.Need-records-valid-requires
+records-valid-requires c κs = search needs
 
 returns-3 : tie.Need-returns-3
 returns-3 c =
     let t = c .before .before .before .before in
     sym (records-fail _ (t .before .before .before .pre) (few t) (marks (c .before .before))
-    (sym (c .before .records-right .ensures) ∙ not-true _ (c .if3 .taken)))
+    (sym (c .before .records-valid .ensures) ∙ not-true _ (c .if3 .taken)))
 
-are-right-requires : tie.Need-are-right-requires
-are-right-requires c κs =
+are-valid-requires : tie.Need-are-valid-requires
+are-valid-requires c κs =
     let t = c .before .before .before .before in
     (records-parented _ (t .before .before .before .pre) (few t) (records c), t .before .count .ensures)
 
@@ -54,17 +54,17 @@ returns-4 : tie.Need-returns-4
 returns-4 c =
     let t = c .before .before .before .before .before .before in
     sym (lists-fail _ (t .before .before .before .pre) (few t) (marks (c .before .before .before .before)) (records (c .before .before))
-    (sym (c .before .are-right .ensures) ∙ not-true _ (c .if4 .taken)))
+    (sym (c .before .are-valid .ensures) ∙ not-true _ (c .if4 .taken)))
 
-order-right-requires : tie.Need-order-right-requires
-order-right-requires c κs = search needs
+order-valid-requires : tie.Need-order-valid-requires
+order-valid-requires c κs = search needs
 
 returns-5 : tie.Need-returns-5
 returns-5 c =
     let t = c .before .before .before .before .before .before .before in
-    c .order-right .ensures
+    c .order-valid .ensures
     ∙ sym (order-left _ (t .before .before .before .pre) (few t) (marks (c .before .before .before .before .before))
-    (records (c .before .before .before)) (sym (c .before .before .are-right .ensures) ∙ not-false _ (c .before .if4 .left)))
+    (records (c .before .before .before)) (sym (c .before .before .are-valid .ensures) ∙ not-false _ (c .before .if4 .left)))
 
 pub is-graph-spec : {M : Type 1} → statement M
 is-graph-spec =
@@ -72,11 +72,11 @@ is-graph-spec =
     (tie.spec
     count-requires
     returns
-    marks-right-requires
+    state-valid-requires
     returns-2
-    records-right-requires
+    records-valid-requires
     returns-3
-    are-right-requires
+    are-valid-requires
     returns-4
-    order-right-requires
+    order-valid-requires
     returns-5)

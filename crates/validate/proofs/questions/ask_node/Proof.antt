@@ -1,4 +1,5 @@
--- `ask_node` meets its contract: where the arena holds a graph, questions 3 and 4 are left. Assumes nothing.
+-- `ask_node` meets its contract: where the arena holds a graph, questions 3 and 4 are left. Assumes
+-- nothing.
 use borrow.Author.Needs.{needs}
 use mathlib.Core.Path.{_≡_, sym, ap, _∙_}
 use mathlib.Core.List.{[], _∷_}
@@ -7,7 +8,7 @@ use lib.Dec.{ltb}
 use Rattle.model.specs.Arena.{countIn, decode}
 use Rattle.model.specs.Calls.{readsNode}
 use Rattle.model.specs.Refusals.{ask, refusal}
-use Rattle.model.specs.ArenaCalls.{Opened}
+use Rattle.model.specs.ArenaCalls.{ValidArena}
 use Rattle.laws.proofs.ArenaCallLaws.{asked-on, count-number, count-refused}
 use Rattle.arena.proofs.ReadNodes.{sizes}
 use Rattle.validate.proofs.questions.ask_node.Statement.{statement}
@@ -15,7 +16,7 @@ use Rattle.validate.proofs.questions.ask_node.Tie as tie
 
 -- where the count is answered, the arena holds a graph and that is its count
 opened : (c : tie.After-known-told)
-    → Opened (c .before .before .before .before .before .args .arena .now) × (c .before .counted .given .0 .0 ≡ countIn (c .before .before .before .before .before .args .arena .now))
+    → ValidArena (c .before .before .before .before .before .args .arena .now) × (c .before .counted .given .0 .0 ≡ countIn (c .before .before .before .before .before .args .arena .now))
 opened c =
     count-number _ _ _ (rw (c .before .counted .given .1) at (c .before .before .before .count .ensures))
 

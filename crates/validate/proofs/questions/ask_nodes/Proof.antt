@@ -1,14 +1,15 @@
--- `ask_nodes` meets its contract: where the first node passes, question 4 of the second is left. Assumes nothing.
+-- `ask_nodes` meets its contract: where the first node passes, question 4 of the second is left.
+-- Assumes nothing.
 use borrow.Author.Needs.{needs}
 use mathlib.Core.Path.{sym, _∙_}
-use Rattle.model.specs.ArenaCalls.{Readable}
+use Rattle.model.specs.ArenaCalls.{ValidNode}
 use Rattle.arena.proofs.ReadNodes.{readable}
 use Rattle.validate.proofs.AskingLaws.{number-left, refused-first}
 use Rattle.validate.proofs.questions.ask_nodes.Statement.{statement}
 use Rattle.validate.proofs.questions.ask_nodes.Tie as tie
 
 -- questions 1 to 4 pass of the first
-reads-it : (c : tie.After-enum-told) → Readable (c .before .before .before .before .args .arena .now) (c .before .before .before .before .args .a)
+reads-it : (c : tie.After-enum-told) → ValidNode (c .before .before .before .before .args .arena .now) (c .before .before .before .before .args .a)
 reads-it c = readable _ _ (sym (rw (c .enum-told .given .1) at (c .before .before .ask-node .ensures)))
 
 ask-node-requires : tie.Need-ask-node-requires

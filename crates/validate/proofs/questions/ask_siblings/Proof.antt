@@ -1,14 +1,14 @@
 -- `ask_siblings` meets its contract: where both nodes pass, question 8 is left. Assumes nothing.
 use borrow.Author.Needs.{needs}
 use mathlib.Core.Path.{sym, _∙_}
-use Rattle.model.specs.ArenaCalls.{Readable}
+use Rattle.model.specs.ArenaCalls.{ValidNode}
 use Rattle.validate.proofs.AskingLaws.{both-readable, parents-left, refused-nodes}
 use Rattle.validate.proofs.questions.ask_siblings.Statement.{statement}
 use Rattle.validate.proofs.questions.ask_siblings.Tie as tie
 
 -- questions 1 to 4 pass
 reads-both : (c : tie.After-enum-told)
-    → Readable (c .before .before .before .before .args .arena .now) (c .before .before .before .before .args .a) × Readable (c .before .before .before .before .args .arena .now) (c .before .before .before .before .args .b)
+    → ValidNode (c .before .before .before .before .args .arena .now) (c .before .before .before .before .args .a) × ValidNode (c .before .before .before .before .args .arena .now) (c .before .before .before .before .args .b)
 reads-both c = both-readable _ _ _ (sym (rw (c .enum-told .given .1) at (c .before .before .ask-nodes .ensures)))
 
 ask-nodes-requires : tie.Need-ask-nodes-requires

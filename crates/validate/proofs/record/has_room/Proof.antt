@@ -1,4 +1,5 @@
--- `has_room` meets its contract: what is left of the path bytes is compared, so that no sum can pass its width. Assumes nothing.
+-- `has_room` meets its contract: what is left of the path bytes is compared, so that no sum can
+-- pass its width. Assumes nothing.
 use borrow.Author.Needs.{needs}
 use mathlib.Core.Path.{_≡_, refl}
 use mathlib.Core.Bool.{Bool, true, false}

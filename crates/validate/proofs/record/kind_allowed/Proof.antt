@@ -1,4 +1,5 @@
--- `kind_allowed` meets its contract: the definition's tests, those of every node first. Assumes nothing.
+-- `kind_allowed` meets its contract: the definition's tests, those of every node first. Assumes
+-- nothing.
 use borrow.Author.Needs.{needs}
 use mathlib.Core.Path.{_≡_, refl, sym, ap, _∙_}
 use mathlib.Core.Bool.{Bool, true, false, not, _||_, _&&_, and-true}

@@ -1,4 +1,5 @@
--- `links_allowed` meets its contract: the tests are the definition's, in its order. Assumes nothing.
+-- `links_allowed` meets its contract: the tests are the definition's, in its order. Assumes
+-- nothing.
 use borrow.Author.Needs.{needs}
 use borrow.Author.Tests.{eq-eqb, ne-eqb, lt-ltb, le-ltb}
 use Rattle.validate.proofs.record.links_allowed.Statement.{statement}

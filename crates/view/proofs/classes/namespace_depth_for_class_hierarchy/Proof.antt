@@ -1,8 +1,9 @@
--- `namespace_depth_for_class_hierarchy` meets its contract: each call gives what the definition asks next. Assumes nothing.
+-- `namespace_depth_for_class_hierarchy` meets its contract: each call gives what the definition
+-- asks next. Assumes nothing.
 use borrow.Author.Needs.{needs}
 use mathlib.Core.Path.{ap, _∙_}
 use native.Mathlib.Omega.{arith}
-use Rattle.model.specs.ArenaCalls.{Readable}
+use Rattle.model.specs.ArenaCalls.{ValidNode}
 use Rattle.model.specs.Strength.{skipRelocates, namespaceDepthForClassHierarchy}
 use Rattle.laws.proofs.StrengthWalks.{starting-node-le, skip-le}
 use Rattle.view.specs.View.{viewIn}
@@ -15,7 +16,7 @@ starting-node-of-class-hierarchy-requires c κs = search needs
 
 -- the hierarchy starts at a node of the graph
 starts : (c : tie.After-starting-node-of-class-hierarchy)
-    → Readable (c .before .before .args .arena .now) (c .starting-node-of-class-hierarchy .result .instance)
+    → ValidNode (c .before .before .args .arena .now) (c .starting-node-of-class-hierarchy .result .instance)
 starts c =
     let r = c .before .before .pre .readable in
     let low = starting-node-le (legal _ (r .opened)) _ (r .below) in

@@ -1,5 +1,5 @@
--- `skip_relocates` meets its contract. The loop's invariant: the walk from `node` on comes to where that from n comes. The measure is `node`.
--- Assumes nothing.
+-- `skip_relocates` meets its contract. The loop's invariant: the walk from `node` on comes to where
+-- that from n comes. The measure is `node`. Assumes nothing.
 use Rattle.view.proofs.WalkLoops.{Skipping, skipping-start, skipping-zero, skipping-stop, skipping-falls, skipping-step}
 use Rattle.view.proofs.classes.skip_relocates.Statement.{statement}
 use Rattle.view.proofs.classes.skip_relocates.Tie as tie

@@ -1,5 +1,6 @@
--- `starting_node_of_class_hierarchy` meets its contract. The loop's invariant: the walk from `instance` on comes to where that from n comes, and the
--- last node that it leaves, or else `class_node`, is the one that that leaves. The measure is `instance`. Assumes nothing.
+-- `starting_node_of_class_hierarchy` meets its contract. The loop's invariant: the walk from
+-- `instance` on comes to where that from n comes, and the last node that it leaves, or else
+-- `class_node`, is the one that that leaves. The measure is `instance`. Assumes nothing.
 use borrow.Author.Needs.{needs}
 use mathlib.Core.Path.{sym, _∙_}
 use borrow.Author.Tests.{not-true, not-false}

@@ -1,4 +1,5 @@
--- `is_nested_under` meets its contract. The loop's invariant: y is met from `n` on where it is met from x on. The measure is `n`. Assumes nothing.
+-- `is_nested_under` meets its contract. The loop's invariant: y is met from `n` on where it is met
+-- from x on. The measure is `n`. Assumes nothing.
 use Rattle.view.proofs.WalkLoops.{Nesting, nesting-start, nesting-met, nesting-zero, nesting-falls, nesting-step}
 use Rattle.view.proofs.origins.is_nested_under.Statement.{statement}
 use Rattle.view.proofs.origins.is_nested_under.Tie as tie

@@ -1,4 +1,5 @@
--- `origins_are_nested` meets its contract: the tests are the definition's, in its order. Assumes nothing.
+-- `origins_are_nested` meets its contract: the tests are the definition's, in its order. Assumes
+-- nothing.
 use borrow.Author.Needs.{needs}
 use mathlib.Core.Path.{sym, _∙_}
 use Rattle.model.specs.Strength.{originsAreNested}

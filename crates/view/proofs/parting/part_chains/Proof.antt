@@ -1,5 +1,5 @@
--- `part_chains` meets its contract. The loop's invariant: two walks, from a to `x` and from b to `y`, on their way to where the chains meet. The
--- measure is the sum of the two. Assumes nothing.
+-- `part_chains` meets its contract. The loop's invariant: two walks, from a to `x` and from b to
+-- `y`, on their way to where the chains meet. The measure is the sum of the two. Assumes nothing.
 use native.Mathlib.Omega.{arith}
 use Prim.Native.Nat.{_+_}
 use Rattle.view.proofs.PartingLaws.{Meeting, part-same, meet-start, left-readable, right-readable, left-falls, right-falls, meet-left, meet-right, meet-above, meet-below, meet-apart}

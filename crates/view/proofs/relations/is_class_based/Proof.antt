@@ -1,4 +1,5 @@
--- `is_class_based` meets its contract: the tests are the definition's, in its order. Assumes nothing.
+-- `is_class_based` meets its contract: the tests are the definition's, in its order. Assumes
+-- nothing.
 use borrow.Author.Tests.{eq-eqb, ne-eqb}
 use Rattle.model.specs.Node.{inheritArc}
 use Rattle.view.proofs.relations.is_class_based.Statement.{statement}

@@ -1,5 +1,5 @@
--- `is_propagated_specializes` meets its contract: the tests are the definition's, in its order; only a Specialize, which is not node 0, has its origin
--- read. Assumes nothing.
+-- `is_propagated_specializes` meets its contract: the tests are the definition's, in its order;
+-- only a Specialize, which is not node 0, has its origin read. Assumes nothing.
 use mathlib.Core.Path.{_≡_, sym, ap, _∙_}
 use borrow.Author.Tests.{eq-eqb, ne-eqb}
 use Rattle.model.specs.Node.{specializeArc}

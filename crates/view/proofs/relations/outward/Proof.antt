@@ -1,4 +1,5 @@
--- `outward` meets its contract: to the origin of a propagated specializes, else to the parent. Assumes nothing.
+-- `outward` meets its contract: to the origin of a propagated specializes, else to the parent.
+-- Assumes nothing.
 use borrow.Author.Needs.{needs}
 use mathlib.Core.Path.{sym, _∙_}
 use Rattle.model.specs.Strength.{outward}

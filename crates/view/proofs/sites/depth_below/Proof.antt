@@ -5,14 +5,14 @@ use native.Mathlib.Omega.{arith}
 use Prim.Native.Nat.{ℕ, _-_}
 use Rattle.model.specs.Arena.{primCountIn}
 use Rattle.arena.specs.Slot.{parentIn}
-use Rattle.model.specs.ArenaCalls.{Readable}
+use Rattle.model.specs.ArenaCalls.{ValidNode}
 use Rattle.arena.proofs.ReadNodes.{has-slot, parent-read}
 use Rattle.view.proofs.ViewLaws.{depth-read, depth-of-0}
 use Rattle.view.proofs.sites.depth_below.Statement.{statement}
 use Rattle.view.proofs.sites.depth_below.Tie as tie
 
 -- the parent is a node too
-parent : (c : tie.After-parent) → Readable (c .before .before .before .args .arena .now) (c .parent .result)
+parent : (c : tie.After-parent) → ValidNode (c .before .before .before .args .arena .now) (c .parent .result)
 parent c =
     rw (c .parent .ensures) (parent-read _ _ (c .before .before .before .pre) (omega arith))
 

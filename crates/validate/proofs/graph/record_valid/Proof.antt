@@ -1,4 +1,5 @@
--- `record_right` meets its contract: the record's length, then its numbers, its depth and its path. Assumes nothing.
+-- `record_valid` meets its contract: the record's length, then its numbers, its depth and its path.
+-- Assumes nothing.
 use borrow.Author.Needs.{needs}
 use mathlib.Core.Path.{_≡_, sym, ap, _∙_}
 use mathlib.Core.Bool.{true}
@@ -9,10 +10,10 @@ use Rattle.model.specs.Path.{countPrims}
 use Rattle.arena.specs.Slot.{HasPath}
 use Rattle.arena.proofs.SlotLaws.{path-length}
 use Rattle.path.specs.Tables.{isNames}
-use Rattle.validate.specs.Validate.{numbersRight}
+use Rattle.validate.specs.Validate.{numbersValid}
 use Rattle.validate.proofs.ArenaRecords.{too-short, too-long, numbers-lower, numbers-wrong, depth-wrong, names-left}
-use Rattle.validate.proofs.graph.record_right.Statement.{statement}
-use Rattle.validate.proofs.graph.record_right.Tie as tie
+use Rattle.validate.proofs.graph.record_valid.Statement.{statement}
+use Rattle.validate.proofs.graph.record_valid.Tie as tie
 
 -- the record's length is right
 fits : (c : tie.Else2) → HasPath (c .before .before .before .before .before .args .arena .now) (c .before .before .before .before .before .args .n)
@@ -23,8 +24,8 @@ fits c =
 -- its numbers are right
 numbered : (c : tie.Else3)
     → let a = c .before .before .before .before .before .before .before .before .args in
-    numbersRight (a .arena .now) (a .n) (a .path-bytes) (a .root) ≡ true
-numbered c = sym (c .before .numbers-right .ensures) ∙ not-false _ (c .if3 .left)
+    numbersValid (a .arena .now) (a .n) (a .path-bytes) (a .root) ≡ true
+numbered c = sym (c .before .numbers-valid .ensures) ∙ not-false _ (c .if3 .left)
 
 returns : tie.Need-returns
 returns c = let s = c .before .before .before .before in sym (too-short _ _ _ _ (omega (arith, c .if1 .taken, s .pre .1 .1)))
@@ -37,16 +38,16 @@ returns-2 c =
 parent-requires : tie.Need-parent-requires
 parent-requires c κs = search needs
 
-numbers-right-requires : tie.Need-numbers-right-requires
-numbers-right-requires c κs = search needs
+numbers-valid-requires : tie.Need-numbers-valid-requires
+numbers-valid-requires c κs = search needs
 
 returns-3 : tie.Need-returns-3
 returns-3 c =
     let s = c .before .before .before .before .before .before .before .before in
-    sym (numbers-wrong _ _ _ _ (fits (c .before .before .before)) (omega (arith, c .before .before .before .before .if1 .left, s .pre .1 .1)) (sym (c .before .numbers-right .ensures) ∙ not-true _ (c .if3 .taken)))
+    sym (numbers-wrong _ _ _ _ (fits (c .before .before .before)) (omega (arith, c .before .before .before .before .if1 .left, s .pre .1 .1)) (sym (c .before .numbers-valid .ensures) ∙ not-true _ (c .if3 .taken)))
 
-depth-right-requires : tie.Need-depth-right-requires
-depth-right-requires c κs =
+depth-valid-requires : tie.Need-depth-valid-requires
+depth-valid-requires c κs =
     let s = c .before .before .before .before .before .before .before .before in
     let same = c .before .before .parent .ensures in
     (s .pre .1 .0, same, λ l. omega (arith, numbers-lower _ _ _ _ (numbered c) l, same))
@@ -55,7 +56,7 @@ returns-4 : tie.Need-returns-4
 returns-4 c =
     let s = c .before .before .before .before .before .before .before .before .before .before in
     sym (depth-wrong _ _ _ _ (fits (c .before .before .before .before .before)) (omega (arith, c .before .before .before .before .before .before .if1 .left, s .pre .1 .1)) (numbered (c .before .before))
-    (sym (c .before .depth-right .ensures) ∙ not-true _ (c .if4 .taken)))
+    (sym (c .before .depth-valid .ensures) ∙ not-true _ (c .if4 .taken)))
 
 prim-count-requires : tie.Need-prim-count-requires
 prim-count-requires c κs = search needs
@@ -75,18 +76,18 @@ returns-5 c =
     let s = c .before .before .before .before .before .before .before .before .before .before .before .before .before in
     c .has-names .ensures ∙ (λ i. isNames (c .before .before .prim-count .ensures i) (countPrims (c .before .path .ensures i)))
     ∙ sym (names-left _ _ _ _ (fits (c .before .before .before .before .before .before .before .before)) (omega (arith, c .before .before .before .before .before .before .before .before .before .if1 .left, s .pre .1 .1)) (numbered (c .before .before .before .before .before))
-    (sym (c .before .before .before .before .depth-right .ensures) ∙ not-false _ (c .before .before .before .if4 .left)))
+    (sym (c .before .before .before .before .depth-valid .ensures) ∙ not-false _ (c .before .before .before .if4 .left)))
 
-pub record-right-spec : {M : Type 1} → statement M
-record-right-spec =
+pub record-valid-spec : {M : Type 1} → statement M
+record-valid-spec =
     tie.close
     (tie.spec
     returns
     returns-2
     parent-requires
-    numbers-right-requires
+    numbers-valid-requires
     returns-3
-    depth-right-requires
+    depth-valid-requires
     returns-4
     prim-count-requires
     path-requires

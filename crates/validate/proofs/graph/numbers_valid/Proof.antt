@@ -1,4 +1,5 @@
--- `numbers_right` meets its contract: links, kind and room, put to the fields read. Assumes nothing.
+-- `numbers_valid` meets its contract: links, kind and room, put to the fields read. Assumes
+-- nothing.
 use borrow.Author.Needs.{needs}
 use mathlib.Core.Path.{_≡_, sym, ap, _∙_}
 use mathlib.Core.Bool.{Bool, not, _&&_}
@@ -8,8 +9,8 @@ use borrow.Author.Tests.{not-true, not-false, lt-ltb}
 use Rattle.model.specs.Arena.{recordLengthIn}
 use Rattle.validate.specs.RecordCheck.{linksAt, kindAt}
 use Rattle.validate.proofs.ArenaRecords.{links, kind, links-wrong, kind-wrong, room-left}
-use Rattle.validate.proofs.graph.numbers_right.Statement.{statement}
-use Rattle.validate.proofs.graph.numbers_right.Tie as tie
+use Rattle.validate.proofs.graph.numbers_valid.Statement.{statement}
+use Rattle.validate.proofs.graph.numbers_valid.Tie as tie
 
 -- the links and the kind that were read are the node's
 linked : (c : tie.After-links-allowed)
@@ -65,8 +66,8 @@ returns-3 c =
     ∙ sym (room-left _ _ _ _ (sym (linked (c .before .before .before .before)) ∙ not-false _ (c .before .before .before .if1 .left))
     (sym (allowed (c .before)) ∙ not-false _ (c .if2 .left)))
 
-pub numbers-right-spec : {M : Type 1} → statement M
-numbers-right-spec =
+pub numbers-valid-spec : {M : Type 1} → statement M
+numbers-valid-spec =
     tie.close
     (tie.spec
     flags-requires

@@ -1,8 +1,8 @@
--- `root_right` meets its contract. Assumes nothing.
+-- `root_valid` meets its contract. Assumes nothing.
 use borrow.Author.Needs.{needs}
 use borrow.Author.Tests.{eq-eqb, ne-eqb}
-use Rattle.validate.proofs.graph.root_right.Statement.{statement}
-use Rattle.validate.proofs.graph.root_right.Tie as tie
+use Rattle.validate.proofs.graph.root_valid.Statement.{statement}
+use Rattle.validate.proofs.graph.root_valid.Tie as tie
 
 returns : tie.Need-returns
 returns c = rw (eq-eqb _ 0 (c .if1 .taken))
@@ -13,8 +13,8 @@ local-root-requires c κs = search needs
 returns-2 : tie.Need-returns-2
 returns-2 c = rw (ne-eqb _ 0 (c .before .if1 .left), c .local-root .ensures)
 
-pub root-right-spec : {M : Type 1} → statement M
-root-right-spec =
+pub root-valid-spec : {M : Type 1} → statement M
+root-valid-spec =
     tie.close
     (tie.spec
     returns

@@ -1,14 +1,15 @@
--- `records_right` meets its contract. The loop's invariant is `RecordsTo`: the records below n are right, and come to so many bytes of paths and this
--- local root. The measure is how many are left. Assumes nothing.
+-- `records_valid` meets its contract. The loop's invariant is `RecordsTo`: the records below n are
+-- right, and come to so many bytes of paths and this local root. The measure is how many are left.
+-- Assumes nothing.
 use borrow.Author.Needs.{needs}
 use mathlib.Core.Path.{sym, _∙_}
 use Prim.Native.Nat.{_-_}
 use native.Mathlib.Omega.{arith}
 use borrow.Author.Tests.{not-true, not-false}
-use Rattle.validate.proofs.ArenaRecords.{RightAfter, right-after}
+use Rattle.validate.proofs.ArenaRecords.{ValidAfter, right-after}
 use Rattle.validate.proofs.RecordsLaws.{RecordsTo, records-none, no-root, record-fails, records-more, records-all}
-use Rattle.validate.proofs.graph.records_right.Statement.{statement}
-use Rattle.validate.proofs.graph.records_right.Tie as tie
+use Rattle.validate.proofs.graph.records_valid.Statement.{statement}
+use Rattle.validate.proofs.graph.records_valid.Tie as tie
 
 abbrev Inv-loop : tie.InvT-loop
 Inv-loop arena count kinds pairs path-bytes₀ root₀ n₀ path-bytes root n = RecordsTo arena n path-bytes root
@@ -19,8 +20,8 @@ abbrev μ-loop : tie.MeasureT-loop
 -- the record here is right
 right : (c : tie.Else1 Inv-loop μ-loop)
     → let l = c .before .before .before .before .before .before .before in
-    RightAfter (l .before .before .before .before .args .arena .now) (l .loop .n) (l .loop .path-bytes) (l .loop .root)
-right c = right-after _ _ _ _ (sym (c .before .record-right .ensures) ∙ not-false _ (c .if1 .left))
+    ValidAfter (l .before .before .before .before .args .arena .now) (l .loop .n) (l .loop .path-bytes) (l .loop .root)
+right c = right-after _ _ _ _ (sym (c .before .record-valid .ensures) ∙ not-false _ (c .if1 .left))
 
 kinds-requires : tie.Need-kinds-requires Inv-loop μ-loop
 kinds-requires c κs = search needs
@@ -42,14 +43,14 @@ arc-requires c κs =
     let s = c .before .before .before .before .before .before in
     record { whole = s .pre .0; within = omega (arith, c .before .loop-test, s .pre) }
 
-slice-aggregate-record-right : tie.Need-slice-aggregate-record-right Inv-loop μ-loop
-slice-aggregate-record-right c = search needs
+slice-aggregate-record-valid : tie.Need-slice-aggregate-record-valid Inv-loop μ-loop
+slice-aggregate-record-valid c = search needs
 
-slice-aggregate-record-right-2 : tie.Need-slice-aggregate-record-right-2 Inv-loop μ-loop
-slice-aggregate-record-right-2 c = search needs
+slice-aggregate-record-valid-2 : tie.Need-slice-aggregate-record-valid-2 Inv-loop μ-loop
+slice-aggregate-record-valid-2 c = search needs
 
-record-right-requires : tie.Need-record-right-requires Inv-loop μ-loop
-record-right-requires c κs =
+record-valid-requires : tie.Need-record-valid-requires Inv-loop μ-loop
+record-valid-requires c κs =
     let s = c .before .before .before .before .before .before .before .before .before in (
       record { kinds-right = c .before .before .before .before .before .before .before .kinds .ensures; pairs-right = c .before .before .before .before .before .before .pairs .ensures },
       (
@@ -64,7 +65,7 @@ returns : tie.Need-returns Inv-loop μ-loop
 returns c =
     let l = c .before .before .before .before .before .before .before in
     sym (record-fails _ _ _ _ (l .loop .inv) (omega (arith, c .before .before .before .before .before .before .loop-test, l .before .before .before .before .pre .1))
-    (sym (c .before .record-right .ensures) ∙ not-true _ (c .if1 .taken)))
+    (sym (c .before .record-valid .ensures) ∙ not-true _ (c .if1 .taken)))
 
 sub-path-bytes : tie.Need-sub-path-bytes Inv-loop μ-loop
 sub-path-bytes c = omega (arith, right c .named, c .before .before .before .before .before .record-length .ensures)
@@ -88,19 +89,19 @@ loop-again c =
     let s = l .before .before .before .before in
     records-more _ _ _ _ (l .loop .inv) (s .pre .0) (omega (arith, s .pre)) (omega (arith, c .before .before .before .before .before .before .before .loop-test, s .pre .1)) _ _ _
     (c .before .before .before .before .before .before .record-length .ensures) (c .before .before .before .before .before .arc .ensures) (c .root-with .ensures)
-    (sym (c .before .before .record-right .ensures) ∙ not-false _ (c .before .if1 .left))
+    (sym (c .before .before .record-valid .ensures) ∙ not-false _ (c .before .if1 .left))
 
-root-right-requires : tie.Need-root-right-requires Inv-loop μ-loop
-root-right-requires c κs = c .before .before .before .before .before .pre .0
+root-valid-requires : tie.Need-root-valid-requires Inv-loop μ-loop
+root-valid-requires c κs = c .before .before .before .before .before .pre .0
 
 returns-2 : tie.Need-returns-2 Inv-loop μ-loop
 returns-2 c =
     let s = c .before .before .before .before .before .before in
     let all = records-all _ _ _ _ (c .before .before .loop .inv) (omega (arith, c .before .loop-test, s .pre .1)) in
-    c .root-right .ensures ∙ rw (s .pre .1) (sym all)
+    c .root-valid .ensures ∙ rw (s .pre .1) (sym all)
 
-pub records-right-spec : {M : Type 1} → statement M
-records-right-spec =
+pub records-valid-spec : {M : Type 1} → statement M
+records-valid-spec =
     tie.close
     (tie.spec
     Inv-loop
@@ -111,9 +112,9 @@ records-right-spec =
     record-length-requires
     cast-length
     arc-requires
-    slice-aggregate-record-right
-    slice-aggregate-record-right-2
-    record-right-requires
+    slice-aggregate-record-valid
+    slice-aggregate-record-valid-2
+    record-valid-requires
     returns
     sub-path-bytes
     add-path-bytes
@@ -121,5 +122,5 @@ records-right-spec =
     add-n
     loop-less
     loop-again
-    root-right-requires
+    root-valid-requires
     returns-2)

@@ -1,12 +1,12 @@
--- `entries_right` meets its contract. The loop's invariant is `EntriesTo`: the first k entries are nodes, none twice, and `seen` has a 1 at each. The
--- measure is how many are left. Assumes nothing.
+-- `entries_valid` meets its contract. The loop's invariant is `EntriesTo`: the first k entries are
+-- nodes, none twice, and `seen` has a 1 at each. The measure is how many are left. Assumes nothing.
 use mathlib.Core.Path.{sym, ap, subst, _∙_}
 use Prim.Native.Nat.{ℕ, _+_, _-_}
 use native.Mathlib.Omega.{arith}
 use lib.ListN.{getD, set}
 use Rattle.validate.proofs.EntriesLaws.{EntriesTo, entries-none, entry-no-node, entry-twice, entries-more, entries-all}
-use Rattle.validate.proofs.graph.entries_right.Statement.{statement}
-use Rattle.validate.proofs.graph.entries_right.Tie as tie
+use Rattle.validate.proofs.graph.entries_valid.Statement.{statement}
+use Rattle.validate.proofs.graph.entries_valid.Tie as tie
 
 abbrev Inv-loop : tie.InvT-loop
 Inv-loop arena count seen₀ k₀ seen k = EntriesTo arena seen k
@@ -62,8 +62,8 @@ loop-again c =
 returns-3 : tie.Need-returns-3 Inv-loop μ-loop
 returns-3 c = sym (entries-all _ _ _ (c .before .loop .inv) (omega (arith, c .loop-test, c .before .before .before .pre .1)))
 
-pub entries-right-spec : {M : Type 1} → statement M
-entries-right-spec =
+pub entries-valid-spec : {M : Type 1} → statement M
+entries-valid-spec =
     tie.close
     (tie.spec
     Inv-loop

@@ -1,9 +1,9 @@
--- `marks_allowed` meets its contract: each way out decides the tests of the marks. Assumes nothing.
+-- `state_allowed` meets its contract: each way out decides the tests of the marks. Assumes nothing.
 use mathlib.Core.Path.{sym}
 use Prim.Native.Nat.{_≤_}
 use Rattle.validate.proofs.MarksLaws.{ordered-other, finalized-other, shallow-other, empty-ordered, empty-finalized, empty-left, unfinalized, final-unordered, final-left}
-use Rattle.validate.proofs.graph.marks_allowed.Statement.{statement}
-use Rattle.validate.proofs.graph.marks_allowed.Tie as tie
+use Rattle.validate.proofs.graph.state_allowed.Statement.{statement}
+use Rattle.validate.proofs.graph.state_allowed.Tie as tie
 
 -- each mark is 0 or 1
 bits : (c : tie.Else3)
@@ -42,8 +42,8 @@ returns-9 : tie.Need-returns-9
 returns-9 c =
     sym (final-left _ _ _ _ (bits (c .before .before .before)) (c .before .before .if4 .left) (c .before .if7 .left) (c .if8 .left))
 
-pub marks-allowed-spec : {M : Type 1} → statement M
-marks-allowed-spec =
+pub state-allowed-spec : {M : Type 1} → statement M
+state-allowed-spec =
     tie.close
     (tie.spec
     returns

@@ -1,12 +1,13 @@
--- `depth_right` meets its contract: the depth is reached by the parent's prims, or marked. Assumes nothing.
+-- `depth_valid` meets its contract: the depth is reached by the parent's prims, or marked. Assumes
+-- nothing.
 use borrow.Author.Needs.{needs}
 use mathlib.Core.Path.{sym, ap, _∙_}
 use Prim.Native.Nat.{ℕ}
 use native.Mathlib.Omega.{arith}
 use lib.Dec.{eqb}
 use Rattle.validate.proofs.ArenaRecords.{depth-of-0, depth-reached, depth-marked}
-use Rattle.validate.proofs.graph.depth_right.Statement.{statement}
-use Rattle.validate.proofs.graph.depth_right.Tie as tie
+use Rattle.validate.proofs.graph.depth_valid.Statement.{statement}
+use Rattle.validate.proofs.graph.depth_valid.Tie as tie
 
 returns : tie.Need-returns
 returns c = sym (depth-of-0 _ _ (c .if1 .taken))
@@ -37,8 +38,8 @@ returns-3 c =
     ∙ sym (depth-marked _ _ _ _ _ (c .before .before .before .depth .ensures) (c .before .before .prim-count .ensures)
     (c .before .before .before .before .before .before .pre .1) (c .before .before .before .before .if1 .left) (c .before .if2 .left))
 
-pub depth-right-spec : {M : Type 1} → statement M
-depth-right-spec =
+pub depth-valid-spec : {M : Type 1} → statement M
+depth-valid-spec =
     tie.close
     (tie.spec
     returns

@@ -1,12 +1,12 @@
--- `write_mark` meets its contract: a mark is its own byte. Assumes nothing.
+-- `write_state_byte` meets its contract: a mark is its own byte. Assumes nothing.
 use mathlib.Core.Path.{ap, _∙_}
 use mathlib.Core.List.{List}
 use Prim.Native.Nat.{ℕ}
 use borrow.Author.Needs.{needs}
 use Rattle.model.specs.Bytes.{stored}
 use Rattle.arena.proofs.StoreLaws.{bit-byte}
-use Rattle.arena.proofs.header.write_mark.Statement.{statement}
-use Rattle.arena.proofs.header.write_mark.Tie as tie
+use Rattle.arena.proofs.header.write_state_byte.Statement.{statement}
+use Rattle.arena.proofs.header.write_state_byte.Tie as tie
 
 cast-write-u8 : tie.Need-cast-write-u8
 cast-write-u8 c = search needs
@@ -22,5 +22,5 @@ returns c =
     let a = c .before .before .before .before .before .args in
     c .before .before .write-u8 .ensures ∙ ap (λ (p : List ℕ). stored (a .at) p (a .arena .now)) (bit-byte (a .set))
 
-pub write-mark-spec : {M : Type 1} → statement M
-write-mark-spec = tie.close (tie.spec cast-write-u8 write-u8-requires same-length returns)
+pub write-state-byte-spec : {M : Type 1} → statement M
+write-state-byte-spec = tie.close (tie.spec cast-write-u8 write-u8-requires same-length returns)

@@ -1,5 +1,6 @@
--- `are_right` meets its contract. The loop's invariant: the lists of the nodes below `n` are right, and `left` nodes more would make all but node 0.
--- The measure is how many nodes are left to look at. Assumes nothing.
+-- `are_valid` meets its contract. The loop's invariant: the lists of the nodes below `n` are right,
+-- and `left` nodes more would make all but node 0. The measure is how many nodes are left to look
+-- at. Assumes nothing.
 use borrow.Author.Needs.{needs}
 use native.Mathlib.Numerals.{add-one}
 use native.Mathlib.Omega.{arith}
@@ -9,8 +10,8 @@ use Prim.Native.Nat.{ℕ, _-_, _≤_}
 use Rattle.child_lists.specs.ChildLists.{Parented}
 use Rattle.child_lists.proofs.ChildListWalk.{has-slot}
 use Rattle.child_lists.proofs.CountLaws.{Walking, right-empty, wrong-root, walking-start, walking-on, walking-wrong, walking-ends}
-use Rattle.child_lists.proofs.check.are_right.Statement.{statement}
-use Rattle.child_lists.proofs.check.are_right.Tie as tie
+use Rattle.child_lists.proofs.check.are_valid.Statement.{statement}
+use Rattle.child_lists.proofs.check.are_valid.Tie as tie
 
 abbrev Inv-loop : tie.InvT-loop
 Inv-loop arena count left₀ n₀ left n = Walking arena n left × (n ≤ count)
@@ -83,8 +84,8 @@ returns-4 c =
     walking-ends (bytes l) (parented l) (l .loop .n) (l .loop .left) (l .loop .inv .0) (omega (arith, l .loop .inv .1)) (omega arith)
     (sym (l .before .before .next-sibling .ensures) ∙ l .before .if2 .left)
 
-pub are-right-spec : {M : Type 1} → statement M
-are-right-spec =
+pub are-valid-spec : {M : Type 1} → statement M
+are-valid-spec =
     tie.close
     (tie.spec
     Inv-loop
