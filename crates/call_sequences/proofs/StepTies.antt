@@ -1,10 +1,10 @@
 -- What ties demand 3 to the code: a call's contract leaves the arena that its step in
 -- specs/Demand3.antt does. Each law takes the contract as the source has it: crates/nodes's
--- `init_root` and `add_child`, crates/ordering's `finalize_strength_order`, crates/erasing's
--- `cull_subtrees_without_opinions` and `erase`, crates/deepening' `append_child_name_to_all_sites`
--- and `seed_child`, crates/snapshot' `read_snapshot`. Where the code reads or seeds and is not
--- refused, a list may begin; and the set that demand 3 erases is the one that crates/erasing's
--- `erasable` writes. Assumes nothing.
+-- `init_root` and `add_child`, crates/ordering's `finalize_strength_order`, crates/culling's
+-- `cull_subtrees_without_opinions`, crates/erasing's `erase`, crates/deepening's
+-- `append_child_name_to_all_sites` and `seed_child`, crates/snapshot's `read_snapshot`. Where the
+-- code reads or seeds and is not refused, a list may begin; and the set that demand 3 erases is the
+-- one that crates/erasing's `erasable` writes. Assumes nothing.
 use mathlib.Core.Path.{_≡_, sym, ap, _∙_}
 use mathlib.Core.List.{List}
 use Prim.Native.Nat.{ℕ, _<_}
@@ -21,7 +21,8 @@ use Rattle.model.specs.declared.NumberResult.{NumberResult}
 use Rattle.nodes.specs.Describing.{descOf}
 use Rattle.nodes.specs.declared.description.NodeDesc.{NodeDesc}
 use Rattle.ordering.specs.Finalizing.{Finalized}
-use Rattle.erasing.specs.Erasures.{Culled, setQuestions, ErasableWritten, eraseIn, Erased}
+use Rattle.culling.specs.CullCalls.{Culled}
+use Rattle.erasing.specs.Erasures.{setQuestions, ErasableWritten, eraseIn, Erased}
 use Rattle.deepening.specs.ChildNames.{Deepened, Seeded}
 use Rattle.call_sequences.specs.Demand3.{Slice, Write, steps, Lent, Start, read, seeded, erasingAll}
 use Rattle.call_sequences.specs.Steps.{Starts, Adds, Orders, Culls, Erases, Deepens, Reads, Seeds}

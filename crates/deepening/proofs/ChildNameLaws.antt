@@ -1,10 +1,10 @@
 -- The questions of the calls that append a child's name: which is the first to refuse
--- (`refused-no-node` to `refused-no-room`, or `refused-none`), what is known where none does
+-- (`refused-first` to `refused-no-room`, or `refused-none`), what is known where none does
 -- (`can-deepen`), and the ways that the calls end (`deepen-refused`, `deepen-done`; `seed-refused`,
 -- `seed-done`). Assumes nothing.
 use mathlib.Core.Path.{_≡_, refl, sym, _∙_}
-use mathlib.Core.Bool.{Bool, true, false, cond, and-eq-true-iff}
-use mathlib.Core.List.{List, _∷_}
+use mathlib.Core.Bool.{Bool, true, false, _&&_, cond, and-eq-true-iff}
+use mathlib.Core.List.{List, [], _∷_}
 use Prim.Native.Nat.{ℕ, _<_}
 use native.Mathlib.Omega.{arith}
 use lib.ListN.{length}
@@ -13,61 +13,66 @@ use Rattle.model.specs.Graph.{Graph, emptyGraph, size}
 use Rattle.model.specs.Path.{wellFormed, lastName, endsInName}
 use Rattle.model.specs.Deepening.{deepen}
 use Rattle.model.specs.Refusals.{refusalNumber, Question, ask, refusal}
-use Rattle.model.specs.Calls.{unchanged, decided, pathsFit, deepenQuestions, appendChildName, seedChild}
+use Rattle.model.specs.Calls.{unchanged, decided, hasNodeZero, pathsFit, deepenQuestions, appendChildName, seedChild}
 use Rattle.model.specs.Arena.{arenaBytes, countIn, decode, encode, holdsGraph}
-use Rattle.model.specs.ArenaCalls.{isArena, ValidArena, onArena, intoArena, askArena, Finishes}
+use Rattle.model.specs.ArenaCalls.{isArena, ValidArena, onArena, intoArena, askArena}
 use Rattle.model.specs.declared.Refusal.{Refusal}
 use Rattle.model.specs.declared.Refusal.the-variants.{Size}
 use Rattle.model.specs.declared.UnitResult.the-variants.{Done, Refused}
 use Rattle.laws.proofs.AcceptedQuestions.{Accepted, none-refused-accepted}
-use Rattle.laws.proofs.ArenaCallLaws.{wrote-decided-refused, wrote-decided}
-use Rattle.arena.proofs.ReadNodes.{sizes, node-zero, no-node}
+use Rattle.laws.proofs.ArenaCallLaws.{refused-before, on-arena-asks, finishes-refused, finishes-done}
+use Rattle.arena.proofs.ReadNodes.{sizes}
+use Rattle.validate.proofs.AskingLaws.{node-zero-passed}
 use Rattle.deepening.specs.Deepened.{CanDeepen}
 use Rattle.deepening.specs.ChildNames.{Deepened, seedFrom, Seeded}
 
--- ---- The questions of an arena that holds a graph
+-- ---- The questions
 
-module _ (child bs : List ℕ) (o : ValidArena bs) where
-  abbrev ownRefusal : ℕ
-  ownRefusal = refusal (deepenQuestions child (decode bs))
+module _ (child bs : List ℕ) where
+  -- questions 1 and 2 and the calls' own, in one list
+  abbrev pub asked : List Question
+  asked = askArena bs (deepenQuestions child (decode bs))
 
-  pub refused-no-node : countIn bs ≡ 0 → 3 ≡ ownRefusal
-  refused-no-node none = rw (no-node bs o none)
+  -- questions 5 and 7
+  abbrev nameQuestions : List Question
+  nameQuestions = ask 5 (wellFormed child && endsInName child) ∷ ask 7 (pathsFit (deepen (lastName child) (decode bs))) ∷ []
 
-  module _ (some : 0 < countIn bs) where
-    pub refused-no-path : wellFormed child ≡ false → 5 ≡ ownRefusal
-    refused-no-path e = rw (node-zero bs o some, e)
+  pub refused-first : (r : Refusal) → refusalNumber r ≡ refusal (askArena bs (hasNodeZero (decode bs) ∷ [])) → refusalNumber r ≡ refusal asked
+  refused-first r e = refused-before r (askArena bs (hasNodeZero (decode bs) ∷ [])) nameQuestions e
+
+  module _ (o : ValidArena bs) (some : 0 < countIn bs) where
+    name-left : refusal asked ≡ refusal nameQuestions
+    name-left = node-zero-passed bs nameQuestions o some
+
+    pub refused-no-path : wellFormed child ≡ false → 5 ≡ refusal asked
+    refused-no-path e = sym (name-left ∙ rw e)
 
     module _ (right : wellFormed child ≡ true) (name : List ℕ) (last : name ≡ lastName child) where
-      pub refused-no-name : length name ≡ 0 → 5 ≡ ownRefusal
+      pub refused-no-name : length name ≡ 0 → 5 ≡ refusal asked
       unfolding endsInName
-      refused-no-name e = rw (node-zero bs o some, right, ← last, le-ltb 0 (length name) (omega arith))
+      refused-no-name e = sym (name-left ∙ rw (right, ← last, le-ltb 0 (length name) (omega arith)))
 
       module _ (long : length name ≡ 0 → ⊥) where
         ends : endsInName child ≡ true
         unfolding endsInName
         ends = rw (← last) (lt-ltb 0 (length name) (omega (arith, long)))
 
-        pub refused-no-room : pathsFit (deepen name (decode bs)) ≡ false → 7 ≡ ownRefusal
-        refused-no-room e = rw (node-zero bs o some, right, ends, ← last, e)
+        pub refused-no-room : pathsFit (deepen name (decode bs)) ≡ false → 7 ≡ refusal asked
+        refused-no-room e = sym (name-left ∙ rw (right, ends, ← last, e))
 
-        pub refused-none : pathsFit (deepen name (decode bs)) ≡ true → 0 ≡ ownRefusal
-        refused-none e = rw (node-zero bs o some, right, ends, ← last, e)
+        pub refused-none : pathsFit (deepen name (decode bs)) ≡ true → 0 ≡ refusal asked
+        refused-none e = sym (name-left ∙ rw (right, ends, ← last, e))
 
 -- ---- Where every question passes
 
 module _ (child bs : List ℕ) where
-  -- questions 1 and 2 and the call's own, in one list
-  abbrev pub asked : List Question
-  asked = askArena bs (deepenQuestions child (decode bs))
-
   abbrev deepened : Graph
   deepened = deepen (lastName child) (decode bs)
 
-  pub can-deepen : 0 ≡ refusal asked → (name : List ℕ) → name ≡ lastName child → CanDeepen bs name
-  can-deepen e name last = rw last (given (none-refused-accepted asked refl (sym e)))
+  pub can-deepen : 0 ≡ refusal (asked child bs) → (name : List ℕ) → name ≡ lastName child → CanDeepen bs name
+  can-deepen e name last = rw last (given (none-refused-accepted (asked child bs) refl (sym e)))
     where
-      given : Accepted asked → CanDeepen bs (lastName child)
+      given : Accepted (asked child bs) → CanDeepen bs (lastName child)
       given a =
           let o : ValidArena bs = record { whole = eqb-true (length bs) arenaBytes (a 1); holds = a 2 } in
           let path = and-eq-true-iff (wellFormed child) (endsInName child) .0 (a 5) in
@@ -78,38 +83,19 @@ module _ (child bs : List ℕ) where
             fits = a 7;
           }
 
--- ---- How a call ends that gives nothing but its refusal
-
-module _ (questions : List Question) (g result : Graph) (bs : List ℕ) where
-  ends-refused : (r : Refusal) → refusalNumber r ≡ refusal questions → Finishes (decided questions g 0 result) bs (Refused r) bs
-  ends-refused r e = let wrote = wrote-decided-refused questions g 0 result bs r e in record { refused = wrote .refused; arena = wrote .arena }
-
-  ends-done : (after : List ℕ) → 0 ≡ refusal questions → after ≡ encode result bs → Finishes (decided questions g 0 result) bs Done after
-  ends-done after e a = let wrote = wrote-decided questions g 0 result bs after 0 (sym e) refl a in record { refused = wrote .refused; arena = wrote .arena }
-
 -- ---- In place
 
 module _ (child bs : List ℕ) where
   deepen-asks : onArena (appendChildName child) bs ≡ decided (asked child bs) (decode bs) 0 (deepened child bs)
-  unfolding onArena appendChildName
-  deepen-asks = go (isArena bs) (holdsGraph bs)
-    where
-      questions : List Question
-      questions = deepenQuestions child (decode bs)
-
-      go : (s h : Bool)
-          → cond s (cond h (decided questions (decode bs) 0 (deepened child bs)) (unchanged 2 (decode bs))) (unchanged 1 (decode bs))
-          ≡ decided (ask 1 s ∷ ask 2 h ∷ questions) (decode bs) 0 (deepened child bs)
-      go true true = refl
-      go true false = refl
-      go false h = refl
+  unfolding appendChildName
+  deepen-asks = on-arena-asks bs (appendChildName child) (deepenQuestions child (decode bs)) 0 (deepened child bs) refl
 
   pub deepen-refused : (r : Refusal) → refusalNumber r ≡ refusal (asked child bs) → Deepened child bs (Refused r) bs
-  deepen-refused r e = rw deepen-asks (ends-refused (asked child bs) (decode bs) (deepened child bs) bs r e)
+  deepen-refused r e = rw deepen-asks (finishes-refused (asked child bs) (decode bs) 0 (deepened child bs) bs r e)
 
   pub deepen-done : 0 ≡ refusal (asked child bs) → (name : List ℕ) → name ≡ lastName child → (after : List ℕ)
       → after ≡ encode (deepen name (decode bs)) bs → Deepened child bs Done after
-  deepen-done e name last after a = rw deepen-asks (ends-done (asked child bs) (decode bs) (deepened child bs) bs after e (rw last at a))
+  deepen-done e name last after a = rw deepen-asks (finishes-done (asked child bs) (decode bs) 0 (deepened child bs) bs after (sym e) (rw last at a))
 
 -- ---- Into a second arena
 
@@ -134,16 +120,16 @@ module _ (child bs into : List ℕ) where
       go false s h = refl
 
   pub seed-not-arena : (length into ≡ arenaBytes → ⊥) → Seeded child bs into (Refused Size) into
-  seed-not-arena h = rw seed-asks (ends-refused both emptyGraph (deepened child bs) into Size (rw (ne-eqb (length into) arenaBytes h)))
+  seed-not-arena h = rw seed-asks (finishes-refused both emptyGraph 0 (deepened child bs) into Size (rw (ne-eqb (length into) arenaBytes h)))
 
   module _ (large : length into ≡ arenaBytes) where
     left-to-ask : refusal (asked child bs) ≡ refusal both
     left-to-ask = rw (eq-eqb (length into) arenaBytes large)
 
     pub seed-refused : (r : Refusal) → refusalNumber r ≡ refusal (asked child bs) → Seeded child bs into (Refused r) into
-    seed-refused r e = rw seed-asks (ends-refused both emptyGraph (deepened child bs) into r (e ∙ left-to-ask))
+    seed-refused r e = rw seed-asks (finishes-refused both emptyGraph 0 (deepened child bs) into r (e ∙ left-to-ask))
 
     pub seed-done : 0 ≡ refusal (asked child bs) → (name : List ℕ) → name ≡ lastName child → (after : List ℕ)
         → after ≡ encode (deepen name (decode bs)) into → Seeded child bs into Done after
     seed-done e name last after a =
-        rw seed-asks (ends-done both emptyGraph (deepened child bs) into after (e ∙ left-to-ask) (rw last at a))
+        rw seed-asks (finishes-done both emptyGraph 0 (deepened child bs) into after (sym (e ∙ left-to-ask)) (rw last at a))

@@ -2,13 +2,12 @@
 // `requires`: each puts its questions, the size of each buffer and whether the arena that is read
 // holds a graph first, and is refused by the first whose answer is no; then every lent byte is as
 // it was. specs/ChildNames.antt says what each answers and leaves.
-use model::NumberResult;
 use model::Refusal;
 use model::UnitResult;
 ghost use mathlib.Core.Path.{_≡_};
 ghost use Rattle.model.specs.Answers.{unitRefusal};
-ghost use Rattle.model.specs.Arena.{countIn, decode};
-ghost use Rattle.model.specs.ArenaCalls.{ValidArena, askArena};
+ghost use Rattle.model.specs.Arena.{decode};
+ghost use Rattle.model.specs.ArenaCalls.{askArena};
 ghost use Rattle.model.specs.Calls.{deepenQuestions};
 ghost use Rattle.model.specs.Refusals.{refusal};
 ghost use Rattle.deepening.specs.ChildNames.{Deepened, Seeded};
@@ -17,32 +16,23 @@ ghost use Rattle.deepening.specs.ChildNames.{Deepened, Seeded};
 fn ask(arena: &[u8], child: &[u8]) -> UnitResult
     ensures { λ r. ⌜ unitRefusal r ≡ refusal (askArena (now (arena .entry)) (deepenQuestions (now (child .entry)) (decode (now (arena .entry))))) ⌝ }
 {
-    let counted = validate::count(arena);
-    match counted {
-        NumberResult::Number(nodes) => ask_opened(arena, nodes, child),
-        NumberResult::Refused(refusal) => UnitResult::Refused(refusal),
+    let asked = validate::ask_node_zero(arena);
+    match asked {
+        UnitResult::Done => {
+            if !path::is_well_formed(child) {
+                return UnitResult::Refused(Refusal::Path);
+            }
+            let name = path::last_name(child);
+            if name.len() == 0 {
+                return UnitResult::Refused(Refusal::Path);
+            }
+            if !crate::appending::paths_fit(arena, name) {
+                return UnitResult::Refused(Refusal::Capacity);
+            }
+            UnitResult::Done
+        }
+        UnitResult::Refused(refusal) => UnitResult::Refused(refusal),
     }
-}
-
-// Questions 3, 5 and 7 of an arena that holds a graph.
-fn ask_opened(arena: &[u8], count: u32, child: &[u8]) -> UnitResult
-    requires { ⌜ ValidArena (now arena) × (count ≡ countIn (now arena)) ⌝ }
-    ensures { λ r. ⌜ unitRefusal r ≡ refusal (deepenQuestions (now (child .entry)) (decode (now (arena .entry)))) ⌝ }
-{
-    if count == 0 {
-        return UnitResult::Refused(Refusal::NodeZero);
-    }
-    if !path::is_well_formed(child) {
-        return UnitResult::Refused(Refusal::Path);
-    }
-    let name = path::last_name(child);
-    if name.len() == 0 {
-        return UnitResult::Refused(Refusal::Path);
-    }
-    if !crate::appending::paths_fit(arena, name) {
-        return UnitResult::Refused(Refusal::Capacity);
-    }
-    UnitResult::Done
 }
 
 // Appends the last name of the child's path to the path of every node. Refused 1, 2, 3, 5 where the

@@ -1,5 +1,5 @@
--- What the calls that cull and erase answer and leave, by model/specs/Calls.antt and
--- ArenaCalls.antt.
+-- What the calls that find the erasable set and erase a set answer and leave, by
+-- model/specs/Calls.antt and ArenaCalls.antt.
 use mathlib.Core.Path.{_≡_}
 use mathlib.Core.Bool.{Bool, _&&_, cond}
 use mathlib.Core.List.{List, [], _∷_}
@@ -7,17 +7,13 @@ use Prim.Native.Nat.{ℕ}
 use lib.Dec.{eqb}
 use lib.ListN.{length}
 use Rattle.model.specs.Refusals.{Question, ask, refusal}
-use Rattle.model.specs.Calls.{Outcome, unchanged, hasNodeZero, cull, eraseSet}
+use Rattle.model.specs.Calls.{Outcome, unchanged, hasNodeZero, eraseSet}
 use Rattle.model.specs.Erasing.{erasable}
 use Rattle.model.specs.Arena.{decode, holdsGraph}
 use Rattle.model.specs.Answers.{unitRefusal}
-use Rattle.model.specs.ArenaCalls.{isArena, onArena, Wrote, Finishes}
+use Rattle.model.specs.ArenaCalls.{isArena, onArena, Wrote}
 use Rattle.model.specs.declared.UnitResult.{UnitResult}
 use Rattle.model.specs.declared.NumberResult.{NumberResult}
-
--- culling: the refusal, and the arena after it
-abbrev pub Culled : List ℕ → UnitResult → List ℕ → Type 0
-Culled before r after = Finishes (onArena cull before) before r after
 
 -- question 1 is put of both buffers
 abbrev pub isSet : List ℕ → List ℕ → Bool

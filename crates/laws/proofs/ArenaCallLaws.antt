@@ -1,8 +1,9 @@
--- What questions 1 and 2 leave of a call's questions, and the answers that are right: one law for
--- each way a call can end, whatever its questions are. Assumes nothing.
+-- What the first questions of a call say of all of them (`refused-before`, `passed-opened`), and
+-- the answers that are right: one law for each way a call can end, whatever its questions are.
+-- Assumes nothing.
 use mathlib.Core.Path.{_≡_, refl, sym, ap, _∙_}
-use mathlib.Core.Bool.{Bool, true, false}
-use mathlib.Core.List.{List, [], _∷_}
+use mathlib.Core.Bool.{Bool, true, false, cond}
+use mathlib.Core.List.{List, [], _∷_, _++_}
 use Prim.Native.Nat.{ℕ, zero, suc}
 use native.Mathlib.Omega.{arith}
 use lib.ListN.{length}
@@ -11,10 +12,11 @@ use Rattle.model.specs.Graph.{Graph}
 use Rattle.model.specs.Refusals.{refusalNumber, Question, ask, refusal}
 use Rattle.model.specs.Calls.{Outcome, unchanged, settled, decided}
 use Rattle.model.specs.Arena.{arenaBytes, decode, encode, holdsGraph}
-use Rattle.model.specs.ArenaCalls.{isArena, ValidArena, onArena, Wrote, askArena, valueUnless, Answers, Answered}
+use Rattle.model.specs.ArenaCalls.{isArena, ValidArena, onArena, Wrote, Finishes, askArena, valueUnless, Answers, Answered}
 use Rattle.model.specs.declared.Refusal.{Refusal}
 use Rattle.model.specs.declared.Refusal.the-variants.{Size, NotAGraph, NodeZero, Node as NodeNumber, Path, Kind, Capacity, NotSiblings, NoOrder, NotOrdered, EraseSet, Snapshot}
 use Rattle.model.specs.declared.NumberResult.the-variants.{Number, Refused as NumberRefused}
+use Rattle.model.specs.declared.UnitResult.the-variants.{Done, Refused as FinishRefused}
 
 -- ---- Refusals
 
@@ -32,6 +34,16 @@ refusal-some NoOrder e = omega arith
 refusal-some NotOrdered e = omega arith
 refusal-some EraseSet e = omega arith
 refusal-some Snapshot e = omega arith
+
+-- a refusal by the first questions is that of every list that begins with them
+pub refused-before : (r : Refusal) (first more : List Question) → refusalNumber r ≡ refusal first → refusalNumber r ≡ refusal (first ++ more)
+refused-before r [] more e = absurd (refusal-some r e)
+refused-before r (q ∷ first) more e = go (q .passes) e (refused-before r first more)
+  where
+    go : (passes : Bool) → refusalNumber r ≡ cond passes (refusal first) (q .number)
+        → (refusalNumber r ≡ refusal first → refusalNumber r ≡ refusal (first ++ more)) → refusalNumber r ≡ cond passes (refusal (first ++ more)) (q .number)
+    go true e rest = rest e
+    go false e rest = e
 
 module _ (questions : List Question) (value : ℕ) where
   pub answered-refused : (r : Refusal) → refusalNumber r ≡ refusal questions → Answers questions value (refusalNumber r) 0
@@ -56,24 +68,17 @@ module _ (bs : List ℕ) where
   pub asked-on : (qs : List Question) → ValidArena bs → refusal (askArena bs qs) ≡ refusal qs
   asked-on qs o = rw (eq-eqb (length bs) arenaBytes (o .whole), o .holds)
 
-  -- what the count's answer says of every call's questions
-  pub count-number : (value n : ℕ) → Answered (askArena bs []) value (Number n) → ValidArena bs × (n ≡ value)
-  count-number value n a = go (isArena bs) refl (holdsGraph bs) refl (a .refused) (a .value)
+  pub passed-opened : (qs : List Question) → refusal (askArena bs qs) ≡ 0 → ValidArena bs
+  passed-opened qs e = go (isArena bs) refl (holdsGraph bs) refl e
     where
-      go : (s : Bool) → isArena bs ≡ s → (h : Bool) → holdsGraph bs ≡ h → 0 ≡ refusal (ask 1 s ∷ ask 2 h ∷ [])
-          → n ≡ valueUnless (refusal (ask 1 s ∷ ask 2 h ∷ [])) value → ValidArena bs × (n ≡ value)
-      go true s true h e v = (record { whole = eqb-true (length bs) arenaBytes s; holds = h }, v)
-      go true s false h e v = absurd (omega arith)
-      go false s h q e v = absurd (omega arith)
+      go : (s : Bool) → isArena bs ≡ s → (h : Bool) → holdsGraph bs ≡ h → refusal (ask 1 s ∷ ask 2 h ∷ qs) ≡ 0 → ValidArena bs
+      go true s true h e = record { whole = eqb-true (length bs) arenaBytes s; holds = h }
+      go true s false h e = absurd (omega arith)
+      go false s h q e = absurd (omega arith)
 
-  pub count-refused : (value : ℕ) (r : Refusal) → Answered (askArena bs []) value (NumberRefused r) → (qs : List Question)
-      → refusalNumber r ≡ refusal (askArena bs qs)
-  count-refused value r a qs = go (isArena bs) (holdsGraph bs) (a .refused)
-    where
-      go : (s h : Bool) → refusalNumber r ≡ refusal (ask 1 s ∷ ask 2 h ∷ []) → refusalNumber r ≡ refusal (ask 1 s ∷ ask 2 h ∷ qs)
-      go true true e = absurd (refusal-some r e)
-      go true false e = e
-      go false h e = e
+  -- what the count's answer says
+  pub count-number : (value n : ℕ) → Answered (askArena bs []) value (Number n) → ValidArena bs × (n ≡ value)
+  count-number value n a = (passed-opened [] (sym (a .refused)), a .value ∙ ap (λ (k : ℕ). valueUnless k value) (sym (a .refused)))
 
 -- a call that puts its own questions to an arena that holds a graph puts them all
 pub answered-more : (bs : List ℕ) (qs : List Question) (value : ℕ) {number given : ℕ} → ValidArena bs → Answers qs value number given
@@ -94,22 +99,24 @@ pub wrote-number : (bs after : List ℕ) (o : Outcome) (n : ℕ) → o .refused 
 wrote-number bs after o n e v a = record { refused = sym e; value = v; arena = rw (eq-eqb (o .refused) 0 e) a }
 
 module _ (bs : List ℕ) (f : Graph → Outcome) where
-  pub wrote-not-arena : isArena bs ≡ false → Wrote (onArena f bs) bs (NumberRefused Size) bs
-  unfolding onArena
-  wrote-not-arena e = wrote-refused bs (onArena f bs) Size (rw e) (rw e)
-
-  pub wrote-not-graph : isArena bs ≡ true → holdsGraph bs ≡ false → Wrote (onArena f bs) bs (NumberRefused NotAGraph) bs
-  unfolding onArena
-  wrote-not-graph e h = wrote-refused bs (onArena f bs) NotAGraph (rw (e, h)) (rw (e, h))
-
   pub on-opened : ValidArena bs → onArena f bs ≡ f (decode bs)
   unfolding onArena
   on-opened o = rw (eq-eqb (length bs) arenaBytes (o .whole), o .holds)
 
-module _ (questions : List Question) (g : Graph) (value : ℕ) (result : Graph) where
-  pub decided-refused : (k : ℕ) → refusal questions ≡ suc k → decided questions g value result ≡ unchanged (suc k) g
-  decided-refused k e = rw e
+  -- questions 1 and 2 and the call's own, in one list
+  pub on-arena-asks : (questions : List Question) (value : ℕ) (result : Graph) → f (decode bs) ≡ decided questions (decode bs) value result
+      → onArena f bs ≡ decided (askArena bs questions) (decode bs) value result
+  unfolding onArena
+  on-arena-asks questions value result e = go (isArena bs) (holdsGraph bs)
+    where
+      go : (s h : Bool)
+          → cond s (cond h (f (decode bs)) (unchanged 2 (decode bs))) (unchanged 1 (decode bs))
+          ≡ decided (ask 1 s ∷ ask 2 h ∷ questions) (decode bs) value result
+      go true true = e
+      go true false = refl
+      go false h = refl
 
+module _ (questions : List Question) (g : Graph) (value : ℕ) (result : Graph) where
   pub decided-accepted : refusal questions ≡ 0 → decided questions g value result ≡ record { refused = 0; value = value; graph = result }
   decided-accepted e = rw e
 
@@ -125,3 +132,10 @@ module _ (questions : List Question) (g : Graph) (value : ℕ) (result : Graph) 
       → Wrote (decided questions g value result) bs (Number n) after
   wrote-decided bs after n e v a =
       rw (decided-accepted e) (wrote-number bs after (record { refused = 0; value = value; graph = result }) n refl v a)
+
+  -- of a call that gives nothing but its refusal
+  pub finishes-refused : (bs : List ℕ) (r : Refusal) → refusalNumber r ≡ refusal questions → Finishes (decided questions g value result) bs (FinishRefused r) bs
+  finishes-refused bs r e = let wrote = wrote-decided-refused bs r e in record { refused = wrote .refused; arena = wrote .arena }
+
+  pub finishes-done : (bs after : List ℕ) → refusal questions ≡ 0 → after ≡ encode result bs → Finishes (decided questions g value result) bs Done after
+  finishes-done bs after e a = let wrote = wrote-decided bs after value e refl a in record { refused = wrote .refused; arena = wrote .arena }

@@ -14,18 +14,19 @@ use Rattle.model.specs.Node.{invalid, rootArc, isCulled}
 use Rattle.model.specs.Graph.{Graph, size, nodeAt, withNode}
 use Rattle.model.specs.Refusals.{refusalNumber, Question, ask, refusal, pathBytes, arcAllowed, linksAllowed, recordQuestions}
 use Rattle.model.specs.Calls as calls
-use Rattle.model.specs.Calls.{hasNodeZero, initRoot, given, givenBelow, depthOr, defaultDepth, addedNode, rootNode, addChild}
+use Rattle.model.specs.Calls.{decided, hasNodeZero, initRoot, given, givenBelow, depthOr, defaultDepth, addedNode, rootNode, addChild}
 use Rattle.model.specs.Arena.{countIn, primCountIn, decode, encode}
-use Rattle.model.specs.ArenaCalls.{ValidArena, ValidNode, onArena, Wrote}
+use Rattle.model.specs.ArenaCalls.{ValidArena, ValidNode, onArena, Wrote, askArena}
 use Rattle.model.specs.declared.Refusal.{Refusal}
 use Rattle.model.specs.declared.Refusal.the-variants.{NodeZero, Path}
 use Rattle.model.specs.declared.NumberResult.the-variants.{Number, Refused as NumberRefused}
-use Rattle.laws.proofs.ArenaCallLaws.{on-opened, wrote-decided-refused, wrote-decided}
+use Rattle.laws.proofs.ArenaCallLaws.{refused-before, asked-on, on-arena-asks, wrote-decided-refused, wrote-decided}
 use Rattle.laws.proofs.AcceptedQuestions.{none-refused-accepted}
 use Rattle.laws.proofs.PathGrammar.{well-formed-length}
 use Rattle.arena.specs.Slot.{nodeOf}
 use Rattle.arena.proofs.HeldArenas.{held}
-use Rattle.arena.proofs.ReadNodes.{sizes, node-zero, no-node, node-read}
+use Rattle.arena.proofs.ReadNodes.{sizes, node-read}
+use Rattle.validate.proofs.AskingLaws.{node-zero-passed}
 use Rattle.child_lists.specs.Append.{CanAppend}
 use Rattle.nodes.specs.declared.description.NodeDesc.{NodeDesc}
 use Rattle.nodes.specs.declared.description.Depth.{Depth}
@@ -143,66 +144,86 @@ module _ (bs : List ℕ) (o : ValidArena bs) (desc : NodeDesc) (path : List ℕ)
 
 -- ---- The ways that the calls end
 
-module _ (bs : List ℕ) (o : ValidArena bs) (d : calls.NodeDesc) where
-  pub add-to-none : countIn bs ≡ 0 → Wrote (onArena (addChild d) bs) bs (NumberRefused NodeZero) bs
-  unfolding addChild
-  add-to-none e =
-      let none : 3 ≡ refusal (hasNodeZero (decode bs) ∷ addQuestions (decode bs) d) = rw (no-node bs o e) in
-      rw (on-opened bs (addChild d) o) (wrote-decided-refused (hasNodeZero (decode bs) ∷ addQuestions (decode bs) d) (decode bs) _ _ bs NodeZero none)
+module _ (bs : List ℕ) (d : calls.NodeDesc) where
+  -- questions 1 and 2 and the call's own, in one list
+  abbrev addAsked : List Question
+  addAsked = askArena bs (hasNodeZero (decode bs) ∷ addQuestions (decode bs) d)
 
-  module _ (some : 0 < countIn bs) where
-    asked : refusal (hasNodeZero (decode bs) ∷ addQuestions (decode bs) d) ≡ refusal (addQuestions (decode bs) d)
-    asked = rw (node-zero bs o some)
+  abbrev added : Graph
+  added = withNode (decode bs) (addedNode (decode bs) d)
+
+  add-asks : onArena (addChild d) bs ≡ decided addAsked (decode bs) (size (decode bs)) added
+  unfolding addChild
+  add-asks = on-arena-asks bs (addChild d) (hasNodeZero (decode bs) ∷ addQuestions (decode bs) d) (size (decode bs)) added refl
+
+  refused-by : (r : Refusal) → refusalNumber r ≡ refusal addAsked → Wrote (onArena (addChild d) bs) bs (NumberRefused r) bs
+  refused-by r e = rw add-asks (wrote-decided-refused addAsked (decode bs) (size (decode bs)) added bs r e)
+
+  -- by questions 1 to 3
+  pub add-refused-first : (r : Refusal) → refusalNumber r ≡ refusal (askArena bs (hasNodeZero (decode bs) ∷ []))
+      → Wrote (onArena (addChild d) bs) bs (NumberRefused r) bs
+  add-refused-first r e = refused-by r (refused-before r (askArena bs (hasNodeZero (decode bs) ∷ [])) (addQuestions (decode bs) d) e)
+
+  module _ (o : ValidArena bs) (some : 0 < countIn bs) where
+    node-left : refusal addAsked ≡ refusal (addQuestions (decode bs) d)
+    node-left = node-zero-passed bs (addQuestions (decode bs) d) o some
 
     pub add-refused : (r : Refusal) → refusalNumber r ≡ refusal (addQuestions (decode bs) d) → Wrote (onArena (addChild d) bs) bs (NumberRefused r) bs
-    unfolding addChild
-    add-refused r e = rw (on-opened bs (addChild d) o) (wrote-decided-refused (hasNodeZero (decode bs) ∷ addQuestions (decode bs) d) (decode bs) _ _ bs r (e ∙ sym asked))
+    add-refused r e = refused-by r (e ∙ sym node-left)
 
-    pub add-done : (after : List ℕ) (n : ℕ) → refusal (addQuestions (decode bs) d) ≡ 0 → n ≡ countIn bs
-        → after ≡ encode (withNode (decode bs) (addedNode (decode bs) d)) bs → Wrote (onArena (addChild d) bs) bs (Number n) after
-    unfolding addChild
-    add-done after n e c a = rw (on-opened bs (addChild d) o) (wrote-decided (hasNodeZero (decode bs) ∷ addQuestions (decode bs) d) (decode bs) _ _ bs after n (asked ∙ e) (c ∙ sym (sizes bs o)) a)
+    pub add-done : (after : List ℕ) (n : ℕ) → refusal (addQuestions (decode bs) d) ≡ 0 → n ≡ countIn bs → after ≡ encode added bs
+        → Wrote (onArena (addChild d) bs) bs (Number n) after
+    add-done after n e c a =
+        rw add-asks (wrote-decided addAsked (decode bs) (size (decode bs)) added bs after n (node-left ∙ e) (c ∙ sym (sizes bs o)) a)
 
-module _ (bs : List ℕ) (o : ValidArena bs) (stack layer : ℕ) (path : List ℕ) where
+module _ (bs : List ℕ) (stack layer : ℕ) (path : List ℕ) where
   abbrev startQuestions : List Question
   startQuestions = ask 3 (eqb (size (decode bs)) 0) ∷ ask 5 (wellFormed path) ∷ []
 
   abbrev started : Graph
   started = withNode (decode bs) (rootNode stack layer path)
 
-  pub start-over : (countIn bs ≡ 0 → ⊥) → Wrote (onArena (initRoot stack layer path) bs) bs (NumberRefused NodeZero) bs
+  start-asks : onArena (initRoot stack layer path) bs ≡ decided (askArena bs startQuestions) (decode bs) 0 started
   unfolding initRoot
-  start-over e =
-      let there : 3 ≡ refusal startQuestions = rw (ne-eqb (size (decode bs)) 0 (λ z. e (sym (sizes bs o) ∙ z))) in
-      rw (on-opened bs (initRoot stack layer path) o) (wrote-decided-refused startQuestions (decode bs) 0 started bs NodeZero there)
+  start-asks = on-arena-asks bs (initRoot stack layer path) startQuestions 0 started refl
 
-  module _ (none : countIn bs ≡ 0) where
-    empty : size (decode bs) ≡ 0
-    empty = sizes bs o ∙ none
+  refused-start : (r : Refusal) → refusalNumber r ≡ refusal (askArena bs startQuestions)
+      → Wrote (onArena (initRoot stack layer path) bs) bs (NumberRefused r) bs
+  refused-start r e = rw start-asks (wrote-decided-refused (askArena bs startQuestions) (decode bs) 0 started bs r e)
 
-    pub start-malformed : wellFormed path ≡ false → Wrote (onArena (initRoot stack layer path) bs) bs (NumberRefused Path) bs
-    unfolding initRoot
-    start-malformed e =
-        let malformed : 5 ≡ refusal startQuestions = rw (eq-eqb (size (decode bs)) 0 empty, e) in
-        rw (on-opened bs (initRoot stack layer path) o) (wrote-decided-refused startQuestions (decode bs) 0 started bs Path malformed)
+  -- by questions 1 and 2
+  pub start-refused : (r : Refusal) → refusalNumber r ≡ refusal (askArena bs []) → Wrote (onArena (initRoot stack layer path) bs) bs (NumberRefused r) bs
+  start-refused r e = refused-start r (refused-before r (askArena bs []) startQuestions e)
 
-    pub start-done : (after : List ℕ) → wellFormed path ≡ true → after ≡ encode (withNode (decode bs) (rootNode stack layer path)) bs
-        → Wrote (onArena (initRoot stack layer path) bs) bs (Number 0) after
-    unfolding initRoot
-    start-done after e a =
-        let passed : refusal startQuestions ≡ 0 = rw (eq-eqb (size (decode bs)) 0 empty, e) in
-        rw (on-opened bs (initRoot stack layer path) o) (wrote-decided startQuestions (decode bs) 0 started bs after 0 passed refl a)
+  module _ (o : ValidArena bs) where
+    pub start-over : (countIn bs ≡ 0 → ⊥) → Wrote (onArena (initRoot stack layer path) bs) bs (NumberRefused NodeZero) bs
+    start-over e =
+        refused-start NodeZero (sym (asked-on bs startQuestions o ∙ rw (ne-eqb (size (decode bs)) 0 (λ z. e (sym (sizes bs o) ∙ z)))))
 
-    no-bytes : (ns : List model.Node) → length ns ≡ 0 → pathBytes ns ≡ 0
-    no-bytes [] e = refl
-    no-bytes (y ∷ ns) e = absurd (omega arith)
+    module _ (none : countIn bs ≡ 0) where
+      empty : size (decode bs) ≡ 0
+      empty = sizes bs o ∙ none
 
-    pub can-start : (prims : ℕ) → wellFormed path ≡ true → prims ≡ primCount path → CanAppend bs 0 (startRecord stack layer prims (length path)) path
-    can-start prims e p = record {
-      opened = o;
-      counted = sym none;
-      accepted = ap (λ (y : model.Node). refusal (recordQuestions (decode bs) y)) (start-node stack layer prims path p)
-          ∙ start-accepted (decode bs) stack layer path empty (no-bytes (decode bs .nodes) empty) e;
-      named = p;
-      long = refl;
-    }
+      path-left : refusal (askArena bs startQuestions) ≡ refusal (ask 5 (wellFormed path) ∷ [])
+      path-left = asked-on bs startQuestions o ∙ rw (eq-eqb (size (decode bs)) 0 empty)
+
+      pub start-malformed : wellFormed path ≡ false → Wrote (onArena (initRoot stack layer path) bs) bs (NumberRefused Path) bs
+      start-malformed e = refused-start Path (sym (path-left ∙ rw e))
+
+      pub start-done : (after : List ℕ) → wellFormed path ≡ true → after ≡ encode started bs
+          → Wrote (onArena (initRoot stack layer path) bs) bs (Number 0) after
+      start-done after e a = rw start-asks (wrote-decided (askArena bs startQuestions) (decode bs) 0 started bs after 0 (path-left ∙ rw e) refl a)
+
+      no-bytes : (ns : List model.Node) → length ns ≡ 0 → pathBytes ns ≡ 0
+      no-bytes [] e = refl
+      no-bytes (y ∷ ns) e = absurd (omega arith)
+
+      pub can-start : (prims : ℕ) → wellFormed path ≡ true → prims ≡ primCount path → CanAppend bs 0 (startRecord stack layer prims (length path)) path
+      can-start prims e p = record {
+        opened = o;
+        counted = sym none;
+        accepted = ap (λ (y : model.Node). refusal (recordQuestions (decode bs) y)) (start-node stack layer prims path p)
+            ∙ start-accepted (decode bs) stack layer path empty (no-bytes (decode bs .nodes) empty) e;
+        named = p;
+        long = refl;
+      }

@@ -57,50 +57,47 @@ fn start_record(stack: u32, layer: u32, prims: u16, path_length: usize) -> arena
 pub fn init_root(arena: &mut [u8], stack: u32, layer: u32, path: &[u8]) -> NumberResult
     ensures { λ r. ⌜ Wrote (onArena (initRoot stack layer (now (path .entry))) (now (arena .entry))) (now (arena .entry)) r (now (arena .exit)) ⌝ }
 {
-    if arena.len() != 327744 {
-        return NumberResult::Refused(Refusal::Size);
+    let asked = validate::ask_graph(arena);
+    match asked {
+        UnitResult::Done => {
+            if arena::count(arena) != 0 {
+                return NumberResult::Refused(Refusal::NodeZero);
+            }
+            let read = path::prim_count(path);
+            let PrimCount::Names(prims) = read else {
+                return NumberResult::Refused(Refusal::Path);
+            };
+            child_lists::append_node(
+                arena,
+                0,
+                start_record(stack, layer, prims, path.len()),
+                path,
+            );
+            NumberResult::Number(0)
+        }
+        UnitResult::Refused(refusal) => NumberResult::Refused(refusal),
     }
-    if !validate::is_graph(arena) {
-        return NumberResult::Refused(Refusal::NotAGraph);
-    }
-    if arena::count(arena) != 0 {
-        return NumberResult::Refused(Refusal::NodeZero);
-    }
-    let read = path::prim_count(path);
-    let PrimCount::Names(prims) = read else {
-        return NumberResult::Refused(Refusal::Path);
-    };
-    child_lists::append_node(
-        arena,
-        0,
-        start_record(stack, layer, prims, path.len()),
-        path,
-    );
-    NumberResult::Number(0)
 }
 
 // Adds the node as the last child of its parent and answers its number. Refused 1 to 7.
 pub fn add_child(arena: &mut [u8], desc: NodeDesc, path: &[u8]) -> NumberResult
     ensures { λ r. ⌜ Wrote (onArena (addChild (descOf desc (now (path .entry)))) (now (arena .entry))) (now (arena .entry)) r (now (arena .exit)) ⌝ }
 {
-    if arena.len() != 327744 {
-        return NumberResult::Refused(Refusal::Size);
-    }
-    if !validate::is_graph(arena) {
-        return NumberResult::Refused(Refusal::NotAGraph);
-    }
-    let count = arena::count(arena);
-    if count == 0 {
-        return NumberResult::Refused(Refusal::NodeZero);
-    }
-    let checked = crate::description::check_desc(arena, count, desc, path);
-    match checked {
-        Checked::Accepted(prims) => {
-            let node = crate::description::added_record(arena, desc, prims, path.len());
-            child_lists::append_node(arena, count, node, path);
-            NumberResult::Number(count)
+    let asked = validate::ask_node_zero(arena);
+    match asked {
+        UnitResult::Done => {
+            let count = arena::count(arena);
+            let checked = crate::description::check_desc(arena, count, desc, path);
+            match checked {
+                Checked::Accepted(prims) => {
+                    let node = crate::description::added_record(arena, desc, prims, path.len());
+                    child_lists::append_node(arena, count, node, path);
+                    NumberResult::Number(count)
+                }
+                Checked::Refused(refusal) => NumberResult::Refused(refusal),
+            }
         }
-        Checked::Refused(refusal) => NumberResult::Refused(refusal),
+        UnitResult::Refused(refusal) => NumberResult::Refused(refusal),
     }
 }
 
@@ -262,23 +259,14 @@ fn lowest(arena: &[u8], count: u32, stack: u32, path: &[u8]) -> u32
 pub fn node_using_site(arena: &[u8], stack: u32, path: &[u8]) -> NumberResult
     ensures { λ r. ⌜ Answered (askArena (now (arena .entry)) (calls.usesSite (decode (now (arena .entry))) (now (path .entry)))) (nodeUsingSite stack (now (path .entry)) (decode (now (arena .entry)))) r ⌝ }
 {
-    let counted = validate::count(arena);
-    match counted {
-        NumberResult::Number(nodes) => lowest_asked(arena, nodes, stack, path),
-        NumberResult::Refused(refusal) => NumberResult::Refused(refusal),
+    let asked = validate::ask_node_zero(arena);
+    match asked {
+        UnitResult::Done => {
+            if !path::is_well_formed(path) {
+                return NumberResult::Refused(Refusal::Path);
+            }
+            NumberResult::Number(lowest(arena, arena::count(arena), stack, path))
+        }
+        UnitResult::Refused(refusal) => NumberResult::Refused(refusal),
     }
-}
-
-// The same of an arena that holds a graph: questions 3 and 5.
-fn lowest_asked(arena: &[u8], count: u32, stack: u32, path: &[u8]) -> NumberResult
-    requires { ⌜ ValidArena (now arena) × (count ≡ countIn (now arena)) ⌝ }
-    ensures { λ r. ⌜ Answered (calls.usesSite (decode (now (arena .entry))) (now (path .entry))) (nodeUsingSite stack (now (path .entry)) (decode (now (arena .entry)))) r ⌝ }
-{
-    if count == 0 {
-        return NumberResult::Refused(Refusal::NodeZero);
-    }
-    if !path::is_well_formed(path) {
-        return NumberResult::Refused(Refusal::Path);
-    }
-    NumberResult::Number(lowest(arena, count, stack, path))
 }

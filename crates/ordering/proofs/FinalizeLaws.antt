@@ -3,22 +3,22 @@
 use mathlib.Core.Path.{_≡_, refl, sym, ap, _∙_}
 use mathlib.Core.Bool.{Bool, true, false, _||_, cond}
 use mathlib.Core.List.{List, [], _∷_}
-use Prim.Native.Nat.{ℕ, zero, suc, _<_}
+use Prim.Native.Nat.{ℕ, _<_}
 use lib.Dec.{eqb}
 use borrow.Author.Tests.{eq-eqb, ne-eqb}
 use Rattle.model.specs.Graph.{Graph}
 use Rattle.model.specs.Order.{hasOrder, ordering}
 use Rattle.model.specs.Refusals.{refusalNumber, Question, ask, refusal}
-use Rattle.model.specs.Calls.{unchanged, settled, decided, hasNodeZero, finalizeStrengthOrder}
-use Rattle.model.specs.Arena.{countIn, finalizedIn, decode, encode, holdsGraph}
-use Rattle.model.specs.ArenaCalls.{isArena, ValidArena, onArena, askArena}
+use Rattle.model.specs.Calls.{decided, hasNodeZero, finalizeStrengthOrder}
+use Rattle.model.specs.Arena.{countIn, finalizedIn, decode, encode}
+use Rattle.model.specs.ArenaCalls.{ValidArena, onArena, askArena}
 use Rattle.model.specs.declared.Refusal.{Refusal}
 use Rattle.model.specs.declared.Refusal.the-variants.{NoOrder}
 use Rattle.model.specs.declared.UnitResult.the-variants.{Done, Refused}
 use Rattle.laws.proofs.BigEndianLaws.{Bytes}
-use Rattle.laws.proofs.ArenaCallLaws.{refusal-some, asked-on, on-opened, decided-accepted}
+use Rattle.laws.proofs.ArenaCallLaws.{refused-before, on-arena-asks, finishes-refused, finishes-done}
 use Rattle.arena.proofs.ArenaBack.{encode-decode}
-use Rattle.arena.proofs.ReadNodes.{node-zero}
+use Rattle.validate.proofs.AskingLaws.{node-zero-passed}
 use Rattle.ordering.specs.Ordering.{OrderedArena}
 use Rattle.ordering.specs.Finalizing.{Finalized}
 
@@ -26,47 +26,40 @@ finalized-read : (bs : List ℕ) → decode bs .finalized ≡ eqb (finalizedIn b
 unfolding decode
 finalized-read bs = refl
 
-abbrev pub finalizeQuestions : Graph → List Question
+abbrev finalizeQuestions : Graph → List Question
 finalizeQuestions g = hasNodeZero g ∷ ask 9 (g .finalized || hasOrder g) ∷ []
 
--- its refusal is that of questions 1 and 2, and then of its own
-finalize-asks : (bs : List ℕ) → onArena finalizeStrengthOrder bs .refused ≡ refusal (askArena bs (finalizeQuestions (decode bs)))
-unfolding onArena finalizeStrengthOrder
-finalize-asks bs = go (isArena bs) (holdsGraph bs)
-  where
-    g : Graph
-    g = decode bs
+module _ (bs : List ℕ) where
+  -- questions 1 and 2 and the call's own, in one list
+  abbrev asked : List Question
+  asked = askArena bs (finalizeQuestions (decode bs))
 
-    own : (k : ℕ) → settled k g 0 (cond (g .finalized) g (ordering g)) .refused ≡ k
-    own zero = refl
-    own (suc k) = refl
-
-    go : (s h : Bool)
-        → cond s (cond h (decided (finalizeQuestions g) g 0 (cond (g .finalized) g (ordering g))) (unchanged 2 g)) (unchanged 1 g) .refused
-        ≡ refusal (ask 1 s ∷ ask 2 h ∷ finalizeQuestions g)
-    go true true = own (refusal (finalizeQuestions g))
-    go true false = refl
-    go false h = refl
-
-pub finalize-refused : (bs : List ℕ) (r : Refusal) → refusalNumber r ≡ refusal (askArena bs (finalizeQuestions (decode bs))) → Finalized bs (Refused r) bs
-finalize-refused bs r e =
-    let q = e ∙ sym (finalize-asks bs) in
-    record { refused = q; arena = rw (ne-eqb (onArena finalizeStrengthOrder bs .refused) 0 (λ z. refusal-some r (q ∙ z))) }
-
-module _ (bs : List ℕ) (o : ValidArena bs) (some : 0 < countIn bs) where
   abbrev result : Bool → Graph
   result finalized = cond finalized (decode bs) (ordering (decode bs))
 
-  -- where every question passes
-  module _ (passes : (decode bs .finalized || hasOrder (decode bs)) ≡ true) where
-    accepted : onArena finalizeStrengthOrder bs ≡ record { refused = 0; value = 0; graph = result (decode bs .finalized) }
-    unfolding finalizeStrengthOrder
-    accepted =
-        on-opened bs finalizeStrengthOrder o ∙ decided-accepted (finalizeQuestions (decode bs)) (decode bs) 0 _ (rw (node-zero bs o some, passes))
+  finalize-asks : onArena finalizeStrengthOrder bs ≡ decided asked (decode bs) 0 (result (decode bs .finalized))
+  unfolding finalizeStrengthOrder
+  finalize-asks = on-arena-asks bs finalizeStrengthOrder (finalizeQuestions (decode bs)) 0 (result (decode bs .finalized)) refl
 
-    done : (finalized : Bool) → decode bs .finalized ≡ finalized → (after : List ℕ) → after ≡ encode (result finalized) bs → Finalized bs Done after
-    done finalized e after a =
-        record { refused = rw accepted; arena = rw accepted (a ∙ ap (λ (t : Bool). encode (result t) bs) (sym e)) }
+  refused-by : (r : Refusal) → refusalNumber r ≡ refusal asked → Finalized bs (Refused r) bs
+  refused-by r e = rw finalize-asks (finishes-refused asked (decode bs) 0 (result (decode bs .finalized)) bs r e)
+
+  -- by questions 1 to 3
+  pub finalize-refused : (r : Refusal) → refusalNumber r ≡ refusal (askArena bs (hasNodeZero (decode bs) ∷ [])) → Finalized bs (Refused r) bs
+  finalize-refused r e =
+      refused-by r (refused-before r (askArena bs (hasNodeZero (decode bs) ∷ [])) (ask 9 (decode bs .finalized || hasOrder (decode bs)) ∷ []) e)
+
+module _ (bs : List ℕ) (o : ValidArena bs) (some : 0 < countIn bs) where
+  order-left : refusal (asked bs) ≡ refusal (ask 9 (decode bs .finalized || hasOrder (decode bs)) ∷ [])
+  order-left = node-zero-passed bs (ask 9 (decode bs .finalized || hasOrder (decode bs)) ∷ []) o some
+
+  -- where every question passes
+  done : (decode bs .finalized || hasOrder (decode bs)) ≡ true → (finalized : Bool) → decode bs .finalized ≡ finalized → (after : List ℕ)
+      → after ≡ encode (result bs finalized) bs → Finalized bs Done after
+  done passes finalized e after a =
+      rw (finalize-asks bs)
+      (finishes-done (asked bs) (decode bs) 0 (result bs (decode bs .finalized)) bs after (order-left ∙ rw passes)
+      (a ∙ ap (λ (t : Bool). encode (result bs t) bs) (sym e)))
 
   -- question 9 is not asked, and nothing changes
   pub finalize-again : Bytes bs → finalizedIn bs ≡ 1 → Finalized bs Done bs
@@ -78,8 +71,8 @@ module _ (bs : List ℕ) (o : ValidArena bs) (some : 0 < countIn bs) where
     unmarked : decode bs .finalized ≡ false
     unmarked = finalized-read bs ∙ ne-eqb (finalizedIn bs) 1 f
 
-    asked : (t : Bool) → hasOrder (decode bs) ≡ t → (decode bs .finalized || hasOrder (decode bs)) ≡ t
-    asked t e = ap (λ (b : Bool). b || hasOrder (decode bs)) unmarked ∙ e
+    order-asked : (t : Bool) → hasOrder (decode bs) ≡ t → (decode bs .finalized || hasOrder (decode bs)) ≡ t
+    order-asked t e = ap (λ (b : Bool). b || hasOrder (decode bs)) unmarked ∙ e
 
     -- question 9 is asked by ordering, which says whether there is an order and writes it
     module _ (answer : Bool) (after : List ℕ) (ordered : OrderedArena bs answer after) where
@@ -88,9 +81,7 @@ module _ (bs : List ℕ) (o : ValidArena bs) (some : 0 < countIn bs) where
 
       pub no-order : answer ≡ false → Finalized bs (Refused NoOrder) after
       no-order e =
-          let asks : refusal (askArena bs (finalizeQuestions (decode bs))) ≡ 9 =
-          asked-on bs (finalizeQuestions (decode bs)) o ∙ rw (node-zero bs o some, asked false (sym (ordered .answer) ∙ e)) in
-          rw (bytes-of false e) (finalize-refused bs NoOrder (sym asks))
+          rw (bytes-of false e) (refused-by bs NoOrder (sym (order-left ∙ rw (order-asked false (sym (ordered .answer) ∙ e)))))
 
       pub finalize-done : answer ≡ true → Finalized bs Done after
-      finalize-done e = done (asked true (sym (ordered .answer) ∙ e)) false unmarked after (bytes-of true e)
+      finalize-done e = done (order-asked true (sym (ordered .answer) ∙ e)) false unmarked after (bytes-of true e)

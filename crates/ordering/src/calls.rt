@@ -18,28 +18,19 @@ ghost use Rattle.ordering.specs.OrderReading.{entriesIn, orderBytes, Ord
 pub fn finalize_strength_order(arena: &mut [u8]) -> UnitResult
     ensures { λ r. ⌜ Finalized (now (arena .entry)) r (now (arena .exit)) ⌝ }
 {
-    let counted = validate::count(arena);
-    match counted {
-        NumberResult::Number(nodes) => finalize_asked(arena, nodes),
-        NumberResult::Refused(refusal) => UnitResult::Refused(refusal),
+    let asked = validate::ask_node_zero(arena);
+    match asked {
+        UnitResult::Done => {
+            if arena::finalized(arena) == 1 {
+                return UnitResult::Done;
+            }
+            if !crate::writing::order_graph(arena) {
+                return UnitResult::Refused(Refusal::NoOrder);
+            }
+            UnitResult::Done
+        }
+        UnitResult::Refused(refusal) => UnitResult::Refused(refusal),
     }
-}
-
-// The same of an arena that holds a graph: questions 3 and 9.
-fn finalize_asked(arena: &mut [u8], count: u32) -> UnitResult
-    requires { ⌜ ValidArena (now arena) × (count ≡ countIn (now arena)) ⌝ }
-    ensures { λ r. ⌜ Finalized (now (arena .entry)) r (now (arena .exit)) ⌝ }
-{
-    if count == 0 {
-        return UnitResult::Refused(Refusal::NodeZero);
-    }
-    if arena::finalized(arena) == 1 {
-        return UnitResult::Done;
-    }
-    if !crate::writing::order_graph(arena) {
-        return UnitResult::Refused(Refusal::NoOrder);
-    }
-    UnitResult::Done
 }
 
 // Question 10: whether the order counts.
@@ -58,27 +49,18 @@ pub fn strength_order(arena: &[u8], out: &mut [u8]) -> NumberResult
     if out.len() != 4096 {
         return NumberResult::Refused(Refusal::Size);
     }
-    let counted = validate::count(arena);
-    match counted {
-        NumberResult::Number(nodes) => order_asked(arena, nodes, out),
-        NumberResult::Refused(refusal) => NumberResult::Refused(refusal),
+    let asked = validate::ask_node_zero(arena);
+    match asked {
+        UnitResult::Done => {
+            if !is_ordered(arena) {
+                return NumberResult::Refused(Refusal::NotOrdered);
+            }
+            let count = arena::count(arena);
+            write_entries(arena, count, out);
+            NumberResult::Number(count)
+        }
+        UnitResult::Refused(refusal) => NumberResult::Refused(refusal),
     }
-}
-
-// The same of an arena that holds a graph: questions 3 and 10.
-fn order_asked(arena: &[u8], count: u32, out: &mut [u8]) -> NumberResult
-    requires { ⌜ ValidArena (now arena) × (count ≡ countIn (now arena)) ⌝ }
-    requires { ⌜ length (now out) ≡ 4096 ⌝ }
-    ensures { λ r. ⌜ OrderWritten (now (arena .entry)) (now (out .entry)) r (now (out .exit)) ⌝ }
-{
-    if count == 0 {
-        return NumberResult::Refused(Refusal::NodeZero);
-    }
-    if !is_ordered(arena) {
-        return NumberResult::Refused(Refusal::NotOrdered);
-    }
-    write_entries(arena, count, out);
-    NumberResult::Number(count)
 }
 
 // Writes the entries of the order, one after the other.
@@ -98,26 +80,14 @@ fn write_entries(arena: &[u8], count: u32, out: &mut [u8])
 pub fn order_entry(arena: &[u8], place: u32) -> NumberResult
     ensures { λ r. ⌜ Answered (askArena (now (arena .entry)) (readsEntry (decode (now (arena .entry))) place)) (getD (decode (now (arena .entry)) .order) place 0) r ⌝ }
 {
-    let counted = validate::count(arena);
-    match counted {
-        NumberResult::Number(nodes) => entry_asked(arena, nodes, place),
-        NumberResult::Refused(refusal) => NumberResult::Refused(refusal),
+    let asked = validate::ask_node(arena, place);
+    match asked {
+        UnitResult::Done => {
+            if !is_ordered(arena) {
+                return NumberResult::Refused(Refusal::NotOrdered);
+            }
+            NumberResult::Number(arena::order_entry(arena, place))
+        }
+        UnitResult::Refused(refusal) => NumberResult::Refused(refusal),
     }
-}
-
-// The same of an arena that holds a graph: questions 3, 4 and 10.
-fn entry_asked(arena: &[u8], count: u32, place: u32) -> NumberResult
-    requires { ⌜ ValidArena (now arena) × (count ≡ countIn (now arena)) ⌝ }
-    ensures { λ r. ⌜ Answered (readsEntry (decode (now (arena .entry))) place) (getD (decode (now (arena .entry)) .order) place 0) r ⌝ }
-{
-    if count == 0 {
-        return NumberResult::Refused(Refusal::NodeZero);
-    }
-    if place >= count {
-        return NumberResult::Refused(Refusal::Node);
-    }
-    if !is_ordered(arena) {
-        return NumberResult::Refused(Refusal::NotOrdered);
-    }
-    NumberResult::Number(arena::order_entry(arena, place))
 }

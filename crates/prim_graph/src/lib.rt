@@ -6,11 +6,12 @@
 // Starting and adding are in crates/nodes, the count in crates/validate, what is read of the header
 // or one node in crates/nodes, the node that uses a site in crates/nodes, the comparisons in
 // crates/strength, class hierarchies in crates/strength, ordering in crates/ordering, reading the
-// order in crates/ordering, culling and erasing in crates/erasing, appending a child's name in
-// crates/deepening, reading and writing a snapshot in crates/snapshot. Nothing is defined here.
+// order in crates/ordering, culling in crates/culling, erasing in crates/erasing, appending a
+// child's name in crates/deepening, reading and writing a snapshot in crates/snapshot. Nothing is
+// defined here.
+pub use culling::calls::cull_subtrees_without_opinions;
 pub use deepening::calls::append_child_name_to_all_sites;
 pub use deepening::calls::seed_child;
-pub use erasing::calls::cull_subtrees_without_opinions;
 pub use erasing::calls::erasable;
 pub use erasing::calls::erase;
 pub use nodes::Depth;

@@ -6,7 +6,9 @@ mod questions;
 mod record;
 
 pub use graph::is_graph;
+pub use questions::ask_graph;
 pub use questions::ask_node;
+pub use questions::ask_node_zero;
 pub use questions::ask_nodes;
 pub use questions::ask_siblings;
 pub use questions::count;

@@ -1,7 +1,7 @@
 // The questions that calls put first: the size of the buffer and whether it holds a graph; whether
-// one node, or two, can be read; and whether two nodes have one parent. No public function has a
-// `requires`: each puts its questions in document 01's order and is refused by the first whose
-// answer is no. Nothing is written.
+// it has a node; whether one node, or two, can be read; and whether two nodes have one parent. No
+// public function has a `requires`: each puts its questions in document 01's order and is refused
+// by the first whose answer is no. Nothing is written.
 // The questions are in model/specs/Calls.antt and ArenaCalls.antt.
 use model::NumberResult;
 use model::Refusal;
@@ -13,44 +13,47 @@ ghost use lib.Dec.{eqb, ltb};
 ghost use Rattle.model.specs.Answers.{unitRefusal};
 ghost use Rattle.model.specs.Arena.{countIn, decode};
 ghost use Rattle.model.specs.ArenaCalls.{ValidArena, ValidNode, askArena, Answered};
-ghost use Rattle.model.specs.Calls.{readsNode, comparesNodes, comparesSiblings};
+ghost use Rattle.model.specs.Calls.{hasNodeZero, readsNode, comparesNodes, comparesSiblings};
 ghost use Rattle.model.specs.Graph.{nodeAt};
 ghost use Rattle.model.specs.Refusals.{ask, refusal};
+
+// Questions 1 and 2: whether the arena holds a graph.
+pub fn ask_graph(arena: &[u8]) -> UnitResult
+    ensures { λ r. ⌜ unitRefusal r ≡ refusal (askArena (now (arena .entry)) []) ⌝ }
+{
+    if arena.len() != 327744 {
+        return UnitResult::Refused(Refusal::Size);
+    }
+    if !crate::graph::is_graph(arena) {
+        return UnitResult::Refused(Refusal::NotAGraph);
+    }
+    UnitResult::Done
+}
 
 // How many nodes the graph has: none in an empty one. Refused 1 or 2.
 pub fn count(arena: &[u8]) -> NumberResult
     ensures { λ r. ⌜ Answered (askArena (now (arena .entry)) []) (countIn (now (arena .entry))) r ⌝ }
 {
-    if arena.len() != 327744 {
-        return NumberResult::Refused(Refusal::Size);
+    let asked = ask_graph(arena);
+    match asked {
+        UnitResult::Done => NumberResult::Number(arena::count(arena)),
+        UnitResult::Refused(refusal) => NumberResult::Refused(refusal),
     }
-    if !crate::graph::is_graph(arena) {
-        return NumberResult::Refused(Refusal::NotAGraph);
-    }
-    NumberResult::Number(arena::count(arena))
 }
 
-// Questions 3 and 4, of a graph with `count` nodes.
-fn ask_below(count: u32, n: u32) -> UnitResult
-    ensures { λ r. ⌜ unitRefusal r ≡ refusal (ask 3 (ltb 0 count) ∷ ask 4 (ltb n count) ∷ []) ⌝ }
+// Questions 1 to 3: whether the graph has a node.
+pub fn ask_node_zero(arena: &[u8]) -> UnitResult
+    ensures { λ r. ⌜ unitRefusal r ≡ refusal (askArena (now (arena .entry)) (hasNodeZero (decode (now (arena .entry))) ∷ [])) ⌝ }
 {
-    if count == 0 {
-        return UnitResult::Refused(Refusal::NodeZero);
-    }
-    if n >= count {
-        return UnitResult::Refused(Refusal::Node);
-    }
-    UnitResult::Done
-}
-
-// Questions 1 to 4: whether node n can be read.
-pub fn ask_node(arena: &[u8], n: u32) -> UnitResult
-    ensures { λ r. ⌜ unitRefusal r ≡ refusal (askArena (now (arena .entry)) (readsNode (decode (now (arena .entry))) n)) ⌝ }
-{
-    let counted = count(arena);
-    match counted {
-        NumberResult::Number(nodes) => ask_below(nodes, n),
-        NumberResult::Refused(refusal) => UnitResult::Refused(refusal),
+    let asked = ask_graph(arena);
+    match asked {
+        UnitResult::Done => {
+            if arena::count(arena) == 0 {
+                return UnitResult::Refused(Refusal::NodeZero);
+            }
+            UnitResult::Done
+        }
+        UnitResult::Refused(refusal) => UnitResult::Refused(refusal),
     }
 }
 
@@ -63,6 +66,17 @@ fn ask_number(arena: &[u8], n: u32) -> UnitResult
         return UnitResult::Refused(Refusal::Node);
     }
     UnitResult::Done
+}
+
+// Questions 1 to 4: whether node n can be read.
+pub fn ask_node(arena: &[u8], n: u32) -> UnitResult
+    ensures { λ r. ⌜ unitRefusal r ≡ refusal (askArena (now (arena .entry)) (readsNode (decode (now (arena .entry))) n)) ⌝ }
+{
+    let asked = ask_node_zero(arena);
+    match asked {
+        UnitResult::Done => ask_number(arena, n),
+        UnitResult::Refused(refusal) => UnitResult::Refused(refusal),
+    }
 }
 
 // Questions 1 to 4 of two nodes. The arena is checked once.

@@ -1,10 +1,9 @@
 -- `graph_info` meets its contract. Assumes nothing.
 use borrow.Author.Needs.{needs}
 use mathlib.Core.Path.{_≡_}
-use mathlib.Core.List.{[]}
 use Rattle.model.specs.Arena.{countIn}
 use Rattle.model.specs.ArenaCalls.{ValidArena}
-use Rattle.laws.proofs.ArenaCallLaws.{count-number, count-refused}
+use Rattle.laws.proofs.ArenaCallLaws.{count-number}
 use Rattle.nodes.proofs.QueryLaws.{no-graph, one-graph}
 use Rattle.nodes.proofs.calls.graph_info.Statement.{statement}
 use Rattle.nodes.proofs.calls.graph_info.Tie as tie
@@ -31,10 +30,7 @@ returns : tie.Need-returns
 returns c = one-graph _ _ (opened (c .before) .0) (c .read-info .ensures)
 
 returns-2 : tie.Need-returns-2
-returns-2 c =
-    let bs = c .before .before .before .before .before .args .arena .now in
-    no-graph bs _
-    (count-refused bs (countIn bs) (c .before .counted2 .given .0 .0) (rw (c .before .counted2 .given .1) at (c .before .before .before .count .ensures)) [])
+returns-2 c = no-graph _ _ (rw (c .before .counted2 .given .1) at (c .before .before .before .count .ensures .refused))
 
 pub graph-info-spec : {M : Type 1} → statement M
 graph-info-spec =

@@ -1,58 +1,52 @@
--- `ask_node` meets its contract: where the arena holds a graph, questions 3 and 4 are left. Assumes
--- nothing.
+-- `ask_node` meets its contract: where the graph has a node, question 4 is left. Assumes nothing.
 use borrow.Author.Needs.{needs}
-use mathlib.Core.Path.{_≡_, sym, ap, _∙_}
+use mathlib.Core.Path.{sym, ap, _∙_}
 use mathlib.Core.List.{[], _∷_}
-use Prim.Native.Nat.{ℕ}
+use Prim.Native.Nat.{ℕ, _<_}
 use lib.Dec.{ltb}
 use Rattle.model.specs.Arena.{countIn, decode}
-use Rattle.model.specs.Calls.{readsNode}
+use Rattle.model.specs.Graph.{size}
+use Rattle.model.specs.Calls.{hasNodeZero}
 use Rattle.model.specs.Refusals.{ask, refusal}
-use Rattle.model.specs.ArenaCalls.{ValidArena}
-use Rattle.laws.proofs.ArenaCallLaws.{asked-on, count-number, count-refused}
+use Rattle.model.specs.ArenaCalls.{ValidArena, askArena}
+use Rattle.laws.proofs.ArenaCallLaws.{refused-before}
 use Rattle.arena.proofs.ReadNodes.{sizes}
+use Rattle.validate.proofs.AskingLaws.{some-node, node-zero-passed}
 use Rattle.validate.proofs.questions.ask_node.Statement.{statement}
 use Rattle.validate.proofs.questions.ask_node.Tie as tie
 
--- where the count is answered, the arena holds a graph and that is its count
-opened : (c : tie.After-known-told)
-    → ValidArena (c .before .before .before .before .before .args .arena .now) × (c .before .counted .given .0 .0 ≡ countIn (c .before .before .before .before .before .args .arena .now))
-opened c =
-    count-number _ _ _ (rw (c .before .counted .given .1) at (c .before .before .before .count .ensures))
+-- questions 1 to 3 pass
+has-node : (c : tie.After-enum-told) → let bs = c .before .before .before .before .args .arena .now in ValidArena bs × (0 < countIn bs)
+has-node c = some-node _ (sym (rw (c .enum-told .given .1) at (c .before .before .ask-node-zero .ensures)))
 
-count-requires : tie.Need-count-requires
-count-requires c κs = search needs
+ask-node-zero-requires : tie.Need-ask-node-zero-requires
+ask-node-zero-requires c κs = search needs
 
-enum-known-counted : tie.Need-enum-known-counted
-enum-known-counted c = search needs
+enum-told : tie.Need-enum-told
+enum-told c = search needs
 
-ask-below-requires : tie.Need-ask-below-requires
-ask-below-requires c κs = search needs
+ask-number-requires : tie.Need-ask-number-requires
+ask-number-requires c κs = has-node c .0
 
-enum-known-counted-2 : tie.Need-enum-known-counted-2
-enum-known-counted-2 c = search needs
+enum-known-asked : tie.Need-enum-known-asked
+enum-known-asked c = search needs
 
 returns : tie.Need-returns
 returns c =
-    let bs = c .before .before .before .before .before .before .args .arena .now in
-    let n = c .before .before .before .before .before .before .args .n in
-    let o = opened (c .before) in
-    c .ask-below .ensures ∙ ap (λ (k : ℕ). refusal (ask 3 (ltb 0 k) ∷ ask 4 (ltb n k) ∷ [])) (o .1 ∙ sym (sizes bs (o .0)))
-    ∙ sym (asked-on bs (readsNode (decode bs) n) (o .0))
+    let a = c .before .before .before .before .before .args in
+    let bs = a .arena .now in
+    let there = has-node (c .before) in
+    c .ask-number .ensures ∙ ap (λ (k : ℕ). refusal (ask 4 (ltb (a .n) k) ∷ [])) (sym (sizes bs (there .0)))
+    ∙ sym (node-zero-passed bs (ask 4 (ltb (a .n) (size (decode bs))) ∷ []) (there .0) (there .1))
 
 returns-2 : tie.Need-returns-2
 returns-2 c =
-    let bs = c .before .before .before .before .before .args .arena .now in
-    count-refused bs (countIn bs) (c .before .counted2 .given .0 .0) (rw (c .before .counted2 .given .1) at (c .before .before .before .count .ensures))
-    (readsNode (decode bs) (c .before .before .before .before .before .args .n))
+    let a = c .before .before .before .before .before .args in
+    let g = decode (a .arena .now) in
+    refused-before (c .before .asked .given .0 .0) (askArena (a .arena .now) (hasNodeZero g ∷ [])) (ask 4 (ltb (a .n) (size g)) ∷ [])
+    (rw (c .before .asked .given .1) at (c .before .before .before .ask-node-zero .ensures))
 
 pub ask-node-spec : {M : Type 1} → statement M
 ask-node-spec =
     tie.close
-    (tie.spec
-    count-requires
-    enum-known-counted
-    ask-below-requires
-    enum-known-counted-2
-    returns
-    returns-2)
+    (tie.spec ask-node-zero-requires enum-told ask-number-requires enum-known-asked returns returns-2)

@@ -1,8 +1,13 @@
 -- `ask_siblings` meets its contract: where both nodes pass, question 8 is left. Assumes nothing.
 use borrow.Author.Needs.{needs}
 use mathlib.Core.Path.{sym, _∙_}
-use Rattle.model.specs.ArenaCalls.{ValidNode}
-use Rattle.validate.proofs.AskingLaws.{both-readable, parents-left, refused-nodes}
+use mathlib.Core.List.{[], _∷_}
+use Rattle.model.specs.Refusals.{ask}
+use Rattle.model.specs.Calls.{comparesNodes}
+use Rattle.model.specs.Arena.{decode}
+use Rattle.model.specs.ArenaCalls.{ValidNode, askArena}
+use Rattle.laws.proofs.ArenaCallLaws.{refused-before}
+use Rattle.validate.proofs.AskingLaws.{oneParent, both-readable, parents-left}
 use Rattle.validate.proofs.questions.ask_siblings.Statement.{statement}
 use Rattle.validate.proofs.questions.ask_siblings.Tie as tie
 
@@ -32,7 +37,9 @@ returns c =
 returns-2 : tie.Need-returns-2
 returns-2 c =
     let a = c .before .before .before .before .before .args in
-    refused-nodes (a .arena .now) (a .a) (a .b) (c .before .asked .given .0 .0) (rw (c .before .asked .given .1) at (c .before .before .before .ask-nodes .ensures))
+    let bs = a .arena .now in
+    refused-before (c .before .asked .given .0 .0) (askArena bs (comparesNodes (decode bs) (a .a) (a .b))) (ask 8 (oneParent bs (a .a) (a .b)) ∷ [])
+    (rw (c .before .asked .given .1) at (c .before .before .before .ask-nodes .ensures))
 
 pub ask-siblings-spec : {M : Type 1} → statement M
 ask-siblings-spec =

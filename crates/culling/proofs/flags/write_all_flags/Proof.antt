@@ -7,8 +7,8 @@ use borrow.Author.Needs.{needs}
 use lib.ListN.{length, getD}
 use Rattle.arena.specs.Slot.{flagsStored}
 use Rattle.culling.specs.Culled.{flagsWritten}
-use Rattle.culling.proofs.write_all_flags.Statement.{statement}
-use Rattle.culling.proofs.write_all_flags.Tie as tie
+use Rattle.culling.proofs.flags.write_all_flags.Statement.{statement}
+use Rattle.culling.proofs.flags.write_all_flags.Tie as tie
 
 abbrev Inv-loop : tie.InvT-loop
 Inv-loop arena₀ count flags n₀ arena n = (n ≤ count) × (length arena ≡ length arena₀) × (arena ≡ flagsWritten flags n arena₀)

@@ -12,8 +12,8 @@ use Rattle.view.specs.View.{ValidNodeAndRoot}
 use Rattle.view.proofs.ViewLaws.{seen}
 use Rattle.culling.specs.Culled.{withCulled}
 use Rattle.culling.proofs.DecidingLaws.{Deciding, stands, deciding-start, here-below, parent-below, step-culled, step-left, deciding-end}
-use Rattle.culling.proofs.find_flags.Statement.{statement}
-use Rattle.culling.proofs.find_flags.Tie as tie
+use Rattle.culling.proofs.flags.find_flags.Statement.{statement}
+use Rattle.culling.proofs.flags.find_flags.Tie as tie
 
 abbrev Inv-loop : tie.InvT-loop
 Inv-loop arena count root unculled₀ flags₀ n₀ unculled flags n = Deciding arena unculled flags n

@@ -7,8 +7,8 @@ use Rattle.laws.proofs.BigEndianLaws.{Bytes}
 use Rattle.laws.proofs.StoredLaws.{bytes-by-place}
 use Rattle.culling.proofs.DecidingLaws.{zeros-clear, few}
 use Rattle.culling.proofs.FlagStores.{encode-culled}
-use Rattle.culling.proofs.cull_rooted.Statement.{statement}
-use Rattle.culling.proofs.cull_rooted.Tie as tie
+use Rattle.culling.proofs.flags.cull_rooted.Statement.{statement}
+use Rattle.culling.proofs.flags.cull_rooted.Tie as tie
 
 bytes : (c : tie.After-slice-known) → Bytes (c .before .args .arena .now)
 bytes c = bytes-by-place (c .before .args .arena .now) (λ k. c .slice-known .given k .fits)

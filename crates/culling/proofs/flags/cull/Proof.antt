@@ -5,8 +5,8 @@ use native.Mathlib.Omega.{arith}
 use Rattle.laws.proofs.BigEndianLaws.{Bytes}
 use Rattle.laws.proofs.StoredLaws.{bytes-by-place}
 use Rattle.culling.proofs.FlagStores.{encode-empty, encode-unrooted}
-use Rattle.culling.proofs.cull.Statement.{statement}
-use Rattle.culling.proofs.cull.Tie as tie
+use Rattle.culling.proofs.flags.cull.Statement.{statement}
+use Rattle.culling.proofs.flags.cull.Tie as tie
 
 bytes : (c : tie.After-slice-known) → Bytes (c .before .args .arena .now)
 bytes c = bytes-by-place (c .before .args .arena .now) (λ k. c .slice-known .given k .fits)
