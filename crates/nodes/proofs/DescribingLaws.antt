@@ -7,14 +7,14 @@ use mathlib.Core.List.{List, [], _∷_}
 use Prim.Native.Nat.{ℕ, suc, _+_, _-_, _≤_, _<_}
 use native.Mathlib.Omega.{arith}
 use native.Mathlib.Numerals.{add-one}
-use lib.Dec.{eqb, ltb, leb}
+use lib.Dec.{eqb, ltb}
 use lib.ListN.{length}
 use borrow.Author.Tests.{ne-eqb, lt-ltb}
 use Rattle.model.specs.Path.{wellFormed}
 use Rattle.model.specs.Node as model
-use Rattle.model.specs.Node.{invalid, rootArc, isCulled}
+use Rattle.model.specs.Node.{invalid}
 use Rattle.model.specs.Graph.{Graph, size, hasLocalRoot}
-use Rattle.model.specs.Refusals.{ask, refusal, pathBytes, hasRoom, arcAllowed}
+use Rattle.model.specs.Refusals.{ask, refusal, pathBytes, hasRoom, addedKind}
 use Rattle.model.specs.Calls as calls
 use Rattle.model.specs.Calls.{given, givenBelow, addedNode}
 use Rattle.model.specs.Arena.{countIn, recordLengthIn, nodeIn, tabulate, decode, localRootIn}
@@ -24,9 +24,11 @@ use Rattle.arena.proofs.ArenaBack.{fresh-legal, fresh-nodes}
 use Rattle.arena.proofs.SlotLaws.{path-length}
 use Rattle.arena.proofs.ReadNodes.{sizes, has-path, root-found, root-held}
 use Rattle.validate.specs.declared.record.Checked.{Checked}
-use Rattle.validate.specs.RecordCheck.{linksAt, questionsAt, RecordChecked}
+use Rattle.validate.specs.declared.record.Before.{Before}
+use Rattle.validate.specs.declared.record.RecordNumbers.{RecordNumbers}
+use Rattle.validate.specs.RecordCheck.{numbersOf, beforeNext, linksAt, questionsAt, RecordChecked}
 use Rattle.nodes.specs.declared.description.NodeDesc.{NodeDesc}
-use Rattle.nodes.specs.Describing.{descOf, addQuestions, DescChecked, numberOr, specsTold}
+use Rattle.nodes.specs.Describing.{descOf, addQuestions, DescChecked, numberOr}
 
 -- ---- The path bytes
 
@@ -87,30 +89,11 @@ module _ (g : Graph) (d : calls.NodeDesc) (some : 0 < size g) where
       go false true = same (ltb (d .fields .parent) (size g))
       go false false = refl
 
-  -- question 6, where the check is told 2 of a culled node's has-specs
-  kind-asked : (arcs : Bool)
-      → (arcs && (not (eqb (x .arc) rootArc && isCulled x) && leb (specsTold (x .flags) (x .hasSpecs)) 1))
-      ≡ (arcs && (not (isCulled x) && leb (x .hasSpecs) 1))
-  kind-asked arcs = go (eqb (x .arc) rootArc) (isCulled x)
-    where
-      go : (a c : Bool) → (arcs && (not (a && c) && leb (cond c 2 (x .hasSpecs)) 1)) ≡ (arcs && (not c && leb (x .hasSpecs) 1))
-      go true true = refl
-      go false true = refl
-      go true false = refl
-      go false false = refl
-
-  pub add-questions :
-      refusal (questionsAt (size g) (pathBytes (g .nodes)) (hasLocalRoot (g .nodes)) (x .arc) (x .flags) (x .parent) (x .origin)
-      (specsTold (x .flags) (x .hasSpecs)) (x .path))
-      ≡ refusal (addQuestions g d)
+  pub add-questions : refusal (questionsAt (beforeNext g false) (numbersOf x) (x .path)) ≡ refusal (addQuestions g d)
   add-questions =
-      let links : linksAt (size g) (x .arc) (x .flags) (x .parent) (x .origin) ≡ (givenBelow (size g) (d .fields .parent) && givenBelow (size g) (d .fields .origin)) =
+      let links : linksAt (beforeNext g false) (numbersOf x) ≡ (givenBelow (size g) (d .fields .parent) && givenBelow (size g) (d .fields .origin)) =
       rw (ne-eqb (size g) 0 (λ z. omega arith)) links-asked in
-      ap (λ (t : Bool). refusal (ask 4 t ∷ ask 5 (wellFormed (x .path))
-      ∷ ask 6 (arcAllowed g x && (not (eqb (x .arc) rootArc && isCulled x) && leb (specsTold (x .flags) (x .hasSpecs)) 1)) ∷ ask 7 (hasRoom g x) ∷ []))
-      links
-      ∙ ap (λ (t : Bool). refusal (ask 4 (givenBelow (size g) (d .fields .parent) && givenBelow (size g) (d .fields .origin)) ∷ ask 5 (wellFormed (x .path))
-      ∷ ask 6 t ∷ ask 7 (hasRoom g x) ∷ [])) (kind-asked (arcAllowed g x))
+      ap (λ (t : Bool). refusal (ask 4 t ∷ ask 5 (wellFormed (x .path)) ∷ ask 6 (addedKind g x) ∷ ask 7 (hasRoom g x) ∷ [])) links
 
 pub turned : (t : Bool) (a b : ℕ) → cond t a b ≡ cond (not t) b a
 turned true a b = refl
@@ -123,22 +106,27 @@ module _ (bs : List ℕ) (o : ValidArena bs) (desc : NodeDesc) (path : List ℕ)
   abbrev g : Graph
   g = decode bs
 
+  -- what comes before a node that is added
+  abbrev added : ℕ → ℕ → Bool → Before
+  added count sum root = record { count = count; «path_bytes» = sum; «has_root» = root; «culled_allowed» = false }
+
+  -- its numbers, with the parent and the origin that are put in
+  abbrev numbers : ℕ → ℕ → RecordNumbers
+  numbers parent origin = record { arc = desc .arc; flags = desc .flags; parent = parent; origin = origin; «has_specs» = desc .«has_specs» }
+
   -- the check of a record, put the node with what was missing put in, has put it `addChild`'s
   -- questions
-  pub desc-checked : (count sum parent origin told : ℕ) (root : Bool) (r : Checked) → count ≡ countIn bs → sum ≡ pathBytes (g .nodes)
+  pub desc-checked : (count sum parent origin : ℕ) (root : Bool) (r : Checked) → count ≡ countIn bs → sum ≡ pathBytes (g .nodes)
       → root ≡ not (eqb (localRootIn bs) 0) → parent ≡ numberOr (desc .parent .0) 0 → origin ≡ numberOr (desc .origin .0) parent
-      → told ≡ specsTold (desc .flags) (desc .«has_specs»)
-      → RecordChecked (questionsAt count sum root (desc .arc) (desc .flags) parent origin told path) path r → DescChecked g d r
-  desc-checked count sum parent origin told root r count-is sum-is root-is parent-is origin-is told-is checked =
+      → RecordChecked (questionsAt (added count sum root) (numbers parent origin) path) path r → DescChecked g d r
+  desc-checked count sum parent origin root r count-is sum-is root-is parent-is origin-is checked =
       let counted : count ≡ size g = count-is ∙ sym (sizes bs o) in
       let rooted : root ≡ hasLocalRoot (g .nodes) = root-is ∙ has-root bs o some in
       let above : parent ≡ addedNode g d .parent = parent-is ∙ turned (eqb (desc .parent .0) invalid) 0 (desc .parent .0) in
       let from : origin ≡ addedNode g d .origin =
       origin-is ∙ turned (eqb (desc .origin .0) invalid) parent (desc .origin .0) ∙ ap (λ (q : ℕ). cond (given (desc .origin .0)) (desc .origin .0) q) above in
-      let same : questionsAt count sum root (desc .arc) (desc .flags) parent origin told path
-      ≡ questionsAt (size g) (pathBytes (g .nodes)) (hasLocalRoot (g .nodes)) (desc .arc) (desc .flags) (addedNode g d .parent) (addedNode g d .origin)
-      (specsTold (desc .flags) (desc .«has_specs»)) path =
-      λ i. questionsAt (counted i) (sum-is i) (rooted i) (desc .arc) (desc .flags) (above i) (from i) (told-is i) path in
+      let same : questionsAt (added count sum root) (numbers parent origin) path ≡ questionsAt (beforeNext g false) (numbersOf (addedNode g d)) path =
+      λ i. questionsAt (added (counted i) (sum-is i) (rooted i)) (numbers (above i) (from i)) path in
       record {
         refused = checked .refused ∙ ap refusal same ∙ add-questions g d (omega (arith, sizes bs o));
         prims = checked .prims;

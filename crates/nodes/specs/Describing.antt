@@ -7,7 +7,7 @@ use mathlib.Core.List.{List, [], _∷_}
 use Prim.Native.Nat.{ℕ, _+_}
 use lib.Dec.{eqb}
 use Rattle.model.specs.Path.{wellFormed, primCount}
-use Rattle.model.specs.Node.{invalid, culledFlag, hasFlag}
+use Rattle.model.specs.Node.{invalid}
 use Rattle.model.specs.Graph.{Graph, size}
 use Rattle.model.specs.Refusals.{Question, ask, refusal, hasRoom, addedKind}
 use Rattle.model.specs.Calls as calls
@@ -65,9 +65,6 @@ numberOr number missing = cond (eqb number invalid) missing number
 abbrev pub depthGiven : Depth → ℕ → ℕ
 depthGiven (Given d) missing = d
 depthGiven Missing missing = missing
-
-abbrev pub specsTold : ℕ → ℕ → ℕ
-specsTold flags hasSpecs = cond (hasFlag culledFlag flags) 2 hasSpecs
 
 -- ---- The record
 

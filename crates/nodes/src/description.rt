@@ -3,7 +3,9 @@
 // these. specs/Describing.antt ties `NodeDesc` to that of model/specs/Calls.antt and has the
 // record.
 use model::NodeId;
+use validate::Before;
 use validate::Checked;
+use validate::RecordNumbers;
 ghost use mathlib.Core.Path.{_≡_};
 ghost use mathlib.Core.Bool.{cond};
 ghost use Prim.Native.Nat.{_≤_, _<_};
@@ -12,7 +14,7 @@ ghost use Rattle.model.specs.Arena.{countIn, primCountIn, decode};
 ghost use Rattle.model.specs.ArenaCalls.{ValidArena};
 ghost use Rattle.model.specs.Node.{invalid};
 ghost use Rattle.model.specs.Refusals.{pathBytes};
-ghost use Rattle.nodes.specs.Describing.{numberOr, depthGiven, specsTold, descOf, DescChecked, addedRecord};
+ghost use Rattle.nodes.specs.Describing.{numberOr, depthGiven, descOf, DescChecked, addedRecord};
 
 // A namespace depth, or that none is given.
 pub enum Depth {
@@ -57,50 +59,40 @@ fn depth_or(depth: Depth, missing: u16) -> u16
 }
 
 // How many bytes the paths of `count` nodes have together.
-fn path_bytes(arena: &[u8], count: u32) -> u32
+fn path_bytes(arena: &[u8], count: u32) -> usize
     requires { ⌜ ValidArena (now arena) × (count ≡ countIn (now arena)) ⌝ }
     ensures { λ r. ⌜ (r ≡ pathBytes (decode (now (arena .entry)) .nodes)) × (r ≤ 32768) ⌝ }
 {
-    let mut sum: u32 = 0;
+    let mut sum: usize = 0;
     let mut n: u32 = 0;
     while n < count {
-        sum += (arena::record_length(arena, n) as u32) - 27;
+        sum += (arena::record_length(arena, n) as usize) - 27;
         n += 1;
     }
     sum
 }
 
-// What the check of a record is told of has-specs: 2, which none may have, where CULLED is set,
-// because a culled node may be read but not added.
-fn specs_told(flags: u8, has_specs: u8) -> u8
-    ensures { λ r. ⌜ r ≡ specsTold flags «has_specs» ⌝ }
-{
-    if validate::is_culled(flags) {
-        return 2;
-    }
-    has_specs
-}
-
 // Questions 4 to 7 of a node that is to be added to a graph of `count` nodes: its prim count where
-// all pass.
+// all pass. A culled node may not be added.
 pub fn check_desc(arena: &[u8], count: u32, desc: NodeDesc, path: &[u8]) -> Checked
     requires { ⌜ ValidArena (now arena) × (count ≡ countIn (now arena)) × (0 < count) ⌝ }
     ensures { λ r. ⌜ DescChecked (decode (now (arena .entry))) (descOf desc (now (path .entry))) r ⌝ }
 {
+    let before = Before {
+        count: count,
+        path_bytes: path_bytes(arena, count),
+        has_root: arena::local_root(arena) != 0,
+        culled_allowed: false,
+    };
     let parent = number_or(desc.parent, 0);
-    let origin = number_or(desc.origin, parent);
-    validate::check_record(
-        count,
-        path_bytes(arena, count),
-        arena::local_root(arena) != 0,
-        desc.arc,
-        desc.flags,
-        parent,
-        origin,
-        specs_told(desc.flags, desc.has_specs),
-        path,
-        path::prim_count(path),
-    )
+    let numbers = RecordNumbers {
+        arc: desc.arc,
+        flags: desc.flags,
+        parent: parent,
+        origin: number_or(desc.origin, parent),
+        has_specs: desc.has_specs,
+    };
+    validate::check_record(before, numbers, path, path::prim_count(path))
 }
 
 // The prim count of the parent's path, or of the node's own for a root site.

@@ -30,9 +30,11 @@ use Rattle.laws.proofs.LegalAdded.{path-bytes-append}
 use Rattle.laws.proofs.ArenaCallLaws.{refusal-some}
 use Rattle.validate.specs.declared.record.Checked.{Checked}
 use Rattle.validate.specs.declared.record.Checked.the-variants.{Accepted, Refused}
+use Rattle.validate.specs.declared.record.Before.{Before}
+use Rattle.validate.specs.declared.record.RecordNumbers.{RecordNumbers}
 use Rattle.validate.specs.RecordCheck.{questionsAt, checkedRefusal, checkedPrims, RecordChecked}
 use Rattle.validate.proofs.RecordCheckLaws.{questions-at}
-use Rattle.snapshot.specs.SnapshotReading.{nodesRead, Exact, questionsOf, RecordsChecked}
+use Rattle.snapshot.specs.SnapshotReading.{nodesRead, Exact, beforeRead, questionsOf, RecordsChecked}
 use Rattle.snapshot.proofs.SnapshotRecords.{recordPart, Reached, reached-none, node-lent, piece-long, reached-more}
 
 -- ---- The graph of the first records
@@ -47,11 +49,11 @@ pub built-sized : (xs : List Node) (n : ℕ) → n ≤ length xs → length (bui
 built-sized xs n h = ap length (built-nodes (take n xs)) ∙ length-take-le n xs h
 
 questions-here : (xs : List Node) (n : ℕ) (x : Node) → n ≤ length xs
-    → recordQuestions (built (take n xs)) x ≡ questionsOf n (pathBytes (take n xs)) (hasLocalRoot (take n xs)) x
+    → recordQuestions (built (take n xs)) x ≡ questionsOf (beforeRead n (pathBytes (take n xs)) (hasLocalRoot (take n xs))) x
 questions-here xs n x h =
     questions-at (built (take n xs)) x
-    ∙ ap (λ (ns : List Node). questionsOf (length ns) (pathBytes ns) (hasLocalRoot ns) x) (built-nodes (take n xs))
-    ∙ ap (λ (k : ℕ). questionsOf k (pathBytes (take n xs)) (hasLocalRoot (take n xs)) x) (length-take-le n xs h)
+    ∙ ap (λ (ns : List Node). questionsOf (beforeRead (length ns) (pathBytes ns) (hasLocalRoot ns)) x) (built-nodes (take n xs))
+    ∙ ap (λ (k : ℕ). questionsOf (beforeRead k (pathBytes (take n xs)) (hasLocalRoot (take n xs))) x) (length-take-le n xs h)
 
 paths-more : (xs : List Node) (n : ℕ) → n < length xs → pathBytes (take (suc n) xs) ≡ pathBytes (take n xs) + length (nodeAt xs n .path)
 paths-more xs n h =
@@ -85,15 +87,15 @@ first-byte (b ∷ s) h = omega arith
 -- ---- One record's questions
 
 -- they are put to what its bytes say
-pub one-checked : (body : List ℕ) (n paths : ℕ) (root : Bool) (arc flags parent origin hasSpecs : ℕ) (r : Checked) → 27 ≤ length body
-    → arc ≡ field 0 1 body → flags ≡ field 1 1 body → parent ≡ field 10 4 body → origin ≡ field 14 4 body → hasSpecs ≡ field 26 1 body
-    → RecordChecked (questionsAt n paths root arc flags parent origin hasSpecs (take (length body - 27) (drop 27 body))) (take (length body - 27) (drop 27 body)) r
-    → RecordChecked (questionsOf n paths root (readRecord body)) (readRecord body .path) r
+pub one-checked : (body : List ℕ) (b : Before) (x : RecordNumbers) (r : Checked) → 27 ≤ length body
+    → x .arc ≡ field 0 1 body → x .flags ≡ field 1 1 body → x .parent ≡ field 10 4 body → x .origin ≡ field 14 4 body → x .«has_specs» ≡ field 26 1 body
+    → RecordChecked (questionsAt b x (take (length body - 27) (drop 27 body))) (take (length body - 27) (drop 27 body)) r
+    → RecordChecked (questionsOf b (readRecord body)) (readRecord body .path) r
 unfolding readRecord
-one-checked body n paths root arc flags parent origin hasSpecs r long a f p o s checked =
+one-checked body b x r long a f p o s checked =
     let path : take (length body - 27) (drop 27 body) ≡ drop 27 body = take-all (length body - 27) (drop 27 body) (rw length-drop (omega arith)) in
-    let same : questionsAt n paths root arc flags parent origin hasSpecs (take (length body - 27) (drop 27 body)) ≡ questionsOf n paths root (readRecord body) =
-    λ i. questionsAt n paths root (a i) (f i) (p i) (o i) (s i) (path i) in
+    let same : questionsAt b x (take (length body - 27) (drop 27 body)) ≡ questionsOf b (readRecord body) =
+    λ i. questionsAt b (record { arc = a i; flags = f i; parent = p i; origin = o i; «has_specs» = s i }) (path i) in
     record { refused = checked .refused ∙ ap refusal same; prims = λ z. checked .prims z ∙ ap primCount path }
 
 arc-read : (s : List ℕ) → field 0 1 s ≡ readRecord s .arc
@@ -148,18 +150,15 @@ module _ (bytes prims : List ℕ) (at paths : ℕ) (root : Bool) (n : ℕ) (to :
     node : readRecord piece ≡ x
     node = node-lent bytes at n (to .reached) h piece e
 
-    questions : questionsOf n paths root (readRecord piece) ≡ recordQuestions graph x
+    questions : questionsOf (beforeRead n paths root) (readRecord piece) ≡ recordQuestions graph x
     questions =
-        ap (questionsOf n paths root) node
-        ∙ ap (λ (k : ℕ). questionsOf n k root x) (to .path-bytes)
-        ∙ ap (λ (t : Bool). questionsOf n (pathBytes (take n nodes)) t x) (to .has-root)
-        ∙ sym (questions-here nodes n x (omega arith))
+        (λ i. questionsOf (beforeRead n (to .path-bytes i) (to .has-root i)) (node i)) ∙ sym (questions-here nodes n x (omega arith))
 
     next : readOn emptyGraph graph (drop n nodes)
         ≡ readIf (refusal (recordQuestions graph x)) (readOn emptyGraph (withNode graph x) (drop (suc n) nodes)) emptyGraph
     next = ap (readOn emptyGraph graph) (drop-cons nodes n noNode h)
 
-    module _ (r : Checked) (checked : RecordChecked (questionsOf n paths root (readRecord piece)) (readRecord piece .path) r) where
+    module _ (r : Checked) (checked : RecordChecked (questionsOf (beforeRead n paths root) (readRecord piece)) (readRecord piece .path) r) where
       refused : checkedRefusal r ≡ refusal (recordQuestions graph x)
       refused = checked .refused ∙ ap refusal questions
 

@@ -2,7 +2,7 @@
 -- all of the bytes; the nodes of bytes that pass it; and the questions of the records. What reading
 -- comes to in the end is model/specs/Calls.antt's `readInto`.
 use mathlib.Core.Path.{_≡_}
-use mathlib.Core.Bool.{Bool, cond}
+use mathlib.Core.Bool.{Bool, true, cond}
 use mathlib.Core.Option.{Option, none, some}
 use mathlib.Core.List.{List, []}
 use Prim.Native.Nat.{ℕ, _+_, _≤_, _<_}
@@ -19,7 +19,8 @@ use Rattle.model.specs.declared.UnitResult.{UnitResult}
 use Rattle.model.specs.declared.NumberResult.{NumberResult}
 use Rattle.model.specs.declared.NumberResult.the-variants.{Number, Refused}
 use Rattle.model.specs.declared.Refusal.the-variants.{Snapshot}
-use Rattle.validate.specs.RecordCheck.{questionsAt}
+use Rattle.validate.specs.declared.record.Before.{Before}
+use Rattle.validate.specs.RecordCheck.{numbersOf, questionsAt}
 use Rattle.snapshot.specs.declared.fields.Byte.{Byte}
 use Rattle.snapshot.specs.declared.fields.Byte.the-variants.{Value as ByteValue, Missing as ByteMissing}
 use Rattle.snapshot.specs.declared.fields.Short.{Short}
@@ -77,9 +78,13 @@ pub record RecordAt (bytes : List ℕ) (at : ℕ) : Type 0 where
 
 -- ---- Questions 4 to 7
 
--- put to a node that comes after n nodes, by what they read of these
-abbrev pub questionsOf : ℕ → ℕ → Bool → Node → List Question
-questionsOf n pathBytes hasRoot x = questionsAt n pathBytes hasRoot (x .arc) (x .flags) (x .parent) (x .origin) (x .hasSpecs) (x .path)
+-- n nodes before a record, which may be culled
+abbrev pub beforeRead : ℕ → ℕ → Bool → Before
+beforeRead n pathBytes hasRoot = record { count = n; «path_bytes» = pathBytes; «has_root» = hasRoot; «culled_allowed» = true }
+
+-- put to a node
+abbrev pub questionsOf : Before → Node → List Question
+questionsOf b x = questionsAt b (numbersOf x) (x .path)
 
 -- prims has the prim count of each node's path
 abbrev pub Named : List Node → List ℕ → Type 0

@@ -7,7 +7,9 @@ use crate::fields::Short;
 use model::NumberResult;
 use model::Refusal;
 use model::UnitResult;
+use validate::Before;
 use validate::Checked;
+use validate::RecordNumbers;
 ghost use mathlib.Core.Path.{_≡_};
 ghost use mathlib.Core.Bool.{_||_, _&&_};
 ghost use Prim.Native.Nat.{_+_, _≤_};
@@ -84,19 +86,11 @@ fn with_root(has_root: bool, n: u32, arc: u8) -> bool
     has_root
 }
 
-// Questions 4 to 7 of a record, where n nodes with `path_bytes` bytes of paths come before it. A
-// field that is missing, which none is, refuses 12.
-fn check_one(
-    kinds: &[u8],
-    pairs: &[u64],
-    body: &[u8],
-    n: u32,
-    path_bytes: u32,
-    has_root: bool,
-) -> Checked
+// Questions 4 to 7 of a record. A field that is missing, which none is, refuses 12.
+fn check_one(kinds: &[u8], pairs: &[u64], body: &[u8], before: Before) -> Checked
     requires { ⌜ Tables (now kinds) (now pairs) ⌝ }
-    requires { ⌜ (28 ≤ length (now body)) × («path_bytes» ≤ 32768) ⌝ }
-    ensures { λ r. ⌜ RecordChecked (questionsOf n «path_bytes» «has_root» (readRecord (now (body .entry)))) (readRecord (now (body .entry)) .path) r ⌝ }
+    requires { ⌜ (28 ≤ length (now body)) × (before .«path_bytes» ≤ 32768) ⌝ }
+    ensures { λ r. ⌜ RecordChecked (questionsOf before (readRecord (now (body .entry)))) (readRecord (now (body .entry)) .path) r ⌝ }
 {
     let Byte::Value(arc) = fields::take_u8(body, 0) else {
         return Checked::Refused(Refusal::Snapshot);
@@ -113,16 +107,17 @@ fn check_one(
     let Byte::Value(has_specs) = fields::take_u8(body, 26) else {
         return Checked::Refused(Refusal::Snapshot);
     };
+    let numbers = RecordNumbers {
+        arc: arc,
+        flags: flags,
+        parent: parent,
+        origin: origin,
+        has_specs: has_specs,
+    };
     let path = &body[27..];
     validate::check_record(
-        n,
-        path_bytes,
-        has_root,
-        arc,
-        flags,
-        parent,
-        origin,
-        has_specs,
+        before,
+        numbers,
         path,
         path::prim_count_by(kinds, pairs, path),
     )
@@ -137,12 +132,18 @@ pub fn check_records(bytes: &[u8], count: u32, prims: &mut [u8]) -> UnitResult
     let kinds = path::rows::kinds();
     let pairs = path::rows::pairs();
     let mut at: usize = 7;
-    let mut path_bytes: u32 = 0;
+    let mut path_bytes: usize = 0;
     let mut has_root = false;
     let mut n: u32 = 0;
     while n < count {
         let record = record_at(bytes, at);
-        let checked = check_one(&kinds, &pairs, record, n, path_bytes, has_root);
+        let before = Before {
+            count: n,
+            path_bytes: path_bytes,
+            has_root: has_root,
+            culled_allowed: true,
+        };
+        let checked = check_one(&kinds, &pairs, record, before);
         match checked {
             Checked::Refused(refusal) => {
                 return UnitResult::Refused(refusal);
@@ -150,7 +151,7 @@ pub fn check_records(bytes: &[u8], count: u32, prims: &mut [u8]) -> UnitResult
             Checked::Accepted(prim_count) => {
                 prims[n as usize] = prim_count;
                 has_root = with_root(has_root, n, record[0]);
-                path_bytes += (record.len() - 27) as u32;
+                path_bytes += record.len() - 27;
                 at += 2 + record.len();
                 n += 1;
             }

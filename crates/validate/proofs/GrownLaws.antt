@@ -24,7 +24,7 @@ use Rattle.arena.proofs.ReadNodes.{root-found}
 use Rattle.arena.proofs.SlotLaws.{same-fields, path-length}
 use Rattle.validate.specs.RecordCheck.{questionsAt}
 use Rattle.validate.proofs.RecordCheckLaws.{questions-at}
-use Rattle.validate.specs.Validate.{pathBytesBelow, rootWith, rootBelow, questionsIn}
+use Rattle.validate.specs.Validate.{pathBytesBelow, rootWith, rootBelow, beforeIn, questionsIn}
 
 -- ---- A list tabulated one longer
 
@@ -112,7 +112,7 @@ module _ (bs : List ℕ) (whole : length bs ≡ arenaBytes) where
       ∙ omega (arith, path-bytes-append (tabulate (nodeIn bs) 0 k) (nodeIn bs k ∷ []), path-length bs k (has-path k (omega arith) (last .0) (last .1)))
 
   pub questions-grown : (k : ℕ) → k < 1024 → Fit bs (suc k)
-      → recordQuestions (grown (nodeIn bs) k) (nodeIn bs k) ≡ questionsIn bs k (pathBytesBelow bs k) (rootBelow bs k)
+      → recordQuestions (grown (nodeIn bs) k) (nodeIn bs k) ≡ questionsIn bs (beforeIn k (pathBytesBelow bs k) (rootBelow bs k))
   questions-grown k few fit =
       let before : Fit bs k = λ n h. fit n (omega arith) in
       let nodes = grown-nodes (nodeIn bs) k in
@@ -120,5 +120,7 @@ module _ (bs : List ℕ) (whole : length bs ≡ arenaBytes) where
       let sized : size (grown (nodeIn bs) k) ≡ k = ap length nodes ∙ tabulate-length (nodeIn bs) 0 k in
       let held : pathBytes (grown (nodeIn bs) k .nodes) ≡ pathBytesBelow bs k = ap pathBytes nodes ∙ bytes-tabulated k (omega arith) before in
       questions-at (grown (nodeIn bs) k) (nodeIn bs k)
-      ∙ (λ i. questionsAt (sized i) (held i) (root-grown bs k before i) (same .arc i) (same .flags i) (same .parent i) (same .origin i)
-      (same .hasSpecs i) (nodeIn bs k .path))
+      ∙ (λ i. questionsAt
+      (record { count = sized i; «path_bytes» = held i; «has_root» = root-grown bs k before i; «culled_allowed» = true })
+      (record { arc = same .arc i; flags = same .flags i; parent = same .parent i; origin = same .origin i; «has_specs» = same .hasSpecs i })
+      (nodeIn bs k .path))

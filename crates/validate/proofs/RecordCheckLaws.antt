@@ -9,19 +9,17 @@ use native.Mathlib.Omega.{arith}
 use Rattle.model.specs.Path.{wellFormed, primCount, countPrims}
 use Rattle.model.specs.declared.PrimCount.the-variants.{Names, Malformed}
 use Rattle.model.specs.Node.{Node}
-use Rattle.model.specs.Graph.{Graph, size, hasLocalRoot}
-use Rattle.model.specs.Refusals.{refusalNumber, Question, ask, refusal, pathBytes, recordQuestions}
+use Rattle.model.specs.Graph.{Graph}
+use Rattle.model.specs.Refusals.{refusalNumber, Question, ask, refusal, recordQuestions}
 use Rattle.model.specs.declared.Refusal.{Refusal}
 use Rattle.model.specs.declared.Refusal.the-variants.{Node as NodeNumber, Path, Kind, Capacity}
 use Rattle.laws.proofs.PathLaws.{prim-count-half}
 use Rattle.laws.proofs.PathGrammar.{well-formed-length}
 use Rattle.path.proofs.ReadingLaws.{counted-well-formed}
 use Rattle.validate.specs.declared.record.Checked.the-variants.{Accepted, Refused}
-use Rattle.validate.specs.RecordCheck.{questionsAt, RecordChecked}
+use Rattle.validate.specs.RecordCheck.{numbersOf, beforeNext, questionsAt, RecordChecked}
 
-pub questions-at : (g : Graph) (x : Node)
-    → recordQuestions g x
-    ≡ questionsAt (size g) (pathBytes (g .nodes)) (hasLocalRoot (g .nodes)) (x .arc) (x .flags) (x .parent) (x .origin) (x .hasSpecs) (x .path)
+pub questions-at : (g : Graph) (x : Node) → recordQuestions g x ≡ questionsAt (beforeNext g true) (numbersOf x) (x .path)
 questions-at g x = refl
 
 -- ---- A path that is counted

@@ -23,7 +23,8 @@ use Rattle.arena.specs.Slot.{arcIn, parentIn, depthIn}
 use Rattle.arena.proofs.TabulateLaws.{tabulate-length, tabulate-at}
 use Rattle.arena.proofs.SlotLaws.{same-fields, path-length}
 use Rattle.child_lists.specs.ChildLists.{Parented}
-use Rattle.validate.specs.Validate.{pathBytesBelow, rootWith, rootBelow, questionsIn, depthValid, recordValidAfter, recordValid, recordsValid}
+use Rattle.validate.specs.declared.record.Before.{Before}
+use Rattle.validate.specs.Validate.{pathBytesBelow, rootWith, rootBelow, beforeIn, questionsIn, depthValid, recordValidAfter, recordValid, recordsValid}
 use Rattle.validate.proofs.GrownLaws.{accepted-each, Fit, root-tabulated, has-path, questions-grown}
 use Rattle.validate.proofs.ArenaRecords.{ValidAfter, parent-lower, no-parent, path-fits, right-after, depth-left}
 
@@ -51,8 +52,12 @@ fits-fit bs n e = (
 fit-fits : (bs : List ℕ) (n : ℕ) → 28 ≤ recordLengthIn bs n → recordLengthIn bs n ≤ 282 → recordFits bs n ≡ true
 fit-fits bs n named short = rw (le-leb 28 (recordLengthIn bs n) named, le-leb (recordLengthIn bs n) 282 short)
 
+-- what the records below n come to
+abbrev below : List ℕ → ℕ → Before
+below bs n = beforeIn n (pathBytesBelow bs n) (rootBelow bs n)
+
 abbrev Right : List ℕ → ℕ → Type 0
-Right bs n = ValidAfter bs n (pathBytesBelow bs n) (rootBelow bs n)
+Right bs n = ValidAfter bs (below bs n)
 
 -- ---- Records of a record's length
 
@@ -83,20 +88,20 @@ module _ (bs : List ℕ) (whole : length bs ≡ arenaBytes) (few : countIn bs �
   -- tested so far
   module _ (right : allBelow (recordValid bs) (countIn bs) ≡ true) where
     each : (n : ℕ) → n < countIn bs → Right bs n
-    each n h = right-after bs n (pathBytesBelow bs n) (rootBelow bs n) (all-below (recordValid bs) (countIn bs) .0 right n h)
+    each n h = right-after bs (below bs n) (all-below (recordValid bs) (countIn bs) .0 right n h)
 
     fit : Fit bs (countIn bs)
     fit n h = (each n h .named, each n h .short)
 
     lower : (n : ℕ) → 0 < n → n < countIn bs → parentIn bs n < n
-    lower n l h = parent-lower bs n (pathBytesBelow bs n) (rootBelow bs n) (each n h .passes) l
+    lower n l h = parent-lower bs (below bs n) (each n h .passes) l
 
     pub parented : Parented bs
     parented = record {
       whole = whole;
       few = few;
       numbered = λ n h. omega (arith, each n h .named);
-      no-parent = λ h. no-parent bs 0 (pathBytesBelow bs 0) (rootBelow bs 0) (each 0 h .passes) refl;
+      no-parent = λ h. no-parent bs (below bs 0) (each 0 h .passes) refl;
       lower = lower;
     }
 
@@ -117,17 +122,17 @@ module _ (bs : List ℕ) (whole : length bs ≡ arenaBytes) (few : countIn bs �
     held-prims : (n : ℕ) → n < countIn bs → primCountIn bs n ≡ primCount (nodeIn bs n .path)
     held-prims n h = eqb-true (primCountIn bs n) (primCount (nodeIn bs n .path)) (held .prims n h)
 
-    held-passes : (n : ℕ) → n < countIn bs → refusal (questionsIn bs n (pathBytesBelow bs n) (rootBelow bs n)) ≡ 0
+    held-passes : (n : ℕ) → n < countIn bs → refusal (questionsIn bs (below bs n)) ≡ 0
     held-passes n h =
         ap refusal (sym (questions-grown bs whole n (omega arith) (λ k l. held-fit k (omega arith))))
         ∙ accepted-each (nodeIn bs) (countIn bs) .0 (held .accepted) n h
 
     held-lower : (n : ℕ) → 0 < n → n < countIn bs → parentIn bs n < n
-    held-lower n l h = parent-lower bs n (pathBytesBelow bs n) (rootBelow bs n) (held-passes n h) l
+    held-lower n l h = parent-lower bs (below bs n) (held-passes n h) l
 
     held-right : (n : ℕ) → n < countIn bs → recordValid bs n ≡ true
     held-right n h =
-        depth-left bs n (pathBytesBelow bs n) (rootBelow bs n) (held-fit n h .0) (held-fit n h .1) (held-passes n h) (held-prims n h)
+        depth-left bs (below bs n) (held-fit n h .0) (held-fit n h .1) (held-passes n h) (held-prims n h)
         ∙ sym (shallow-depth bs held-fit held-lower held-prims n h) ∙ held .shallow n h
 
     records-complete : recordsValid bs ≡ true
@@ -163,29 +168,29 @@ pub records-none : (bs : List ℕ) → RecordsTo bs 0 0 0
 records-none bs = record { within = omega arith; right = refl; bytes = refl; few-bytes = omega arith; local-root = refl }
 
 module _ (bs : List ℕ) (n pathBytes root : ℕ) (to : RecordsTo bs n pathBytes root) where
-  here : recordValidAfter bs n pathBytes root ≡ recordValid bs n
-  here = λ i. recordValidAfter bs n (to .bytes i) (to .local-root i)
+  here : recordValidAfter bs (beforeIn n pathBytes root) ≡ recordValid bs n
+  here = λ i. recordValidAfter bs (beforeIn n (to .bytes i) (to .local-root i))
 
   pub no-root : n ≡ 0 → root ≡ 0
   no-root z = to .local-root ∙ ap (rootBelow bs) z
 
-  pub record-fails : n < countIn bs → recordValidAfter bs n pathBytes root ≡ false → recordsValid bs ≡ false
+  pub record-fails : n < countIn bs → recordValidAfter bs (beforeIn n pathBytes root) ≡ false → recordsValid bs ≡ false
   unfolding recordsValid
   record-fails l e = rw (all-below-fails (recordValid bs) (countIn bs) .1 (n, l, sym here ∙ e))
 
   -- the record here is read: its length and arc, and the local root with it
   pub records-more : length bs ≡ arenaBytes → countIn bs ≤ 1024 → n < countIn bs → (long arc found : ℕ) → long ≡ recordLengthIn bs n
-      → arc ≡ arcIn bs n → found ≡ rootWith n arc root → recordValidAfter bs n pathBytes root ≡ true
+      → arc ≡ arcIn bs n → found ≡ rootWith n arc root → recordValidAfter bs (beforeIn n pathBytes root) ≡ true
       → RecordsTo bs (n + 1) (pathBytes + (long - 27)) found
   records-more whole few l long arc found same-length same-arc same-root e =
-      let right = right-after bs n pathBytes root e in
+      let right = right-after bs (beforeIn n pathBytes root) e in
       rw (add-one n) (record {
         within = omega arith;
         right = and-eq-true-iff (recordValid bs n) (allBelow (recordValid bs) n) .1 (sym here ∙ e, to .right);
         bytes = λ i. to .bytes i + (same-length i - 27);
         few-bytes = omega (
           arith,
-          path-fits bs n pathBytes root (right .passes),
+          path-fits bs (beforeIn n pathBytes root) (right .passes),
           path-length bs n (has-path bs whole n (omega arith) (right .named) (right .short)),
         );
         local-root = same-root ∙ (λ i. rootWith n (same-arc i) (to .local-root i));

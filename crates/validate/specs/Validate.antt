@@ -3,7 +3,7 @@
 -- (crates/child_lists) and its order. proofs/HoldsTests.antt shows that together they are
 -- model/specs/Arena.antt's `holdsGraph`. A record is read by its fields, and put to what the
 -- records before it come to: how many bytes of paths, and which local root.
-use mathlib.Core.Bool.{Bool, not, _||_, _&&_, cond}
+use mathlib.Core.Bool.{Bool, true, not, _||_, _&&_, cond}
 use mathlib.Core.List.{List}
 use Prim.Native.Nat.{ℕ, zero, suc, _+_, _-_}
 use lib.Dec.{eqb, ltb, leb}
@@ -13,6 +13,8 @@ use Rattle.model.specs.Node.{rootArc}
 use Rattle.model.specs.Refusals.{Question, refusal}
 use Rattle.model.specs.Arena.{countIn, orderedIn, shallowIn, localRootIn, orderEntryIn, primCountIn, recordLengthIn, nodeIn, tabulate, recordFits}
 use Rattle.arena.specs.Slot.{arcIn, flagsIn, parentIn, originIn, depthIn, hasSpecsIn}
+use Rattle.validate.specs.declared.record.RecordNumbers.{RecordNumbers}
+use Rattle.validate.specs.declared.record.Before.{Before}
 use Rattle.validate.specs.RecordCheck.{linksAt, kindAt, roomAt, questionsAt}
 
 -- ---- The marks, by their bytes
@@ -39,29 +41,37 @@ abbrev pub rootBelow : List ℕ → ℕ → ℕ
 rootBelow bs zero = 0
 rootBelow bs (suc n) = rootWith n (arcIn bs n) (rootBelow bs n)
 
-abbrev pub questionsIn : List ℕ → ℕ → ℕ → ℕ → List Question
-questionsIn bs n pathBytes root =
-    questionsAt n pathBytes (not (eqb root 0)) (arcIn bs n) (flagsIn bs n) (parentIn bs n) (originIn bs n) (hasSpecsIn bs n) (nodeIn bs n .path)
+-- n records with so many bytes of paths and this local root, 0 for none; a node of an arena may be
+-- culled
+abbrev pub beforeIn : ℕ → ℕ → ℕ → Before
+beforeIn n pathBytes root = record { count = n; «path_bytes» = pathBytes; «has_root» = not (eqb root 0); «culled_allowed» = true }
+
+-- the numbers of node n that its questions read
+abbrev pub numbersIn : List ℕ → ℕ → RecordNumbers
+numbersIn bs n = record { arc = arcIn bs n; flags = flagsIn bs n; parent = parentIn bs n; origin = originIn bs n; «has_specs» = hasSpecsIn bs n }
+
+abbrev pub questionsIn : List ℕ → Before → List Question
+questionsIn bs b = questionsAt b (numbersIn bs (b .count)) (nodeIn bs (b .count) .path)
 
 -- "shallow set where a parent is": node n's depth is at most the prim count of its parent, unless
 -- the arena is marked
 abbrev pub depthValid : List ℕ → ℕ → Bool
 depthValid bs n = eqb n 0 || (leb (depthIn bs n) (primCountIn bs (parentIn bs n)) || eqb (shallowIn bs) 1)
 
--- what the questions ask of node n's numbers: its links, its kind and the room
-unfoldable pub numbersValid : List ℕ → ℕ → ℕ → ℕ → Bool
-numbersValid bs n pathBytes root =
-    linksAt n (arcIn bs n) (flagsIn bs n) (parentIn bs n) (originIn bs n)
-    && (kindAt n (not (eqb root 0)) (arcIn bs n) (flagsIn bs n) (parentIn bs n) (hasSpecsIn bs n) && roomAt n pathBytes (recordLengthIn bs n - 27))
+-- what the questions ask of the next node's numbers: its links, its kind and the room
+unfoldable pub numbersValid : List ℕ → Before → Bool
+numbersValid bs b =
+    linksAt b (numbersIn bs (b .count)) && (kindAt b (numbersIn bs (b .count)) && roomAt b (recordLengthIn bs (b .count) - 27))
 
--- the record of node n, after records with `pathBytes` bytes of paths and the local root `root`
-unfoldable pub recordValidAfter : List ℕ → ℕ → ℕ → ℕ → Bool
-recordValidAfter bs n pathBytes root =
-    recordFits bs n
-    && (eqb (refusal (questionsIn bs n pathBytes root)) 0 && (eqb (primCountIn bs n) (primCount (nodeIn bs n .path)) && depthValid bs n))
+-- the next node's record
+unfoldable pub recordValidAfter : List ℕ → Before → Bool
+recordValidAfter bs b =
+    recordFits bs (b .count)
+    && (eqb (refusal (questionsIn bs b)) 0
+    && (eqb (primCountIn bs (b .count)) (primCount (nodeIn bs (b .count) .path)) && depthValid bs (b .count)))
 
 abbrev pub recordValid : List ℕ → ℕ → Bool
-recordValid bs n = recordValidAfter bs n (pathBytesBelow bs n) (rootBelow bs n)
+recordValid bs n = recordValidAfter bs (beforeIn n (pathBytesBelow bs n) (rootBelow bs n))
 
 -- each record is right, and the header has their local root
 unfoldable pub recordsValid : List ℕ → Bool

@@ -3,6 +3,8 @@
 // are read once, and nothing above the count. It writes nothing.
 // specs/Validate.antt has the tests, one for each pass; proofs/HoldsTests.antt shows that together
 // they are model/specs/Arena.antt's `holdsGraph`.
+use crate::record::Before;
+use crate::record::RecordNumbers;
 ghost use mathlib.Core.Path.{_≡_};
 ghost use mathlib.Core.Bool.{_||_};
 ghost use Prim.Native.Nat.{_≤_, _<_};
@@ -72,48 +74,36 @@ fn depth_valid(arena: &[u8], n: u32, parent: u32) -> bool
     arena::shallow(arena) == 1
 }
 
-// Whether node n's numbers pass the questions on its links, its kind and the room left, after
-// records that have `path_bytes` bytes of paths and the local root `root`, 0 for none.
-fn numbers_valid(
-    arena: &[u8],
-    n: u32,
-    length: usize,
-    arc: u8,
-    parent: u32,
-    path_bytes: usize,
-    root: u32,
-) -> bool
-    requires { ⌜ HasSlot (now arena) n × (length ≡ recordLengthIn (now arena) n) × (27 ≤ length) × (length ≤ 282) × (arc ≡ arcIn (now arena) n) ⌝ }
-    requires { ⌜ (parent ≡ parentIn (now arena) n) × («path_bytes» ≤ 32768) ⌝ }
-    ensures { λ r. ⌜ r ≡ numbersValid (now (arena .entry)) n «path_bytes» root ⌝ }
+// Whether the numbers of the node that comes next pass the questions on its links, its kind and the
+// room left.
+fn numbers_valid(arena: &[u8], before: Before, length: usize, arc: u8, parent: u32) -> bool
+    requires { ⌜ HasSlot (now arena) (before .count) × (length ≡ recordLengthIn (now arena) (before .count)) × (27 ≤ length) × (length ≤ 282) ⌝ }
+    requires { ⌜ (arc ≡ arcIn (now arena) (before .count)) × (parent ≡ parentIn (now arena) (before .count)) × (before .«path_bytes» ≤ 32768) ⌝ }
+    ensures { λ r. ⌜ r ≡ numbersValid (now (arena .entry)) before ⌝ }
 {
-    let flags = arena::flags(arena, n);
-    if !crate::record::links_allowed(n, arc, flags, parent, arena::origin(arena, n)) {
+    let n = before.count;
+    let numbers = RecordNumbers {
+        arc: arc,
+        flags: arena::flags(arena, n),
+        parent: parent,
+        origin: arena::origin(arena, n),
+        has_specs: arena::has_specs(arena, n),
+    };
+    if !crate::record::links_allowed(before, numbers) {
         return false;
     }
-    let has_specs = arena::has_specs(arena, n);
-    if !crate::record::kind_allowed(n, root != 0, arc, flags, parent, has_specs) {
+    if !crate::record::kind_allowed(before, numbers) {
         return false;
     }
-    path_bytes + (length - 27) <= 32768
+    before.path_bytes + (length - 27) <= 32768
 }
 
-// Whether the record of node n is right, after records that have `path_bytes` bytes of paths and
-// the local root `root`. Its path is read by the tables lent, and last: the loop over its bytes is
-// quickest where little else is kept for later.
-fn record_valid(
-    kinds: &[u8],
-    pairs: &[u64],
-    arena: &[u8],
-    n: u32,
-    length: usize,
-    arc: u8,
-    path_bytes: usize,
-    root: u32,
-) -> bool
+// Whether the record of the node that comes next is right. Its path is read by the tables lent, and
+// last: the loop over its bytes is quickest where little else is kept for later.
+fn record_valid(kinds: &[u8], pairs: &[u64], arena: &[u8], before: Before, length: usize) -> bool
     requires { ⌜ Tables (now kinds) (now pairs) ⌝ }
-    requires { ⌜ HasSlot (now arena) n × (length ≡ recordLengthIn (now arena) n) × (arc ≡ arcIn (now arena) n) × («path_bytes» ≤ 32768) ⌝ }
-    ensures { λ r. ⌜ r ≡ recordValidAfter (now (arena .entry)) n «path_bytes» root ⌝ }
+    requires { ⌜ HasSlot (now arena) (before .count) × (length ≡ recordLengthIn (now arena) (before .count)) × (before .«path_bytes» ≤ 32768) ⌝ }
+    ensures { λ r. ⌜ r ≡ recordValidAfter (now (arena .entry)) before ⌝ }
 {
     if length < 28 {
         return false;
@@ -121,8 +111,9 @@ fn record_valid(
     if length > 282 {
         return false;
     }
+    let n = before.count;
     let parent = arena::parent(arena, n);
-    if !numbers_valid(arena, n, length, arc, parent, path_bytes, root) {
+    if !numbers_valid(arena, before, length, arena::arc(arena, n), parent) {
         return false;
     }
     if !depth_valid(arena, n, parent) {
@@ -167,12 +158,17 @@ fn records_valid(arena: &[u8], count: u32) -> bool
     let mut n: u32 = 0;
     while n < count {
         let length = arena::record_length(arena, n) as usize;
-        let arc = arena::arc(arena, n);
-        if !record_valid(&kinds, &pairs, arena, n, length, arc, path_bytes, root) {
+        let before = Before {
+            count: n,
+            path_bytes: path_bytes,
+            has_root: root != 0,
+            culled_allowed: true,
+        };
+        if !record_valid(&kinds, &pairs, arena, before, length) {
             return false;
         }
         path_bytes += length - 27;
-        root = root_with(n, arc, root);
+        root = root_with(n, arena::arc(arena, n), root);
         n += 1;
     }
     root_valid(arena, count, root)

@@ -6,12 +6,28 @@
 use model::PrimCount;
 use model::Refusal;
 ghost use mathlib.Core.Path.{_≡_};
-ghost use mathlib.Core.Bool.{not, _||_, _&&_};
 ghost use Prim.Native.Nat.{_≤_};
-ghost use lib.Dec.{eqb};
 ghost use Rattle.model.specs.Path.{countPrims};
 ghost use Rattle.model.specs.Node.{hasFlag, inertFlag, culledFlag};
-ghost use Rattle.validate.specs.RecordCheck.{rootAt, linksAt, kindAt, roomAt, questionsAt, RecordChecked};
+ghost use Rattle.validate.specs.RecordCheck.{rootAt, linksAt, rootKindAt, kindAt, roomAt, questionsAt, RecordChecked};
+
+// The numbers of a record that its questions read.
+pub struct RecordNumbers {
+    pub arc: u8,
+    pub flags: u8,
+    pub parent: u32,
+    pub origin: u32,
+    pub has_specs: u8,
+}
+
+// What comes before a record, and whether CULLED may be set in it: a culled node may be read but
+// not added.
+pub struct Before {
+    pub count: u32,
+    pub path_bytes: usize,
+    pub has_root: bool,
+    pub culled_allowed: bool,
+}
 
 // What the check of a record answers: the prim count of its path, or the refusal.
 pub enum Checked {
@@ -33,83 +49,79 @@ pub fn is_culled(flags: u8) -> bool
     flags / 2 % 2 == 1
 }
 
-// Whether these are the arc, flags, parent and origin of node 0.
-fn is_root(arc: u8, flags: u8, parent: u32, origin: u32) -> bool
-    ensures { λ r. ⌜ r ≡ rootAt arc flags parent origin ⌝ }
+// Whether these are the numbers of node 0.
+fn is_root(numbers: RecordNumbers) -> bool
+    ensures { λ r. ⌜ r ≡ rootAt numbers ⌝ }
 {
-    if arc != 0 {
+    if numbers.arc != 0 {
         return false;
     }
-    if !is_inert(flags) {
+    if !is_inert(numbers.flags) {
         return false;
     }
-    if parent != 4294967295 {
+    if numbers.parent != 4294967295 {
         return false;
     }
-    origin == 4294967295
+    numbers.origin == 4294967295
 }
 
 // Question 4: node 0 is as it must be, and another node's parent and origin are lower.
-pub fn links_allowed(count: u32, arc: u8, flags: u8, parent: u32, origin: u32) -> bool
-    ensures { λ r. ⌜ r ≡ linksAt count arc flags parent origin ⌝ }
+pub fn links_allowed(before: Before, numbers: RecordNumbers) -> bool
+    ensures { λ r. ⌜ r ≡ linksAt before numbers ⌝ }
 {
-    if count == 0 {
-        return is_root(arc, flags, parent, origin);
+    if before.count == 0 {
+        return is_root(numbers);
     }
-    if parent >= count {
+    if numbers.parent >= before.count {
         return false;
     }
-    origin < count
+    numbers.origin < before.count
 }
 
 // Arc Root is for node 0 and for one child of it, and neither is culled.
-fn root_allowed(count: u32, has_root: bool, flags: u8, parent: u32) -> bool
-    ensures { λ r. ⌜ r ≡ ((eqb count 0 || (eqb parent 0 && not «has_root»)) && not (hasFlag culledFlag flags)) ⌝ }
+fn root_allowed(before: Before, numbers: RecordNumbers) -> bool
+    ensures { λ r. ⌜ r ≡ rootKindAt before numbers ⌝ }
 {
-    if is_culled(flags) {
+    if is_culled(numbers.flags) {
         return false;
     }
-    if count == 0 {
+    if before.count == 0 {
         return true;
     }
-    if parent != 0 {
+    if numbers.parent != 0 {
         return false;
     }
-    !has_root
+    !before.has_root
 }
 
-// Question 6. Few nodes have arc Root, so what is asked of these alone comes last.
-pub fn kind_allowed(
-    count: u32,
-    has_root: bool,
-    arc: u8,
-    flags: u8,
-    parent: u32,
-    has_specs: u8,
-) -> bool
-    ensures { λ r. ⌜ r ≡ kindAt count «has_root» arc flags parent «has_specs» ⌝ }
+// Question 6: arc, has-specs and CULLED.
+pub fn kind_allowed(before: Before, numbers: RecordNumbers) -> bool
+    ensures { λ r. ⌜ r ≡ kindAt before numbers ⌝ }
 {
-    if arc > 6 {
+    if numbers.arc > 6 {
         return false;
     }
-    if has_specs > 1 {
+    if numbers.has_specs > 1 {
         return false;
     }
-    if arc != 0 {
+    if numbers.arc == 0 {
+        return root_allowed(before, numbers);
+    }
+    if before.culled_allowed {
         return true;
     }
-    root_allowed(count, has_root, flags, parent)
+    !is_culled(numbers.flags)
 }
 
 // Question 7: another node and its path bytes still fit.
-fn has_room(count: u32, path_bytes: u32, path_length: usize) -> bool
-    requires { ⌜ «path_bytes» ≤ 32768 ⌝ }
-    ensures { λ r. ⌜ r ≡ roomAt count «path_bytes» «path_length» ⌝ }
+fn has_room(before: Before, path_length: usize) -> bool
+    requires { ⌜ before .«path_bytes» ≤ 32768 ⌝ }
+    ensures { λ r. ⌜ r ≡ roomAt before «path_length» ⌝ }
 {
-    if count >= 1024 {
+    if before.count >= 1024 {
         return false;
     }
-    path_length <= 32768 - (path_bytes as usize)
+    path_length <= 32768 - before.path_bytes
 }
 
 // A well-formed path has at most 127 names.
@@ -120,34 +132,22 @@ fn narrow(names: u16) -> u8
     names as u8
 }
 
-// The first question that a record's answer to is no, where `count` nodes with `path_bytes` bytes
-// of paths come before it; or its prim count. `read` is what its path was read as: how it is read
-// is the caller's choice.
-pub fn check_record(
-    count: u32,
-    path_bytes: u32,
-    has_root: bool,
-    arc: u8,
-    flags: u8,
-    parent: u32,
-    origin: u32,
-    has_specs: u8,
-    path: &[u8],
-    read: PrimCount,
-) -> Checked
-    requires { ⌜ («path_bytes» ≤ 32768) × (read ≡ countPrims (now path)) ⌝ }
-    ensures { λ r. ⌜ RecordChecked (questionsAt count «path_bytes» «has_root» arc flags parent origin «has_specs» (now (path .entry))) (now (path .entry)) r ⌝ }
+// The first question that the answer to is no, of a record with these numbers and this path; or its
+// prim count. `read` is what its path was read as: how it is read is the caller's choice.
+pub fn check_record(before: Before, numbers: RecordNumbers, path: &[u8], read: PrimCount) -> Checked
+    requires { ⌜ (before .«path_bytes» ≤ 32768) × (read ≡ countPrims (now path)) ⌝ }
+    ensures { λ r. ⌜ RecordChecked (questionsAt before numbers (now (path .entry))) (now (path .entry)) r ⌝ }
 {
-    if !links_allowed(count, arc, flags, parent, origin) {
+    if !links_allowed(before, numbers) {
         return Checked::Refused(Refusal::Node);
     }
     let PrimCount::Names(names) = read else {
         return Checked::Refused(Refusal::Path);
     };
-    if !kind_allowed(count, has_root, arc, flags, parent, has_specs) {
+    if !kind_allowed(before, numbers) {
         return Checked::Refused(Refusal::Kind);
     }
-    if !has_room(count, path_bytes, path.len()) {
+    if !has_room(before, path.len()) {
         return Checked::Refused(Refusal::Capacity);
     }
     Checked::Accepted(narrow(names))

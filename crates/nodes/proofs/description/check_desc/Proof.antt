@@ -10,20 +10,17 @@ use Rattle.nodes.proofs.DescribingLaws.{desc-checked}
 use Rattle.nodes.proofs.description.check_desc.Statement.{statement}
 use Rattle.nodes.proofs.description.check_desc.Tie as tie
 
-number-or-requires : tie.Need-number-or-requires
-number-or-requires c κs = search needs
-
-number-or-requires-2 : tie.Need-number-or-requires-2
-number-or-requires-2 c κs = search needs
-
 path-bytes-requires : tie.Need-path-bytes-requires
 path-bytes-requires c κs = search needs
 
 local-root-requires : tie.Need-local-root-requires
 local-root-requires c κs = search needs
 
-specs-told-requires : tie.Need-specs-told-requires
-specs-told-requires c κs = search needs
+number-or-requires : tie.Need-number-or-requires
+number-or-requires c κs = search needs
+
+number-or-requires-2 : tie.Need-number-or-requires-2
+number-or-requires-2 c κs = search needs
 
 prim-count-requires : tie.Need-prim-count-requires
 prim-count-requires c κs = search needs
@@ -33,22 +30,20 @@ check-record-requires c κs = (search needs, c .prim-count .ensures)
 
 returns : tie.Need-returns
 returns c =
-    let a = c .before .before .before .before .before .before .before .before .before .args in
-    let pre = c .before .before .before .before .before .before .before .before .before .pre in
-    desc-checked (a .arena .now) (pre .0) (a .desc) (a .path .now) (omega (arith, pre .1, pre .2)) _ _ _ _ _ _ _ (pre .1)
-    (c .before .before .before .before .path-bytes .ensures .0) (ap (λ (n : ℕ). not (eqb n 0)) (c .before .before .before .local-root .ensures))
-    (c .before .before .before .before .before .before .number-or .ensures) (c .before .before .before .before .before .number-or2 .ensures)
-    (c .before .before .specs-told .ensures) (c .check-record .ensures)
+    let s = c .before .before .before .before .before .before .before .before in
+    let a = s .args in
+    desc-checked (a .arena .now) (s .pre .0) (a .desc) (a .path .now) (omega (arith, s .pre .1, s .pre .2)) _ _ _ _ _ _ (s .pre .1)
+    (c .before .before .before .before .before .path-bytes .ensures .0) (ap (λ (n : ℕ). not (eqb n 0)) (c .before .before .before .before .local-root .ensures))
+    (c .before .before .before .number-or .ensures) (c .before .before .number-or2 .ensures) (c .check-record .ensures)
 
 pub check-desc-spec : {M : Type 1} → statement M
 check-desc-spec =
     tie.close
     (tie.spec
-    number-or-requires
-    number-or-requires-2
     path-bytes-requires
     local-root-requires
-    specs-told-requires
+    number-or-requires
+    number-or-requires-2
     prim-count-requires
     check-record-requires
     returns)

@@ -121,7 +121,7 @@ returns-6 c =
     let first = second .before .before .before .before in
     let s = entry first in
     let body = s .args .body .now in
-    one-checked body (s .args .n) (s .args .path-bytes) (s .args .has-root) _ _ _ _ _ (c .check-record .result) (omega (arith, s .pre .1 .0))
+    one-checked body (s .args .before) _ (c .check-record .result) (omega (arith, s .pre .1 .0))
     (taken 0 1 body _ (sym (first .before .before .before .take-u8 .ensures) ∙ ap byteValue (first .before .arc .given .1)) .1)
     (taken 1 1 body _ (sym (second .before .before .before .take-u82 .ensures) ∙ ap byteValue (second .before .flags .given .1)) .1)
     (taken 10 4 body _ (sym (third .before .before .before .take-u32 .ensures) ∙ ap fieldValue (third .before .parent .given .1)) .1)

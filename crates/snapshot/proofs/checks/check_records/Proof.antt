@@ -89,9 +89,6 @@ with-root-requires c κs = tt
 sub-path-bytes : tie.Need-sub-path-bytes Inv-loop μ-loop
 sub-path-bytes c = omega (arith, long (c .before .before .before .before .before .before .before .before) .0)
 
-cast-path-bytes : tie.Need-cast-path-bytes Inv-loop μ-loop
-cast-path-bytes c = omega (arith, long (c .before .before .before .before .before .before .before .before) .1)
-
 add-path-bytes : tie.Need-add-path-bytes Inv-loop μ-loop
 add-path-bytes c = let found = c .before .before .before .before .before .before .before .before in omega (arith, long found .1, found .before .before .loop .inv .few-bytes)
 
@@ -148,7 +145,6 @@ check-records-spec =
     shared-slice-read-with-root
     with-root-requires
     sub-path-bytes
-    cast-path-bytes
     add-path-bytes
     add-at
     add-at-2

@@ -16,46 +16,47 @@ use Rattle.validate.proofs.graph.record_valid.Statement.{statement}
 use Rattle.validate.proofs.graph.record_valid.Tie as tie
 
 -- the record's length is right
-fits : (c : tie.Else2) → HasPath (c .before .before .before .before .before .args .arena .now) (c .before .before .before .before .before .args .n)
+fits : (c : tie.Else2) → let a = c .before .before .before .before .before .args in HasPath (a .arena .now) (a .before .count)
 fits c =
     let s = c .before .before .before .before .before in
     record { slot = s .pre .1 .0; numbered = omega (arith, c .before .if1 .left, s .pre .1 .1); short = omega (arith, c .if2 .left, s .pre .1 .1) }
 
 -- its numbers are right
-numbered : (c : tie.Else3)
-    → let a = c .before .before .before .before .before .before .before .before .args in
-    numbersValid (a .arena .now) (a .n) (a .path-bytes) (a .root) ≡ true
+numbered : (c : tie.Else3) → let a = c .before .before .before .before .before .before .before .before .before .args in numbersValid (a .arena .now) (a .before) ≡ true
 numbered c = sym (c .before .numbers-valid .ensures) ∙ not-false _ (c .if3 .left)
 
 returns : tie.Need-returns
-returns c = let s = c .before .before .before .before in sym (too-short _ _ _ _ (omega (arith, c .if1 .taken, s .pre .1 .1)))
+returns c = let s = c .before .before .before .before in sym (too-short _ _ (omega (arith, c .if1 .taken, s .pre .1 .1)))
 
 returns-2 : tie.Need-returns-2
 returns-2 c =
     let s = c .before .before .before .before .before in
-    sym (too-long _ _ _ _ (omega (arith, c .before .if1 .left, s .pre .1 .1)) (omega (arith, c .if2 .taken, s .pre .1 .1)))
+    sym (too-long _ _ (omega (arith, c .before .if1 .left, s .pre .1 .1)) (omega (arith, c .if2 .taken, s .pre .1 .1)))
 
 parent-requires : tie.Need-parent-requires
 parent-requires c κs = search needs
+
+arc-requires : tie.Need-arc-requires
+arc-requires c κs = search needs
 
 numbers-valid-requires : tie.Need-numbers-valid-requires
 numbers-valid-requires c κs = search needs
 
 returns-3 : tie.Need-returns-3
 returns-3 c =
-    let s = c .before .before .before .before .before .before .before .before in
-    sym (numbers-wrong _ _ _ _ (fits (c .before .before .before)) (omega (arith, c .before .before .before .before .if1 .left, s .pre .1 .1)) (sym (c .before .numbers-valid .ensures) ∙ not-true _ (c .if3 .taken)))
+    let s = c .before .before .before .before .before .before .before .before .before in
+    sym (numbers-wrong _ _ (fits (c .before .before .before .before)) (omega (arith, c .before .before .before .before .before .if1 .left, s .pre .1 .1)) (sym (c .before .numbers-valid .ensures) ∙ not-true _ (c .if3 .taken)))
 
 depth-valid-requires : tie.Need-depth-valid-requires
 depth-valid-requires c κs =
-    let s = c .before .before .before .before .before .before .before .before in
-    let same = c .before .before .parent .ensures in
-    (s .pre .1 .0, same, λ l. omega (arith, numbers-lower _ _ _ _ (numbered c) l, same))
+    let s = c .before .before .before .before .before .before .before .before .before in
+    let same = c .before .before .before .parent .ensures in
+    (s .pre .1 .0, same, λ l. omega (arith, numbers-lower _ _ (numbered c) l, same))
 
 returns-4 : tie.Need-returns-4
 returns-4 c =
-    let s = c .before .before .before .before .before .before .before .before .before .before in
-    sym (depth-wrong _ _ _ _ (fits (c .before .before .before .before .before)) (omega (arith, c .before .before .before .before .before .before .if1 .left, s .pre .1 .1)) (numbered (c .before .before))
+    let s = c .before .before .before .before .before .before .before .before .before .before .before in
+    sym (depth-wrong _ _ (fits (c .before .before .before .before .before .before)) (omega (arith, c .before .before .before .before .before .before .before .if1 .left, s .pre .1 .1)) (numbered (c .before .before))
     (sym (c .before .depth-valid .ensures) ∙ not-true _ (c .if4 .taken)))
 
 prim-count-requires : tie.Need-prim-count-requires
@@ -66,16 +67,16 @@ path-requires c κs = search needs
 
 has-names-requires : tie.Need-has-names-requires
 has-names-requires c κs =
-    let s = c .before .before .before .before .before .before .before .before .before .before .before .before in
-    let long = path-length (s .args .arena .now) (s .args .n) (fits (c .before .before .before .before .before .before .before)) in
+    let s = c .before .before .before .before .before .before .before .before .before .before .before .before .before in
+    let long = path-length (s .args .arena .now) (s .args .before .count) (fits (c .before .before .before .before .before .before .before .before)) in
     let same = ap length (c .path .ensures) in
-    (s .pre .0, (omega (arith, long, same, c .before .before .before .before .before .before .before .before .if1 .left, s .pre .1 .1), omega (arith, long, same, c .before .before .before .before .before .before .before .if2 .left, s .pre .1 .1)))
+    (s .pre .0, (omega (arith, long, same, c .before .before .before .before .before .before .before .before .before .if1 .left, s .pre .1 .1), omega (arith, long, same, c .before .before .before .before .before .before .before .before .if2 .left, s .pre .1 .1)))
 
 returns-5 : tie.Need-returns-5
 returns-5 c =
-    let s = c .before .before .before .before .before .before .before .before .before .before .before .before .before in
+    let s = c .before .before .before .before .before .before .before .before .before .before .before .before .before .before in
     c .has-names .ensures ∙ (λ i. isNames (c .before .before .prim-count .ensures i) (countPrims (c .before .path .ensures i)))
-    ∙ sym (names-left _ _ _ _ (fits (c .before .before .before .before .before .before .before .before)) (omega (arith, c .before .before .before .before .before .before .before .before .before .if1 .left, s .pre .1 .1)) (numbered (c .before .before .before .before .before))
+    ∙ sym (names-left _ _ (fits (c .before .before .before .before .before .before .before .before .before)) (omega (arith, c .before .before .before .before .before .before .before .before .before .before .if1 .left, s .pre .1 .1)) (numbered (c .before .before .before .before .before))
     (sym (c .before .before .before .before .depth-valid .ensures) ∙ not-false _ (c .before .before .before .if4 .left)))
 
 pub record-valid-spec : {M : Type 1} → statement M
@@ -85,6 +86,7 @@ record-valid-spec =
     returns
     returns-2
     parent-requires
+    arc-requires
     numbers-valid-requires
     returns-3
     depth-valid-requires

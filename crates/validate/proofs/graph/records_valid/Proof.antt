@@ -6,6 +6,7 @@ use mathlib.Core.Path.{sym, _∙_}
 use Prim.Native.Nat.{_-_}
 use native.Mathlib.Omega.{arith}
 use borrow.Author.Tests.{not-true, not-false}
+use Rattle.validate.specs.Validate.{beforeIn}
 use Rattle.validate.proofs.ArenaRecords.{ValidAfter, right-after}
 use Rattle.validate.proofs.RecordsLaws.{RecordsTo, records-none, no-root, record-fails, records-more, records-all}
 use Rattle.validate.proofs.graph.records_valid.Statement.{statement}
@@ -19,9 +20,9 @@ abbrev μ-loop : tie.MeasureT-loop
 
 -- the record here is right
 right : (c : tie.Else1 Inv-loop μ-loop)
-    → let l = c .before .before .before .before .before .before .before in
-    ValidAfter (l .before .before .before .before .args .arena .now) (l .loop .n) (l .loop .path-bytes) (l .loop .root)
-right c = right-after _ _ _ _ (sym (c .before .record-valid .ensures) ∙ not-false _ (c .if1 .left))
+    → let l = c .before .before .before .before .before .before in
+    ValidAfter (l .before .before .before .before .args .arena .now) (beforeIn (l .loop .n) (l .loop .path-bytes) (l .loop .root))
+right c = right-after _ _ (sym (c .before .record-valid .ensures) ∙ not-false _ (c .if1 .left))
 
 kinds-requires : tie.Need-kinds-requires Inv-loop μ-loop
 kinds-requires c κs = search needs
@@ -38,11 +39,6 @@ record-length-requires c κs = let s = c .before .before .before .before .before
 cast-length : tie.Need-cast-length Inv-loop μ-loop
 cast-length c = search needs
 
-arc-requires : tie.Need-arc-requires Inv-loop μ-loop
-arc-requires c κs =
-    let s = c .before .before .before .before .before .before in
-    record { whole = s .pre .0; within = omega (arith, c .before .loop-test, s .pre) }
-
 slice-aggregate-record-valid : tie.Need-slice-aggregate-record-valid Inv-loop μ-loop
 slice-aggregate-record-valid c = search needs
 
@@ -51,28 +47,29 @@ slice-aggregate-record-valid-2 c = search needs
 
 record-valid-requires : tie.Need-record-valid-requires Inv-loop μ-loop
 record-valid-requires c κs =
-    let s = c .before .before .before .before .before .before .before .before .before in (
-      record { kinds-right = c .before .before .before .before .before .before .before .kinds .ensures; pairs-right = c .before .before .before .before .before .before .pairs .ensures },
+    let s = c .before .before .before .before .before .before .before .before in (
+      record { kinds-right = c .before .before .before .before .before .before .kinds .ensures; pairs-right = c .before .before .before .before .before .pairs .ensures },
       (
-        record { whole = s .pre .0; within = omega (arith, c .before .before .before .before .loop-test, s .pre) },
-        c .before .before .before .record-length .ensures,
-        c .before .before .arc .ensures,
-        c .before .before .before .before .before .loop .inv .few-bytes,
+        record { whole = s .pre .0; within = omega (arith, c .before .before .before .loop-test, s .pre) },
+        c .before .before .record-length .ensures,
+        c .before .before .before .before .loop .inv .few-bytes,
       ),
     )
 
 returns : tie.Need-returns Inv-loop μ-loop
 returns c =
-    let l = c .before .before .before .before .before .before .before in
-    sym (record-fails _ _ _ _ (l .loop .inv) (omega (arith, c .before .before .before .before .before .before .loop-test, l .before .before .before .before .pre .1))
+    let l = c .before .before .before .before .before .before in
+    sym (record-fails _ _ _ _ (l .loop .inv) (omega (arith, c .before .before .before .before .before .loop-test, l .before .before .before .before .pre .1))
     (sym (c .before .record-valid .ensures) ∙ not-true _ (c .if1 .taken)))
 
 sub-path-bytes : tie.Need-sub-path-bytes Inv-loop μ-loop
-sub-path-bytes c = omega (arith, right c .named, c .before .before .before .before .before .record-length .ensures)
+sub-path-bytes c = omega (arith, right c .named, c .before .before .before .before .record-length .ensures)
 
 add-path-bytes : tie.Need-add-path-bytes Inv-loop μ-loop
-add-path-bytes c =
-    omega (arith, right c .short, c .before .before .before .before .before .record-length .ensures, c .before .before .before .before .before .before .before .loop .inv .few-bytes)
+add-path-bytes c = omega (arith, right c .short, c .before .before .before .before .record-length .ensures, c .before .before .before .before .before .before .loop .inv .few-bytes)
+
+arc-requires : tie.Need-arc-requires Inv-loop μ-loop
+arc-requires c κs = let s = c .before .before .before .before .before .before .before .before .before .before in record { whole = s .pre .0; within = omega (arith, c .before .before .before .before .before .loop-test, s .pre) }
 
 root-with-requires : tie.Need-root-with-requires Inv-loop μ-loop
 root-with-requires c κs = no-root _ _ _ _ (c .before .before .before .before .before .before .before .loop .inv)
@@ -88,8 +85,8 @@ loop-again c =
     let l = c .before .before .before .before .before .before .before .before in
     let s = l .before .before .before .before in
     records-more _ _ _ _ (l .loop .inv) (s .pre .0) (omega (arith, s .pre)) (omega (arith, c .before .before .before .before .before .before .before .loop-test, s .pre .1)) _ _ _
-    (c .before .before .before .before .before .before .record-length .ensures) (c .before .before .before .before .before .arc .ensures) (c .root-with .ensures)
-    (sym (c .before .before .record-valid .ensures) ∙ not-false _ (c .before .if1 .left))
+    (c .before .before .before .before .before .before .record-length .ensures) (c .before .arc .ensures) (c .root-with .ensures)
+    (sym (c .before .before .before .record-valid .ensures) ∙ not-false _ (c .before .before .if1 .left))
 
 root-valid-requires : tie.Need-root-valid-requires Inv-loop μ-loop
 root-valid-requires c κs = c .before .before .before .before .before .pre .0
@@ -111,13 +108,13 @@ records-valid-spec =
     loop-holds
     record-length-requires
     cast-length
-    arc-requires
     slice-aggregate-record-valid
     slice-aggregate-record-valid-2
     record-valid-requires
     returns
     sub-path-bytes
     add-path-bytes
+    arc-requires
     root-with-requires
     add-n
     loop-less

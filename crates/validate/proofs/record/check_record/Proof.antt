@@ -13,9 +13,7 @@ use Rattle.validate.proofs.record.check_record.Tie as tie
 
 -- the first test passed
 linked : (c : tie.Else1)
-    → linksAt (c .before .before .before .args .count) (c .before .before .before .args .arc) (c .before .before .before .args .flags)
-    (c .before .before .before .args .parent) (c .before .before .before .args .origin)
-    ≡ true
+    → linksAt (c .before .before .before .args .before) (c .before .before .before .args .numbers) ≡ true
 linked c = sym (c .before .links-allowed .ensures) ∙ not-false _ (c .if1 .left)
 
 -- the path has so many names

@@ -19,15 +19,15 @@ left-over held more fits = go (leb (held + more) 32768) refl
     go false e = lt-leb more (32768 - held) (omega (arith, leb-false (held + more) 32768 e))
 
 returns : tie.Need-returns
-returns c = rw (le-ltb (c .before .args .count) 1024 (c .if1 .taken))
+returns c = rw (le-ltb (c .before .before .args .before .count) 1024 (c .if1 .taken))
 
 sub-result : tie.Need-sub-result
 sub-result c = search needs
 
 returns-2 : tie.Need-returns-2
 returns-2 c =
-    let a = c .before .args in
-    rw (lt-ltb (a .count) 1024 (c .if1 .left)) (left-over (a .«path-bytes») (a .«path-length») (c .before .pre))
+    let a = c .before .before .before .args in
+    rw (lt-ltb (a .before .count) 1024 (c .before .if1 .left)) (left-over (a .before .«path_bytes») (a .«path-length») (c .before .before .before .pre))
 
 pub has-room-spec : {M : Type 1} → statement M
 has-room-spec = tie.close (tie.spec returns sub-result returns-2)

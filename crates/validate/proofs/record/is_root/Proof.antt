@@ -6,31 +6,31 @@ use Rattle.validate.proofs.record.is_root.Statement.{statement}
 use Rattle.validate.proofs.record.is_root.Tie as tie
 
 returns : tie.Need-returns
-returns c = rw (ne-eqb (c .before .args .arc) 0 (c .if1 .taken))
+returns c = rw (ne-eqb (c .before .before .args .numbers .arc) 0 (c .if1 .taken))
 
 is-inert-requires : tie.Need-is-inert-requires
 is-inert-requires c κs = search needs
 
 returns-2 : tie.Need-returns-2
 returns-2 c =
-    rw (eq-eqb (c .before .before .before .args .arc) 0 (c .before .before .if1 .left), sym (c .before .is-inert .ensures) ∙ not-true _ (c .if2 .taken))
+    rw (eq-eqb (c .before .before .before .before .args .numbers .arc) 0 (c .before .before .if1 .left), sym (c .before .is-inert .ensures) ∙ not-true _ (c .if2 .taken))
 
 returns-3 : tie.Need-returns-3
 returns-3 c =
-    let a = c .before .before .before .before .args in
+    let x = c .before .before .before .before .before .before .args .numbers in
     rw (
-      eq-eqb (a .arc) 0 (c .before .before .before .if1 .left),
-      sym (c .before .before .is-inert .ensures) ∙ not-false _ (c .before .if2 .left),
-      ne-eqb (a .parent) 4294967295 (c .if3 .taken),
+      eq-eqb (x .arc) 0 (c .before .before .before .before .if1 .left),
+      sym (c .before .before .before .is-inert .ensures) ∙ not-false _ (c .before .before .if2 .left),
+      ne-eqb (x .parent) 4294967295 (c .if3 .taken),
     )
 
 returns-4 : tie.Need-returns-4
 returns-4 c =
-    let a = c .before .before .before .before .args in
+    let x = c .before .before .before .before .before .before .before .args .numbers in
     rw (
-      eq-eqb (a .arc) 0 (c .before .before .before .if1 .left),
-      sym (c .before .before .is-inert .ensures) ∙ not-false _ (c .before .if2 .left),
-      eq-eqb (a .parent) 4294967295 (c .if3 .left),
+      eq-eqb (x .arc) 0 (c .before .before .before .before .before .if1 .left),
+      sym (c .before .before .before .before .is-inert .ensures) ∙ not-false _ (c .before .before .before .if2 .left),
+      eq-eqb (x .parent) 4294967295 (c .before .if3 .left),
     )
 
 pub is-root-spec : {M : Type 1} → statement M

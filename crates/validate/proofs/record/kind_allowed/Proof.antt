@@ -2,11 +2,10 @@
 -- nothing.
 use borrow.Author.Needs.{needs}
 use mathlib.Core.Path.{_≡_, refl, sym, ap, _∙_}
-use mathlib.Core.Bool.{Bool, true, false, not, _||_, _&&_, and-true}
-use lib.Dec.{eqb}
+use mathlib.Core.Bool.{Bool, true, false, not, _&&_, cond, and-true}
 use borrow.Author.Tests.{eq-eqb, ne-eqb, le-leb, lt-leb}
 use Rattle.model.specs.Node.{hasFlag, culledFlag}
-use Rattle.validate.specs.RecordCheck.{arcAt}
+use Rattle.validate.specs.RecordCheck.{rootPlaceAt, arcAt, culledAt}
 use Rattle.validate.proofs.record.kind_allowed.Statement.{statement}
 use Rattle.validate.proofs.record.kind_allowed.Tie as tie
 
@@ -15,32 +14,55 @@ last-fails false b = refl
 last-fails true false = refl
 last-fails true true = refl
 
+either-way : (t u : Bool) → u ≡ cond t u u
+either-way true u = refl
+either-way false u = refl
+
 returns : tie.Need-returns
-returns c = rw (lt-leb (c .before .args .arc) 6 (c .if1 .taken))
+returns c = rw (lt-leb (c .before .before .args .numbers .arc) 6 (c .if1 .taken))
 
 returns-2 : tie.Need-returns-2
 returns-2 c =
-    let a = c .before .before .args in
-    let culled-root = eqb (a .arc) 0 && hasFlag culledFlag (a .flags) in
-    rw (lt-leb (a .has-specs) 1 (c .if2 .taken)) (sym (last-fails (arcAt (a .count) (a .has-root) (a .arc) (a .parent)) (not culled-root)))
-
-returns-3 : tie.Need-returns-3
-returns-3 c =
-    let a = c .before .before .before .args in
-    rw (le-leb (a .arc) 6 (c .before .before .if1 .left), le-leb (a .has-specs) 1 (c .before .if2 .left), ne-eqb (a .arc) 0 (c .if3 .taken))
+    let a = c .before .before .before .before .args in
+    rw (lt-leb (a .numbers .«has_specs») 1 (c .if2 .taken)) (sym (last-fails (arcAt (a .before) (a .numbers)) (culledAt (a .before) (a .numbers))))
 
 root-allowed-requires : tie.Need-root-allowed-requires
 root-allowed-requires c κs = search needs
 
+returns-3 : tie.Need-returns-3
+returns-3 c =
+    let a = c .before .before .before .before .before .before .before .args in
+    let whole = not (hasFlag culledFlag (a .numbers .flags)) in
+    rw (
+      le-leb (a .numbers .arc) 6 (c .before .before .before .before .before .if1 .left),
+      le-leb (a .numbers .«has_specs») 1 (c .before .before .before .if2 .left),
+      eq-eqb (a .numbers .arc) 0 (c .before .if3 .taken),
+    )
+    (c .root-allowed .ensures
+    ∙ ap (λ (t : Bool). rootPlaceAt (a .before) (a .numbers) && t) (either-way (a .before .«culled_allowed») whole ∙ sym (and-true _)))
+
 returns-4 : tie.Need-returns-4
 returns-4 c =
-    let a = c .before .before .before .before .args in
-    let placed = eqb (a .count) 0 || (eqb (a .parent) 0 && not (a .has-root)) in
+    let a = c .before .before .before .before .before .before .before .args in
     rw (
-      le-leb (a .arc) 6 (c .before .before .before .if1 .left),
-      le-leb (a .has-specs) 1 (c .before .before .if2 .left),
-      eq-eqb (a .arc) 0 (c .before .if3 .left),
-    ) (c .root-allowed .ensures ∙ ap (λ (t : Bool). placed && t) (sym (and-true (not (hasFlag culledFlag (a .flags))))))
+      le-leb (a .numbers .arc) 6 (c .before .before .before .before .before .if1 .left),
+      le-leb (a .numbers .«has_specs») 1 (c .before .before .before .if2 .left),
+      ne-eqb (a .numbers .arc) 0 (c .before .if3 .left),
+      c .if4 .taken,
+    )
+
+is-culled-requires : tie.Need-is-culled-requires
+is-culled-requires c κs = search needs
+
+returns-5 : tie.Need-returns-5
+returns-5 c =
+    let a = c .before .before .before .before .before .before .before .before .args in
+    rw (
+      le-leb (a .numbers .arc) 6 (c .before .before .before .before .before .before .if1 .left),
+      le-leb (a .numbers .«has_specs») 1 (c .before .before .before .before .if2 .left),
+      ne-eqb (a .numbers .arc) 0 (c .before .before .if3 .left),
+      c .before .if4 .left,
+    ) (ap not (c .is-culled .ensures) ∙ sym (and-true (not (hasFlag culledFlag (a .numbers .flags)))))
 
 pub kind-allowed-spec : {M : Type 1} → statement M
-kind-allowed-spec = tie.close (tie.spec returns returns-2 returns-3 root-allowed-requires returns-4)
+kind-allowed-spec = tie.close (tie.spec returns returns-2 root-allowed-requires returns-3 returns-4 is-culled-requires returns-5)
