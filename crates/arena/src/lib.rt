@@ -6,6 +6,7 @@
 // The layout is in model/specs/Arena.antt; what is read and stored has its names in specs/Slot.antt
 // and specs/Header.antt; proofs/SlotLaws.antt ties the fields to the node that the bytes hold.
 mod header;
+pub mod offsets;
 mod slot;
 
 pub use header::count;
@@ -134,8 +135,8 @@ fn store_head(arena: &mut [u8], at: usize, prim_count: u8, record_length: u16, a
 {
     big_endian::write_u8(arena, at + 16, prim_count);
     big_endian::write_u16(arena, at + 17, record_length);
-    big_endian::write_u8(arena, at + 19, arc);
-    big_endian::write_u8(arena, at + 20, flags);
+    big_endian::write_u8(arena, at + (offsets::RECORD + offsets::ARC), arc);
+    big_endian::write_u8(arena, at + (offsets::RECORD + offsets::FLAGS), flags);
 }
 
 // Stores stack, layer, parent and origin in the slot at `at`.
@@ -143,10 +144,10 @@ fn store_ids(arena: &mut [u8], at: usize, stack: u32, layer: u32, parent: u32, o
     requires { ⌜ at + 320 ≤ length (now arena) ⌝ }
     ensures { λ _. ⌜ now (arena .exit) ≡ stored (at + 21) (fourNumbers 4 stack layer parent origin) (now (arena .entry)) ⌝ }
 {
-    big_endian::write_u32(arena, at + 21, stack);
-    big_endian::write_u32(arena, at + 25, layer);
-    big_endian::write_u32(arena, at + 29, parent);
-    big_endian::write_u32(arena, at + 33, origin);
+    big_endian::write_u32(arena, at + (offsets::RECORD + offsets::STACK), stack);
+    big_endian::write_u32(arena, at + (offsets::RECORD + offsets::LAYER), layer);
+    big_endian::write_u32(arena, at + (offsets::RECORD + offsets::PARENT), parent);
+    big_endian::write_u32(arena, at + (offsets::RECORD + offsets::ORIGIN), origin);
 }
 
 // Stores the four numbers of 16 bits in the slot at `at`.
@@ -161,10 +162,18 @@ fn store_depths(
     requires { ⌜ at + 320 ≤ length (now arena) ⌝ }
     ensures { λ _. ⌜ now (arena .exit) ≡ stored (at + 37) (fourNumbers 2 depth sibling restriction «spec_from») (now (arena .entry)) ⌝ }
 {
-    big_endian::write_u16(arena, at + 37, depth);
-    big_endian::write_u16(arena, at + 39, sibling);
-    big_endian::write_u16(arena, at + 41, restriction);
-    big_endian::write_u16(arena, at + 43, spec_from);
+    big_endian::write_u16(arena, at + (offsets::RECORD + offsets::DEPTH), depth);
+    big_endian::write_u16(arena, at + (offsets::RECORD + offsets::SIBLING), sibling);
+    big_endian::write_u16(
+        arena,
+        at + (offsets::RECORD + offsets::RESTRICTION),
+        restriction,
+    );
+    big_endian::write_u16(
+        arena,
+        at + (offsets::RECORD + offsets::SPEC_FROM),
+        spec_from,
+    );
 }
 
 // Stores the prim count of node n and its record: the length, the numbers and the path, at most 255
@@ -199,6 +208,10 @@ pub fn store_record(arena: &mut [u8], n: u32, node: Node, path: &[u8])
         node.restriction,
         node.spec_from,
     );
-    big_endian::write_u8(arena, at + 45, node.has_specs);
-    big_endian::write_bytes(arena, at + 46, path);
+    big_endian::write_u8(
+        arena,
+        at + (offsets::RECORD + offsets::HAS_SPECS),
+        node.has_specs,
+    );
+    big_endian::write_bytes(arena, at + (offsets::RECORD + offsets::PATH), path);
 }

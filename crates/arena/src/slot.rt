@@ -1,5 +1,6 @@
 // A slot's fields, one load or store each, and the path. The record's fields are read where they
 // lie, whatever length the record says it has.
+use crate::offsets;
 ghost use mathlib.Core.Path.{_≡_};
 ghost use Prim.Native.Nat.{_+_, _≤_};
 ghost use lib.ListN.{take, drop};
@@ -90,7 +91,7 @@ pub fn arc(arena: &[u8], n: u32) -> u8
     requires { ⌜ HasSlot (now arena) n ⌝ }
     ensures { λ r. ⌜ r ≡ arcIn (now (arena .entry)) n ⌝ }
 {
-    read_u8(arena, n, 19)
+    read_u8(arena, n, offsets::RECORD + offsets::ARC)
 }
 
 // The flags of node n.
@@ -98,7 +99,7 @@ pub fn flags(arena: &[u8], n: u32) -> u8
     requires { ⌜ HasSlot (now arena) n ⌝ }
     ensures { λ r. ⌜ r ≡ flagsIn (now (arena .entry)) n ⌝ }
 {
-    read_u8(arena, n, 20)
+    read_u8(arena, n, offsets::RECORD + offsets::FLAGS)
 }
 
 // The stack of node n's site.
@@ -106,7 +107,7 @@ pub fn stack(arena: &[u8], n: u32) -> u32
     requires { ⌜ HasSlot (now arena) n ⌝ }
     ensures { λ r. ⌜ r ≡ stackIn (now (arena .entry)) n ⌝ }
 {
-    read_u32(arena, n, 21)
+    read_u32(arena, n, offsets::RECORD + offsets::STACK)
 }
 
 // The layer of node n.
@@ -114,7 +115,7 @@ pub fn layer(arena: &[u8], n: u32) -> u32
     requires { ⌜ HasSlot (now arena) n ⌝ }
     ensures { λ r. ⌜ r ≡ layerIn (now (arena .entry)) n ⌝ }
 {
-    read_u32(arena, n, 25)
+    read_u32(arena, n, offsets::RECORD + offsets::LAYER)
 }
 
 // The parent of node n.
@@ -122,7 +123,7 @@ pub fn parent(arena: &[u8], n: u32) -> u32
     requires { ⌜ HasSlot (now arena) n ⌝ }
     ensures { λ r. ⌜ r ≡ parentIn (now (arena .entry)) n ⌝ }
 {
-    read_u32(arena, n, 29)
+    read_u32(arena, n, offsets::RECORD + offsets::PARENT)
 }
 
 // The origin of node n.
@@ -130,7 +131,7 @@ pub fn origin(arena: &[u8], n: u32) -> u32
     requires { ⌜ HasSlot (now arena) n ⌝ }
     ensures { λ r. ⌜ r ≡ originIn (now (arena .entry)) n ⌝ }
 {
-    read_u32(arena, n, 33)
+    read_u32(arena, n, offsets::RECORD + offsets::ORIGIN)
 }
 
 // The namespace depth of node n.
@@ -138,7 +139,7 @@ pub fn depth(arena: &[u8], n: u32) -> u16
     requires { ⌜ HasSlot (now arena) n ⌝ }
     ensures { λ r. ⌜ r ≡ depthIn (now (arena .entry)) n ⌝ }
 {
-    read_u16(arena, n, 37)
+    read_u16(arena, n, offsets::RECORD + offsets::DEPTH)
 }
 
 // The sibling number of node n.
@@ -146,7 +147,7 @@ pub fn sibling(arena: &[u8], n: u32) -> u16
     requires { ⌜ HasSlot (now arena) n ⌝ }
     ensures { λ r. ⌜ r ≡ siblingIn (now (arena .entry)) n ⌝ }
 {
-    read_u16(arena, n, 39)
+    read_u16(arena, n, offsets::RECORD + offsets::SIBLING)
 }
 
 // The restriction depth of node n.
@@ -154,7 +155,7 @@ pub fn restriction(arena: &[u8], n: u32) -> u16
     requires { ⌜ HasSlot (now arena) n ⌝ }
     ensures { λ r. ⌜ r ≡ restrictionIn (now (arena .entry)) n ⌝ }
 {
-    read_u16(arena, n, 41)
+    read_u16(arena, n, offsets::RECORD + offsets::RESTRICTION)
 }
 
 // The `spec_from` of node n.
@@ -162,7 +163,7 @@ pub fn spec_from(arena: &[u8], n: u32) -> u16
     requires { ⌜ HasSlot (now arena) n ⌝ }
     ensures { λ r. ⌜ r ≡ specFromIn (now (arena .entry)) n ⌝ }
 {
-    read_u16(arena, n, 43)
+    read_u16(arena, n, offsets::RECORD + offsets::SPEC_FROM)
 }
 
 // Whether node n has specs: 1 or 0.
@@ -170,7 +171,7 @@ pub fn has_specs(arena: &[u8], n: u32) -> u8
     requires { ⌜ HasSlot (now arena) n ⌝ }
     ensures { λ r. ⌜ r ≡ hasSpecsIn (now (arena .entry)) n ⌝ }
 {
-    read_u8(arena, n, 45)
+    read_u8(arena, n, offsets::RECORD + offsets::HAS_SPECS)
 }
 
 // The path of node n, a part of the arena: what follows the numbers of its record.
@@ -178,8 +179,8 @@ pub fn path(arena: &[u8], n: u32) -> &[u8]
     requires { ⌜ HasPath (now arena) n ⌝ }
     ensures { λ r. ⌜ now r ≡ nodeIn (now (arena .entry)) n .path ⌝ }
 {
-    let body = HEADER + (n as usize) * SLOT + 19;
-    let start = body + 27;
+    let body = HEADER + (n as usize) * SLOT + offsets::RECORD;
+    let start = body + offsets::PATH;
     let end = body + (record_length(arena, n) as usize);
     &arena[start..end]
 }
@@ -207,5 +208,9 @@ pub fn write_flags(arena: &mut [u8], n: u32, flags: u8)
     requires { ⌜ HasSlot (now arena) n ⌝ }
     ensures { λ _. ⌜ now (arena .exit) ≡ flagsStored n flags (now (arena .entry)) ⌝ }
 {
-    big_endian::write_u8(arena, HEADER + (n as usize) * SLOT + 20, flags);
+    big_endian::write_u8(
+        arena,
+        HEADER + (n as usize) * SLOT + (offsets::RECORD + offsets::FLAGS),
+        flags,
+    );
 }

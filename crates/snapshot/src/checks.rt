@@ -4,6 +4,7 @@ use crate::fields;
 use crate::fields::Byte;
 use crate::fields::Field;
 use crate::fields::Short;
+use arena::offsets;
 use model::NumberResult;
 use model::Refusal;
 use model::UnitResult;
@@ -92,19 +93,19 @@ fn check_one(kinds: &[u8], pairs: &[u64], body: &[u8], before: Before) -> Checke
     requires { ⌜ (28 ≤ length (now body)) × (before .«path_bytes» ≤ 32768) ⌝ }
     ensures { λ r. ⌜ RecordChecked (questionsOf before (readRecord (now (body .entry)))) (readRecord (now (body .entry)) .path) r ⌝ }
 {
-    let Byte::Value(arc) = fields::take_u8(body, 0) else {
+    let Byte::Value(arc) = fields::take_u8(body, offsets::ARC) else {
         return Checked::Refused(Refusal::Snapshot);
     };
-    let Byte::Value(flags) = fields::take_u8(body, 1) else {
+    let Byte::Value(flags) = fields::take_u8(body, offsets::FLAGS) else {
         return Checked::Refused(Refusal::Snapshot);
     };
-    let Field::Value(parent) = fields::take_u32(body, 10) else {
+    let Field::Value(parent) = fields::take_u32(body, offsets::PARENT) else {
         return Checked::Refused(Refusal::Snapshot);
     };
-    let Field::Value(origin) = fields::take_u32(body, 14) else {
+    let Field::Value(origin) = fields::take_u32(body, offsets::ORIGIN) else {
         return Checked::Refused(Refusal::Snapshot);
     };
-    let Byte::Value(has_specs) = fields::take_u8(body, 26) else {
+    let Byte::Value(has_specs) = fields::take_u8(body, offsets::HAS_SPECS) else {
         return Checked::Refused(Refusal::Snapshot);
     };
     let numbers = RecordNumbers {
@@ -114,7 +115,7 @@ fn check_one(kinds: &[u8], pairs: &[u64], body: &[u8], before: Before) -> Checke
         origin: origin,
         has_specs: has_specs,
     };
-    let path = &body[27..];
+    let path = &body[offsets::PATH..];
     validate::check_record(
         before,
         numbers,
@@ -150,8 +151,8 @@ pub fn check_records(bytes: &[u8], count: u32, prims: &mut [u8]) -> UnitResult
             }
             Checked::Accepted(prim_count) => {
                 prims[n as usize] = prim_count;
-                has_root = with_root(has_root, n, record[0]);
-                path_bytes += record.len() - 27;
+                has_root = with_root(has_root, n, record[offsets::ARC]);
+                path_bytes += record.len() - offsets::PATH;
                 at += 2 + record.len();
                 n += 1;
             }

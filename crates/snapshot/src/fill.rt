@@ -4,6 +4,7 @@ use crate::fields::Byte;
 use crate::fields::Field;
 use crate::fields::Short;
 use arena::Node;
+use arena::offsets;
 use model::NodeId;
 ghost use mathlib.Core.Path.{_≡_};
 ghost use Prim.Native.Nat.{_≤_};
@@ -38,16 +39,16 @@ fn take_ids(body: &[u8]) -> Ids
     requires { ⌜ 27 ≤ length (now body) ⌝ }
     ensures { λ r. ⌜ r ≡ idsOf (now (body .entry)) ⌝ }
 {
-    let Field::Value(stack) = crate::fields::take_u32(body, 2) else {
+    let Field::Value(stack) = crate::fields::take_u32(body, offsets::STACK) else {
         return Ids::Missing;
     };
-    let Field::Value(layer) = crate::fields::take_u32(body, 6) else {
+    let Field::Value(layer) = crate::fields::take_u32(body, offsets::LAYER) else {
         return Ids::Missing;
     };
-    let Field::Value(parent) = crate::fields::take_u32(body, 10) else {
+    let Field::Value(parent) = crate::fields::take_u32(body, offsets::PARENT) else {
         return Ids::Missing;
     };
-    let Field::Value(origin) = crate::fields::take_u32(body, 14) else {
+    let Field::Value(origin) = crate::fields::take_u32(body, offsets::ORIGIN) else {
         return Ids::Missing;
     };
     Ids::Values(stack, layer, parent, origin)
@@ -58,19 +59,19 @@ fn take_tail(body: &[u8]) -> Tail
     requires { ⌜ 27 ≤ length (now body) ⌝ }
     ensures { λ r. ⌜ r ≡ tailOf (now (body .entry)) ⌝ }
 {
-    let Short::Value(depth) = crate::fields::take_u16(body, 18) else {
+    let Short::Value(depth) = crate::fields::take_u16(body, offsets::DEPTH) else {
         return Tail::Missing;
     };
-    let Short::Value(sibling) = crate::fields::take_u16(body, 20) else {
+    let Short::Value(sibling) = crate::fields::take_u16(body, offsets::SIBLING) else {
         return Tail::Missing;
     };
-    let Short::Value(restriction) = crate::fields::take_u16(body, 22) else {
+    let Short::Value(restriction) = crate::fields::take_u16(body, offsets::RESTRICTION) else {
         return Tail::Missing;
     };
-    let Short::Value(spec_from) = crate::fields::take_u16(body, 24) else {
+    let Short::Value(spec_from) = crate::fields::take_u16(body, offsets::SPEC_FROM) else {
         return Tail::Missing;
     };
-    let Byte::Value(has_specs) = crate::fields::take_u8(body, 26) else {
+    let Byte::Value(has_specs) = crate::fields::take_u8(body, offsets::HAS_SPECS) else {
         return Tail::Missing;
     };
     Tail::Values(depth, sibling, restriction, spec_from, has_specs)
@@ -81,10 +82,10 @@ fn read_node(body: &[u8], prim_count: u8) -> Taken
     requires { ⌜ (27 ≤ length (now body)) × (length (now body) ≤ 282) ⌝ }
     ensures { λ r. ⌜ NodeTaken (now (body .entry)) «prim_count» r ⌝ }
 {
-    let Byte::Value(arc) = crate::fields::take_u8(body, 0) else {
+    let Byte::Value(arc) = crate::fields::take_u8(body, offsets::ARC) else {
         return Taken::Missing;
     };
-    let Byte::Value(flags) = crate::fields::take_u8(body, 1) else {
+    let Byte::Value(flags) = crate::fields::take_u8(body, offsets::FLAGS) else {
         return Taken::Missing;
     };
     let Ids::Values(stack, layer, parent, origin) = take_ids(body) else {
@@ -121,7 +122,7 @@ fn append_record(arena: &mut [u8], n: u32, body: &[u8], prim_count: u8)
     let Taken::Node(node) = read_node(body, prim_count) else {
         return;
     };
-    child_lists::append_node(arena, n, node, &body[27..]);
+    child_lists::append_node(arena, n, node, &body[offsets::PATH..]);
 }
 
 // Makes the arena hold the empty graph, whatever it held.

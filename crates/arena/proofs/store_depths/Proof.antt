@@ -10,23 +10,35 @@ use Rattle.arena.proofs.store_depths.Tie as tie
 add-write-u16 : tie.Need-add-write-u16
 add-write-u16 c = search needs
 
-write-u16-requires : tie.Need-write-u16-requires
-write-u16-requires c κs = search needs
-
 add-write-u16-2 : tie.Need-add-write-u16-2
 add-write-u16-2 c = search needs
 
-write-u16-requires-2 : tie.Need-write-u16-requires-2
-write-u16-requires-2 c κs = search needs
+write-u16-requires : tie.Need-write-u16-requires
+write-u16-requires c κs = search needs
 
 add-write-u16-3 : tie.Need-add-write-u16-3
 add-write-u16-3 c = search needs
 
+add-write-u16-4 : tie.Need-add-write-u16-4
+add-write-u16-4 c = search needs
+
+write-u16-requires-2 : tie.Need-write-u16-requires-2
+write-u16-requires-2 c κs = search needs
+
+add-write-u16-5 : tie.Need-add-write-u16-5
+add-write-u16-5 c = search needs
+
+add-write-u16-6 : tie.Need-add-write-u16-6
+add-write-u16-6 c = search needs
+
 write-u16-requires-3 : tie.Need-write-u16-requires-3
 write-u16-requires-3 c κs = search needs
 
-add-write-u16-4 : tie.Need-add-write-u16-4
-add-write-u16-4 c = search needs
+add-write-u16-7 : tie.Need-add-write-u16-7
+add-write-u16-7 c = search needs
+
+add-write-u16-8 : tie.Need-add-write-u16-8
+add-write-u16-8 c = search needs
 
 write-u16-requires-4 : tie.Need-write-u16-requires-4
 write-u16-requires-4 c κs = search needs
@@ -50,12 +62,16 @@ store-depths-spec =
     tie.close
     (tie.spec
     add-write-u16
-    write-u16-requires
     add-write-u16-2
-    write-u16-requires-2
+    write-u16-requires
     add-write-u16-3
-    write-u16-requires-3
     add-write-u16-4
+    write-u16-requires-2
+    add-write-u16-5
+    add-write-u16-6
+    write-u16-requires-3
+    add-write-u16-7
+    add-write-u16-8
     write-u16-requires-4
     same-length
     returns)

@@ -26,11 +26,17 @@ write-u16-requires c κs = search needs
 add-write-u8-2 : tie.Need-add-write-u8-2
 add-write-u8-2 c = search needs
 
+add-write-u8-3 : tie.Need-add-write-u8-3
+add-write-u8-3 c = search needs
+
 write-u8-requires-2 : tie.Need-write-u8-requires-2
 write-u8-requires-2 c κs = search needs
 
-add-write-u8-3 : tie.Need-add-write-u8-3
-add-write-u8-3 c = search needs
+add-write-u8-4 : tie.Need-add-write-u8-4
+add-write-u8-4 c = search needs
+
+add-write-u8-5 : tie.Need-add-write-u8-5
+add-write-u8-5 c = search needs
 
 write-u8-requires-3 : tie.Need-write-u8-requires-3
 write-u8-requires-3 c κs = search needs
@@ -59,8 +65,10 @@ store-head-spec =
     add-write-u16
     write-u16-requires
     add-write-u8-2
-    write-u8-requires-2
     add-write-u8-3
+    write-u8-requires-2
+    add-write-u8-4
+    add-write-u8-5
     write-u8-requires-3
     same-length
     returns)

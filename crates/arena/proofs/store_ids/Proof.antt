@@ -10,23 +10,35 @@ use Rattle.arena.proofs.store_ids.Tie as tie
 add-write-u32 : tie.Need-add-write-u32
 add-write-u32 c = search needs
 
-write-u32-requires : tie.Need-write-u32-requires
-write-u32-requires c κs = search needs
-
 add-write-u32-2 : tie.Need-add-write-u32-2
 add-write-u32-2 c = search needs
 
-write-u32-requires-2 : tie.Need-write-u32-requires-2
-write-u32-requires-2 c κs = search needs
+write-u32-requires : tie.Need-write-u32-requires
+write-u32-requires c κs = search needs
 
 add-write-u32-3 : tie.Need-add-write-u32-3
 add-write-u32-3 c = search needs
 
+add-write-u32-4 : tie.Need-add-write-u32-4
+add-write-u32-4 c = search needs
+
+write-u32-requires-2 : tie.Need-write-u32-requires-2
+write-u32-requires-2 c κs = search needs
+
+add-write-u32-5 : tie.Need-add-write-u32-5
+add-write-u32-5 c = search needs
+
+add-write-u32-6 : tie.Need-add-write-u32-6
+add-write-u32-6 c = search needs
+
 write-u32-requires-3 : tie.Need-write-u32-requires-3
 write-u32-requires-3 c κs = search needs
 
-add-write-u32-4 : tie.Need-add-write-u32-4
-add-write-u32-4 c = search needs
+add-write-u32-7 : tie.Need-add-write-u32-7
+add-write-u32-7 c = search needs
+
+add-write-u32-8 : tie.Need-add-write-u32-8
+add-write-u32-8 c = search needs
 
 write-u32-requires-4 : tie.Need-write-u32-requires-4
 write-u32-requires-4 c κs = search needs
@@ -50,12 +62,16 @@ store-ids-spec =
     tie.close
     (tie.spec
     add-write-u32
-    write-u32-requires
     add-write-u32-2
-    write-u32-requires-2
+    write-u32-requires
     add-write-u32-3
-    write-u32-requires-3
     add-write-u32-4
+    write-u32-requires-2
+    add-write-u32-5
+    add-write-u32-6
+    write-u32-requires-3
+    add-write-u32-7
+    add-write-u32-8
     write-u32-requires-4
     same-length
     returns)

@@ -33,11 +33,17 @@ store-depths-requires c κs = search needs
 add-write-u8 : tie.Need-add-write-u8
 add-write-u8 c = search needs
 
+add-write-u8-2 : tie.Need-add-write-u8-2
+add-write-u8-2 c = search needs
+
 write-u8-requires : tie.Need-write-u8-requires
 write-u8-requires c κs = search needs
 
 add-write-bytes : tie.Need-add-write-bytes
 add-write-bytes c = search needs
+
+add-write-bytes-2 : tie.Need-add-write-bytes-2
+add-write-bytes-2 c = search needs
 
 write-bytes-requires : tie.Need-write-bytes-requires
 write-bytes-requires c κs = search needs
@@ -86,8 +92,10 @@ store-record-spec =
     store-ids-requires
     store-depths-requires
     add-write-u8
+    add-write-u8-2
     write-u8-requires
     add-write-bytes
+    add-write-bytes-2
     write-bytes-requires
     same-length
     returns)
