@@ -5,8 +5,10 @@
 // number is a plain u32, as parameter and as a single field; 4,294,967,295 is no node.
 // The layout is in model/specs/Arena.antt; what is read and stored has its names in specs/Slot.antt
 // and specs/Header.antt; proofs/SlotLaws.antt ties the fields to the node that the bytes hold.
+pub mod arcs;
 mod header;
 pub mod offsets;
+mod sizes;
 mod slot;
 
 pub use header::count;
@@ -18,6 +20,10 @@ pub use header::write_count;
 pub use header::write_local_root;
 pub use header::write_state;
 use model::NodeId;
+pub use sizes::ARENA_BYTES;
+pub use sizes::MAX_NODES;
+pub use sizes::MAX_PATH_BYTES;
+pub use sizes::NO_NODE;
 pub use slot::arc;
 pub use slot::depth;
 pub use slot::first_child;

@@ -40,7 +40,7 @@ pub extern "C" fn bench_prim_count(path: &[u8]) -> u32
 pub extern "C" fn bench_is_graph(arena: &[u8]) -> u32
     ensures { λ r. ⌜ r ≡ graphNumber (now (arena .entry)) ⌝ }
 {
-    if arena.len() != 327744 {
+    if arena.len() != arena::ARENA_BYTES {
         return 0;
     }
     validate::is_graph(arena) as u32

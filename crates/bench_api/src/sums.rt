@@ -66,7 +66,7 @@ fn ask_pairs(arena: &[u8], pairs: &[u8], siblings: bool) -> u32
 fn ask_call(arena: &[u8], pairs: &[u8], siblings: bool) -> u32
     ensures { λ r. ⌜ r ≡ callRefused siblings (now (arena .entry)) (now (pairs .entry)) ⌝ }
 {
-    if arena.len() != 327744 {
+    if arena.len() != arena::ARENA_BYTES {
         return 1;
     }
     if pairs.len() > 8388608 {

@@ -95,7 +95,7 @@ fn put_field(number: u32, out: &mut [u8], used: usize) -> usize {
 
 // The node's number, or `-` for none, and a comma.
 fn put_link(number: u32, out: &mut [u8], used: usize) -> usize {
-    if number == 4294967295 {
+    if number == arena::NO_NODE {
         return put(out, used, b"-,");
     }
     put_field(number, out, used)

@@ -13,9 +13,6 @@ ghost use Rattle.model.specs.Node.{invalid};
 ghost use Rattle.arena.specs.Slot.{HasSlot, nodeOf, recordStored};
 ghost use Rattle.child_lists.specs.Append.{CanAppend, shallowWith, headerStored, threeLinks, CanLink, childLinked};
 
-// The arc of node 0 and of the local root.
-const ROOT: u8 = 0;
-
 // Whether the graph is shallow with this node as number n: where it was, or where the node's depth
 // passes its parent's prim count.
 fn is_shallow(arena: &[u8], n: u32, parent: u32, depth: u16) -> bool
@@ -40,7 +37,7 @@ fn store_header(arena: &mut [u8], n: u32, arc: u8, shallow: bool)
 {
     arena::write_count(arena, n + 1);
     arena::write_state(arena, false, false, shallow);
-    if arc == ROOT {
+    if arc == arena::arcs::ROOT {
         arena::write_local_root(arena, n);
     }
 }

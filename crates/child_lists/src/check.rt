@@ -10,9 +10,6 @@ ghost use Prim.Native.Nat.{_<_};
 ghost use Rattle.model.specs.Arena.{countIn};
 ghost use Rattle.child_lists.specs.ChildLists.{Parented, childListsValid, leftAfter};
 
-// No node, as a link says it.
-const NONE: u32 = 4294967295;
-
 // How many nodes are left of a budget after one child list, or that the list is wrong.
 enum Walked {
     Left(u32),
@@ -26,7 +23,7 @@ fn left_after(arena: &[u8], count: u32, parent: u32, budget: u32) -> Walked
     requires { ⌜ (count ≡ countIn (now arena)) × (parent < count) ⌝ }
     ensures { λ r. ⌜ r ≡ leftAfter (now (arena .entry)) parent budget ⌝ }
 {
-    let mut last = NONE;
+    let mut last = arena::NO_NODE;
     let mut at = arena::first_child(arena, parent);
     let mut left = budget;
     while at < count {
@@ -40,7 +37,7 @@ fn left_after(arena: &[u8], count: u32, parent: u32, budget: u32) -> Walked
         at = arena::next_sibling(arena, at);
         left -= 1;
     }
-    if at != NONE {
+    if at != arena::NO_NODE {
         return Walked::Wrong;
     }
     if arena::last_child(arena, parent) != last {
@@ -60,7 +57,7 @@ pub fn are_valid(arena: &[u8], count: u32) -> bool
     if count == 0 {
         return true;
     }
-    if arena::next_sibling(arena, 0) != NONE {
+    if arena::next_sibling(arena, 0) != arena::NO_NODE {
         return false;
     }
     let mut left = count - 1;

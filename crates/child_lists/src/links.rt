@@ -17,7 +17,7 @@ pub(crate) fn last_of(sorted: &[u32], start: usize, end: usize) -> u32
     if start < end {
         return sorted[end - 1];
     }
-    4294967295
+    arena::NO_NODE
 }
 
 // Links the children of that list, the last one first, and answers its first child, 4,294,967,295
@@ -27,7 +27,7 @@ fn link_list(sorted: &[u32], start: usize, end: usize, next: &mut [u32]) -> u32
     requires { ⌜ ((k : ℕ) → k < end → getD (now sorted) k 0 < 1024) ⌝ }
     ensures { λ r. ⌜ (r ≡ firstOf (slice start end (now (sorted .entry)))) × (now (next .exit) ≡ nextsSet (slice start end (now (sorted .entry))) (now (next .entry))) ⌝ }
 {
-    let mut head: u32 = 4294967295;
+    let mut head: u32 = arena::NO_NODE;
     let mut at = end;
     while start < at {
         at -= 1;
@@ -52,7 +52,7 @@ pub fn link_lists(
     requires { ⌜ (length (now first) ≡ 1024) × (length (now last) ≡ 1024) × (length (now next) ≡ 1024) ⌝ }
     ensures { λ _. ⌜ Linked (now (sorted .entry)) (now (ends .entry)) count (now (first .exit)) (now (last .exit)) (now (next .entry)) (now (next .exit)) ⌝ }
 {
-    next[0] = 4294967295;
+    next[0] = arena::NO_NODE;
     let mut start: usize = 0;
     let mut parent: u32 = 0;
     while parent < count {

@@ -37,7 +37,7 @@ fn store_nexts(arena: &mut [u8], sorted: &[u32], start: usize, end: usize) -> u3
     requires { ⌜ ((k : ℕ) → k < end → getD (now sorted) k 0 < 1024) ⌝ }
     ensures { λ r. ⌜ (r ≡ firstOf (slice start end (now (sorted .entry)))) × (now (arena .exit) ≡ nextsStored (slice start end (now (sorted .entry))) (now (arena .entry))) ⌝ }
 {
-    let mut head: u32 = 4294967295;
+    let mut head: u32 = arena::NO_NODE;
     let mut at = end;
     while start < at {
         at -= 1;

@@ -25,7 +25,7 @@ pub fn paths_fit(arena: &[u8], name: &[u8]) -> bool
         }
         sum += end;
     }
-    sum <= 32768
+    sum <= arena::MAX_PATH_BYTES
 }
 
 // Whether an order is kept, which it is where the graph is finalized.

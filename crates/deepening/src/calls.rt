@@ -57,7 +57,7 @@ pub fn append_child_name_to_all_sites(arena: &mut [u8], child: &[u8]) -> UnitRes
 pub fn seed_child(from: &[u8], into: &mut [u8], child: &[u8]) -> UnitResult
     ensures { λ r. ⌜ Seeded (now (child .entry)) (now (from .entry)) (now (into .entry)) r (now (into .exit)) ⌝ }
 {
-    if into.len() != 327744 {
+    if into.len() != arena::ARENA_BYTES {
         return UnitResult::Refused(Refusal::Size);
     }
     let asked = ask(from, child);

@@ -47,7 +47,7 @@ fn gather_list(
 {
     let mut end = start;
     let mut child = arena::first_child(arena, parent);
-    while child != 4294967295 {
+    while child != arena::NO_NODE {
         let i = child as usize;
         child = arena::next_sibling(arena, child);
         if set[i] == 0 {

@@ -101,10 +101,10 @@ fn put_listing(arena: &[u8], out: &mut [u8]) -> usize
 pub fn write_listing(arena: &[u8], out: &mut [u8]) -> NumberResult
     ensures { λ r. ⌜ ListingWritten (now (arena .entry)) (now (out .entry)) r (now (out .exit)) ⌝ }
 {
-    if arena.len() != 327744 {
+    if arena.len() != arena::ARENA_BYTES {
         return NumberResult::Refused(Refusal::Size);
     }
-    if out.len() != 327744 {
+    if out.len() != arena::ARENA_BYTES {
         return NumberResult::Refused(Refusal::Size);
     }
     if !validate::is_graph(arena) {

@@ -251,7 +251,7 @@ fn lowest(arena: &[u8], count: u32, stack: u32, path: &[u8]) -> u32
         }
         n += 1;
     }
-    4294967295
+    arena::NO_NODE
 }
 
 // The lowest node, neither INERT nor CULLED, that has that stack and path; 4,294,967,295 where none

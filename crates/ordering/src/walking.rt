@@ -25,12 +25,12 @@ fn climb(arena: &[u8], from: u32, known: Ahead) -> u32
             return known.next;
         }
         let sibling = arena::next_sibling(arena, node);
-        if sibling != 4294967295 {
+        if sibling != arena::NO_NODE {
             return sibling;
         }
         node = arena::parent(arena, node);
     }
-    4294967295
+    arena::NO_NODE
 }
 
 // The node after x in the walk: its first child, else where climbing leads.
@@ -39,7 +39,7 @@ fn next_of(arena: &[u8], x: u32, known: Ahead) -> u32
     ensures { λ r. ⌜ r ≡ stepIn (now (arena .entry)) x ⌝ }
 {
     let child = arena::first_child(arena, x);
-    if child != 4294967295 {
+    if child != arena::NO_NODE {
         return child;
     }
     climb(arena, x, known)
@@ -55,7 +55,7 @@ fn look_ahead(arena: &[u8], x: u32, known: Ahead) -> Ahead
         return known;
     }
     let sibling = arena::next_sibling(arena, x);
-    if sibling != 4294967295 {
+    if sibling != arena::NO_NODE {
         return Ahead {
             node: x,
             next: sibling,
@@ -80,7 +80,7 @@ pub(crate) fn write_walk(arena: &mut [u8], count: u32)
     let last = count - 1;
     let mut known = Ahead {
         node: 0,
-        next: 4294967295,
+        next: arena::NO_NODE,
     };
     let mut x: u32 = 0;
     let mut at: u32 = 0;

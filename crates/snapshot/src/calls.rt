@@ -15,7 +15,7 @@ ghost use Rattle.snapshot.specs.Snapshots.{SnapshotWritten};
 pub fn read_snapshot(arena: &mut [u8], bytes: &[u8]) -> NumberResult
     ensures { λ r. ⌜ Wrote (intoArena (readInto (now (bytes .entry)) emptyGraph) (now (arena .entry))) (now (arena .entry)) r (now (arena .exit)) ⌝ }
 {
-    if arena.len() != 327744 {
+    if arena.len() != arena::ARENA_BYTES {
         return NumberResult::Refused(Refusal::Size);
     }
     crate::reader::read_snapshot(arena, bytes)
@@ -26,7 +26,7 @@ pub fn read_snapshot(arena: &mut [u8], bytes: &[u8]) -> NumberResult
 pub fn write_snapshot(arena: &[u8], out: &mut [u8]) -> NumberResult
     ensures { λ r. ⌜ SnapshotWritten (now (arena .entry)) (now (out .entry)) r (now (out .exit)) ⌝ }
 {
-    if arena.len() != 327744 {
+    if arena.len() != arena::ARENA_BYTES {
         return NumberResult::Refused(Refusal::Size);
     }
     if out.len() != 65536 {

@@ -81,7 +81,7 @@ fn with_root(has_root: bool, n: u32, arc: u8) -> bool
     if n == 0 {
         return has_root;
     }
-    if arc == 0 {
+    if arc == arena::arcs::ROOT {
         return true;
     }
     has_root

@@ -54,7 +54,7 @@ fn precedes_next(arena: &[u8], x: u32) -> bool
     ensures { λ r. ⌜ (r ≡ true → PrecedesNext (now (arena .entry)) x) ⌝ }
 {
     let y = arena::next_sibling(arena, x);
-    if y == 4294967295 {
+    if y == arena::NO_NODE {
         return true;
     }
     precedes(arena, x, y)

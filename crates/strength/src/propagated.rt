@@ -26,7 +26,7 @@ fn first_copy(arena: &[u8], root: u32, n: u32) -> u32
     let mut left = count;
     while 0 < left {
         if child >= count {
-            return 4294967295;
+            return arena::NO_NODE;
         }
         if is_copy(arena, root, n, child) {
             return child;
@@ -34,7 +34,7 @@ fn first_copy(arena: &[u8], root: u32, n: u32) -> u32
         child = arena::next_sibling(arena, child);
         left -= 1;
     }
-    4294967295
+    arena::NO_NODE
 }
 
 // The propagated specializes under the local root whose origin is node n, itself a Specialize;
@@ -43,11 +43,11 @@ pub(crate) fn find_copy(arena: &[u8], root: u32, n: u32) -> u32
     requires { ⌜ ValidNodeAndRoot (now arena) root n ⌝ }
     ensures { λ r. ⌜ r ≡ getPropagatedSpecializesNode (decode (now (arena .entry))) n ⌝ }
 {
-    if view::arc(arena, n) != 6 {
-        return 4294967295;
+    if view::arc(arena, n) != arena::arcs::SPECIALIZE {
+        return arena::NO_NODE;
     }
     if root == 0 {
-        return 4294967295;
+        return arena::NO_NODE;
     }
     first_copy(arena, root, n)
 }

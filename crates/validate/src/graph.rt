@@ -95,7 +95,7 @@ fn numbers_valid(arena: &[u8], before: Before, length: usize, arc: u8, parent: u
     if !crate::record::kind_allowed(before, numbers) {
         return false;
     }
-    before.path_bytes + (length - 27) <= 32768
+    before.path_bytes + (length - arena::offsets::PATH) <= arena::MAX_PATH_BYTES
 }
 
 // Whether the record of the node that comes next is right. Its path is read by the tables lent, and
@@ -129,7 +129,7 @@ fn root_with(n: u32, arc: u8, root: u32) -> u32
     requires { ⌜ (n ≡ 0 → root ≡ 0) ⌝ }
     ensures { λ r. ⌜ r ≡ rootWith n arc root ⌝ }
 {
-    if arc != 0 {
+    if arc != arena::arcs::ROOT {
         return root;
     }
     n
@@ -215,7 +215,7 @@ pub fn is_graph(arena: &[u8]) -> bool
     ensures { λ r. ⌜ r ≡ holdsGraph (now (arena .entry)) ⌝ }
 {
     let count = arena::count(arena);
-    if count > 1024 {
+    if count > arena::MAX_NODES {
         return false;
     }
     if !state_valid(arena, count) {

@@ -21,7 +21,7 @@ ghost use Rattle.model.specs.Refusals.{ask, refusal};
 pub fn ask_graph(arena: &[u8]) -> UnitResult
     ensures { λ r. ⌜ unitRefusal r ≡ refusal (askArena (now (arena .entry)) []) ⌝ }
 {
-    if arena.len() != 327744 {
+    if arena.len() != arena::ARENA_BYTES {
         return UnitResult::Refused(Refusal::Size);
     }
     if !crate::graph::is_graph(arena) {

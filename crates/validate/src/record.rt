@@ -53,16 +53,16 @@ pub fn is_culled(flags: u8) -> bool
 fn is_root(numbers: RecordNumbers) -> bool
     ensures { λ r. ⌜ r ≡ rootAt numbers ⌝ }
 {
-    if numbers.arc != 0 {
+    if numbers.arc != arena::arcs::ROOT {
         return false;
     }
     if !is_inert(numbers.flags) {
         return false;
     }
-    if numbers.parent != 4294967295 {
+    if numbers.parent != arena::NO_NODE {
         return false;
     }
-    numbers.origin == 4294967295
+    numbers.origin == arena::NO_NODE
 }
 
 // Question 4: node 0 is as it must be, and another node's parent and origin are lower.
@@ -98,13 +98,13 @@ fn root_allowed(before: Before, numbers: RecordNumbers) -> bool
 pub fn kind_allowed(before: Before, numbers: RecordNumbers) -> bool
     ensures { λ r. ⌜ r ≡ kindAt before numbers ⌝ }
 {
-    if numbers.arc > 6 {
+    if numbers.arc > arena::arcs::SPECIALIZE {
         return false;
     }
     if numbers.has_specs > 1 {
         return false;
     }
-    if numbers.arc == 0 {
+    if numbers.arc == arena::arcs::ROOT {
         return root_allowed(before, numbers);
     }
     if before.culled_allowed {
@@ -118,10 +118,10 @@ fn has_room(before: Before, path_length: usize) -> bool
     requires { ⌜ before .«path_bytes» ≤ 32768 ⌝ }
     ensures { λ r. ⌜ r ≡ roomAt before «path_length» ⌝ }
 {
-    if before.count >= 1024 {
+    if before.count >= arena::MAX_NODES {
         return false;
     }
-    path_length <= 32768 - before.path_bytes
+    path_length <= arena::MAX_PATH_BYTES - before.path_bytes
 }
 
 // A well-formed path has at most 127 names.

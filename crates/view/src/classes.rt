@@ -20,7 +20,7 @@ pub fn starting_node_of_class_hierarchy(arena: &[u8], root: u32, n: u32) -> Clas
     ensures { λ r. ⌜ HierarchyOf (viewIn (now (arena .entry))) n r ⌝ }
 {
     let mut instance = crate::relations::replaced(arena, root, n);
-    let mut class_node: u32 = 4294967295;
+    let mut class_node: u32 = arena::NO_NODE;
     let depth = crate::sites::depth_below(arena, instance);
     while instance != 0 {
         if !crate::relations::is_class_based(crate::fields::arc(arena, instance)) {
@@ -51,7 +51,7 @@ fn skip_relocates(arena: &[u8], n: u32) -> u32
 {
     let mut node = n;
     while node != 0 {
-        if crate::fields::arc(arena, node) != 3 {
+        if crate::fields::arc(arena, node) != arena::arcs::RELOCATE {
             return node;
         }
         node = crate::fields::parent(arena, node);

@@ -9,10 +9,10 @@ ghost use Rattle.view.specs.View.{viewIn, ValidNodeAndRoot};
 pub fn is_class_based(arc: u8) -> bool
     ensures { λ r. ⌜ r ≡ isClassBasedArc arc ⌝ }
 {
-    if arc == 1 {
+    if arc == arena::arcs::INHERIT {
         return true;
     }
-    arc == 6
+    arc == arena::arcs::SPECIALIZE
 }
 
 // Whether node n is authored: its origin is its parent.
@@ -38,7 +38,7 @@ pub fn is_propagated_specializes(arena: &[u8], root: u32, n: u32) -> bool
     requires { ⌜ ValidNodeAndRoot (now arena) root n ⌝ }
     ensures { λ r. ⌜ r ≡ isPropagatedSpecializes (viewIn (now (arena .entry))) n ⌝ }
 {
-    if arena::arc(arena, n) != 6 {
+    if arena::arc(arena, n) != arena::arcs::SPECIALIZE {
         return false;
     }
     if root == 0 {
