@@ -2,26 +2,26 @@
 -- and for its callers, that the length answered is one of bytes that the buffer has
 -- (`length-within`). Assumes nothing.
 use mathlib.Core.Path.{_≡_, refl, sym, ap, _∙_}
-use mathlib.Core.Bool.{false}
+use mathlib.Core.Bool.{Bool, true, false, _&&_}
 use mathlib.Core.List.{List, [], _∷_}
-use Prim.Native.Nat.{ℕ, _+_, _≤_}
+use Prim.Native.Nat.{ℕ, _+_, _≤_, _<_}
 use native.Mathlib.Nat.{zero-add}
 use native.Mathlib.Omega.{arith}
 use lib.Dec.{eqb}
 use lib.ListN.{length, drop, length-append}
-use borrow.Author.Tests.{eq-eqb, ne-eqb, lt-ltb, le-ltb}
-use Rattle.model.specs.Graph.{size}
+use borrow.Author.Tests.{eq-eqb, ne-eqb}
 use Rattle.model.specs.Bytes.{stored}
 use Rattle.model.specs.Listing.{listing}
 use Rattle.model.specs.Refusals.{refusalNumber, ask, refusal}
+use Rattle.model.specs.Calls.{hasNodeZero, readsOrder}
 use Rattle.model.specs.Arena.{arenaBytes, countIn, orderedIn, decode, holdsGraph}
-use Rattle.model.specs.ArenaCalls.{ValidArena, valueUnless}
+use Rattle.model.specs.ArenaCalls.{isArena, ValidArena, askArena, valueUnless}
 use Rattle.model.specs.declared.Refusal.{Refusal}
-use Rattle.model.specs.declared.Refusal.the-variants.{Size, NotAGraph, NodeZero, NotOrdered}
+use Rattle.model.specs.declared.Refusal.the-variants.{Size, NotOrdered}
 use Rattle.model.specs.declared.NumberResult.{NumberResult}
 use Rattle.model.specs.declared.NumberResult.the-variants.{Number, Refused}
-use Rattle.laws.proofs.ArenaCallLaws.{refusal-some, answered-refused, answered-number}
-use Rattle.arena.proofs.ReadNodes.{sizes}
+use Rattle.laws.proofs.ArenaCallLaws.{refusal-some, refused-before, answered-refused, answered-number}
+use Rattle.validate.proofs.AskingLaws.{node-zero-passed}
 use Rattle.listing.specs.Listings.{listingQuestions, ListingWritten}
 use Rattle.listing.specs.Texts.{Put}
 
@@ -36,37 +36,43 @@ module _ (bs out : List ℕ) where
   unfolding decode
   ordered-read = refl
 
-  pub not-arena : (length bs ≡ arenaBytes → ⊥) → ListingWritten bs out (Refused Size) out
-  not-arena h = refused-as Size (rw (ne-eqb (length bs) arenaBytes h))
+  pub not-buffer : (length out ≡ arenaBytes → ⊥) → ListingWritten bs out (Refused Size) out
+  not-buffer h = refused-as Size (rw (ne-eqb (length out) arenaBytes h) (go (isArena bs)))
+    where
+      go : (s : Bool) → 1 ≡ refusal (ask 1 (s && false) ∷ ask 2 (holdsGraph bs) ∷ readsOrder (decode bs))
+      go true = refl
+      go false = refl
 
-  pub not-buffer : length bs ≡ arenaBytes → (length out ≡ arenaBytes → ⊥) → ListingWritten bs out (Refused Size) out
-  not-buffer h k = refused-as Size (rw (eq-eqb (length bs) arenaBytes h, ne-eqb (length out) arenaBytes k))
+  module _ (large : length out ≡ arenaBytes) where
+    -- a buffer of the right size leaves the questions of the arena
+    asks : refusal (listingQuestions bs out) ≡ refusal (askArena bs (readsOrder (decode bs)))
+    asks = rw (eq-eqb (length out) arenaBytes large) (go (isArena bs))
+      where
+        go : (s : Bool)
+            → refusal (ask 1 (s && true) ∷ ask 2 (holdsGraph bs) ∷ readsOrder (decode bs))
+            ≡ refusal (ask 1 s ∷ ask 2 (holdsGraph bs) ∷ readsOrder (decode bs))
+        go true = refl
+        go false = refl
 
-  pub no-graph : length bs ≡ arenaBytes → length out ≡ arenaBytes → holdsGraph bs ≡ false → ListingWritten bs out (Refused NotAGraph) out
-  no-graph h k g = refused-as NotAGraph (rw (eq-eqb (length bs) arenaBytes h, eq-eqb (length out) arenaBytes k, g))
+    -- by questions 1 to 3
+    pub refused-first : (r : Refusal) → refusalNumber r ≡ refusal (askArena bs (hasNodeZero (decode bs) ∷ [])) → ListingWritten bs out (Refused r) out
+    refused-first r e =
+        refused-as r (refused-before r (askArena bs (hasNodeZero (decode bs) ∷ [])) (ask 10 (decode bs .ordered) ∷ []) e ∙ sym asks)
 
-  module _ (o : ValidArena bs) (k : length out ≡ arenaBytes) where
-    pub no-node : countIn bs ≡ 0 → ListingWritten bs out (Refused NodeZero) out
-    no-node none =
-        refused-as NodeZero
-        (rw (eq-eqb (length bs) arenaBytes (o .whole), eq-eqb (length out) arenaBytes k, o .holds, le-ltb 0 (size (decode bs)) (omega (arith, sizes bs o))))
+    module _ (o : ValidArena bs) (some : 0 < countIn bs) where
+      order-left : refusal (listingQuestions bs out) ≡ refusal (ask 10 (eqb (orderedIn bs) 1) ∷ [])
+      order-left = asks ∙ node-zero-passed bs (ask 10 (decode bs .ordered) ∷ []) o some ∙ rw ordered-read
 
-    -- questions 1, 2 and 3 pass
-    passed : (countIn bs ≡ 0 → ⊥) → refusal (listingQuestions bs out) ≡ refusal (ask 10 (decode bs .ordered) ∷ [])
-    passed some =
-        rw (eq-eqb (length bs) arenaBytes (o .whole), eq-eqb (length out) arenaBytes k, o .holds, lt-ltb 0 (size (decode bs)) (omega (arith, sizes bs o, some)))
+      pub not-ordered : (orderedIn bs ≡ 1 → ⊥) → ListingWritten bs out (Refused NotOrdered) out
+      not-ordered e = refused-as NotOrdered (sym (order-left ∙ rw (ne-eqb (orderedIn bs) 1 e)))
 
-    pub not-ordered : (countIn bs ≡ 0 → ⊥) → (orderedIn bs ≡ 1 → ⊥) → ListingWritten bs out (Refused NotOrdered) out
-    not-ordered some e = refused-as NotOrdered (rw (passed some, ordered-read, ne-eqb (orderedIn bs) 1 e))
-
-    pub written : (countIn bs ≡ 0 → ⊥) → orderedIn bs ≡ 1 → (end : ℕ) (after : List ℕ) → Put 0 (listing (decode bs)) out end after
-        → ListingWritten bs out (Number end) after
-    written some e end after put =
-        let accepted : refusal (listingQuestions bs out) ≡ 0 = rw (passed some, ordered-read, eq-eqb (orderedIn bs) 1 e) in
-        record {
-          answer = answered-number (listingQuestions bs out) _ end accepted (put .place ∙ zero-add (length (listing (decode bs))));
-          bytes = rw (eq-eqb (refusal (listingQuestions bs out)) 0 accepted) (put .bytes);
-        }
+      pub written : orderedIn bs ≡ 1 → (end : ℕ) (after : List ℕ) → Put 0 (listing (decode bs)) out end after → ListingWritten bs out (Number end) after
+      written e end after put =
+          let accepted : refusal (listingQuestions bs out) ≡ 0 = order-left ∙ rw (eq-eqb (orderedIn bs) 1 e) in
+          record {
+            answer = answered-number (listingQuestions bs out) _ end accepted (put .place ∙ zero-add (length (listing (decode bs))));
+            bytes = rw (eq-eqb (refusal (listingQuestions bs out)) 0 accepted) (put .bytes);
+          }
 
 pub length-within : (bs out : List ℕ) (r : NumberResult) (after : List ℕ) → ListingWritten bs out r after → (n : ℕ) → r ≡ Number n → n ≤ length after
 unfolding stored

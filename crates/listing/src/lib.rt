@@ -7,6 +7,7 @@ mod text;
 
 use model::NumberResult;
 use model::Refusal;
+use model::UnitResult;
 ghost use mathlib.Core.Path.{_≡_};
 ghost use Prim.Native.Nat.{_+_, _≤_};
 ghost use lib.ListN.{length, getD};
@@ -101,20 +102,17 @@ fn put_listing(arena: &[u8], out: &mut [u8]) -> usize
 pub fn write_listing(arena: &[u8], out: &mut [u8]) -> NumberResult
     ensures { λ r. ⌜ ListingWritten (now (arena .entry)) (now (out .entry)) r (now (out .exit)) ⌝ }
 {
-    if arena.len() != arena::ARENA_BYTES {
-        return NumberResult::Refused(Refusal::Size);
-    }
     if out.len() != arena::ARENA_BYTES {
         return NumberResult::Refused(Refusal::Size);
     }
-    if !validate::is_graph(arena) {
-        return NumberResult::Refused(Refusal::NotAGraph);
+    let asked = validate::ask_node_zero(arena);
+    match asked {
+        UnitResult::Done => {
+            if arena::ordered(arena) != 1 {
+                return NumberResult::Refused(Refusal::NotOrdered);
+            }
+            NumberResult::Number(put_listing(arena, out) as u32)
+        }
+        UnitResult::Refused(refusal) => NumberResult::Refused(refusal),
     }
-    if arena::count(arena) == 0 {
-        return NumberResult::Refused(Refusal::NodeZero);
-    }
-    if arena::ordered(arena) != 1 {
-        return NumberResult::Refused(Refusal::NotOrdered);
-    }
-    NumberResult::Number(put_listing(arena, out) as u32)
 }

@@ -1,20 +1,22 @@
 -- The ways that the two calls on snapshots end: `read-not-arena`, `read-into`, and those of
 -- writing. Assumes nothing.
-use mathlib.Core.Path.{_≡_}
-use mathlib.Core.Bool.{true, false}
-use mathlib.Core.List.{List}
+use mathlib.Core.Path.{_≡_, refl, sym, _∙_}
+use mathlib.Core.Bool.{Bool, true, false, _&&_}
+use mathlib.Core.List.{List, [], _∷_}
 use Prim.Native.Nat.{ℕ}
 use lib.ListN.{length}
 use borrow.Author.Tests.{eq-eqb, ne-eqb}
 use Rattle.model.specs.Bytes.{stored}
 use Rattle.model.specs.Snapshot.{writeSnapshot}
+use Rattle.model.specs.Refusals.{refusalNumber, ask, refusal}
 use Rattle.model.specs.Calls.{Outcome}
 use Rattle.model.specs.Arena.{arenaBytes, decode, holdsGraph}
-use Rattle.model.specs.ArenaCalls.{intoArena, Wrote}
-use Rattle.model.specs.declared.Refusal.the-variants.{Size, NotAGraph}
+use Rattle.model.specs.ArenaCalls.{isArena, intoArena, Wrote, askArena}
+use Rattle.model.specs.declared.Refusal.{Refusal}
+use Rattle.model.specs.declared.Refusal.the-variants.{Size}
 use Rattle.model.specs.declared.NumberResult.{NumberResult}
 use Rattle.model.specs.declared.NumberResult.the-variants.{Number, Refused}
-use Rattle.laws.proofs.ArenaCallLaws.{answered-refused, answered-number, wrote-refused}
+use Rattle.laws.proofs.ArenaCallLaws.{refusal-some, answered-refused, answered-number, wrote-refused}
 use Rattle.snapshot.specs.Snapshots.{writeQuestions, SnapshotWritten}
 
 module _ (o : Outcome) (bs : List ℕ) where
@@ -29,27 +31,36 @@ module _ (o : Outcome) (bs : List ℕ) where
   read-into r after h w = rw (eq-eqb (length bs) arenaBytes h) w
 
 module _ (bs out : List ℕ) where
-  pub write-not-arena : (length bs ≡ arenaBytes → ⊥) → SnapshotWritten bs out (Refused Size) out
-  write-not-arena h =
-      let e = ne-eqb (length bs) arenaBytes h in
-      record { answer = answered-refused (writeQuestions bs out) _ Size (rw e); bytes = rw e }
+  refused-as : (r : Refusal) → refusalNumber r ≡ refusal (writeQuestions bs out) → SnapshotWritten bs out (Refused r) out
+  refused-as r e = record {
+    answer = answered-refused (writeQuestions bs out) _ r e;
+    bytes = rw (ne-eqb (refusal (writeQuestions bs out)) 0 (λ z. refusal-some r (e ∙ z)));
+  }
 
-  pub write-not-buffer : length bs ≡ arenaBytes → (length out ≡ 65536 → ⊥) → SnapshotWritten bs out (Refused Size) out
-  write-not-buffer h k =
-      let e = eq-eqb (length bs) arenaBytes h in
-      let f = ne-eqb (length out) 65536 k in
-      record { answer = answered-refused (writeQuestions bs out) _ Size (rw (e, f)); bytes = rw (e, f) }
+  pub write-not-buffer : (length out ≡ 65536 → ⊥) → SnapshotWritten bs out (Refused Size) out
+  write-not-buffer h = refused-as Size (rw (ne-eqb (length out) 65536 h) (go (isArena bs)))
+    where
+      go : (s : Bool) → 1 ≡ refusal (ask 1 (s && false) ∷ ask 2 (holdsGraph bs) ∷ [])
+      go true = refl
+      go false = refl
 
-  module _ (h : length bs ≡ arenaBytes) (k : length out ≡ 65536) where
-    pub write-no-graph : holdsGraph bs ≡ false → SnapshotWritten bs out (Refused NotAGraph) out
-    write-no-graph g =
-        let e = eq-eqb (length bs) arenaBytes h in
-        let f = eq-eqb (length out) 65536 k in
-        record { answer = answered-refused (writeQuestions bs out) _ NotAGraph (rw (e, f, g)); bytes = rw (e, f, g) }
+  module _ (large : length out ≡ 65536) where
+    -- a buffer of the right size leaves the questions of the arena
+    write-asks : refusal (writeQuestions bs out) ≡ refusal (askArena bs [])
+    write-asks = rw (eq-eqb (length out) 65536 large) (go (isArena bs))
+      where
+        go : (s : Bool) → refusal (ask 1 (s && true) ∷ ask 2 (holdsGraph bs) ∷ []) ≡ refusal (ask 1 s ∷ ask 2 (holdsGraph bs) ∷ [])
+        go true = refl
+        go false = refl
 
-    pub written : holdsGraph bs ≡ true → (n : ℕ) (after : List ℕ) → n ≡ length (writeSnapshot (decode bs))
+    pub write-refused : (r : Refusal) → refusalNumber r ≡ refusal (askArena bs []) → SnapshotWritten bs out (Refused r) out
+    write-refused r e = refused-as r (e ∙ sym write-asks)
+
+    pub written : refusal (askArena bs []) ≡ 0 → (n : ℕ) (after : List ℕ) → n ≡ length (writeSnapshot (decode bs))
         → after ≡ stored 0 (writeSnapshot (decode bs)) out → SnapshotWritten bs out (Number n) after
-    written g n after c a =
-        let e = eq-eqb (length bs) arenaBytes h in
-        let f = eq-eqb (length out) 65536 k in
-        record { answer = answered-number (writeQuestions bs out) _ n (rw (e, f, g)) c; bytes = rw (e, f, g) a }
+    written e n after c a =
+        let passes : refusal (writeQuestions bs out) ≡ 0 = write-asks ∙ e in
+        record {
+          answer = answered-number (writeQuestions bs out) _ n passes c;
+          bytes = rw (eq-eqb (refusal (writeQuestions bs out)) 0 passes) a;
+        }

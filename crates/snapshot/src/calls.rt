@@ -5,6 +5,7 @@
 // model/specs/Calls.antt.
 use model::NumberResult;
 use model::Refusal;
+use model::UnitResult;
 ghost use Rattle.model.specs.ArenaCalls.{intoArena, Wrote};
 ghost use Rattle.model.specs.Calls.{readInto};
 ghost use Rattle.model.specs.Graph.{emptyGraph};
@@ -26,14 +27,12 @@ pub fn read_snapshot(arena: &mut [u8], bytes: &[u8]) -> NumberResult
 pub fn write_snapshot(arena: &[u8], out: &mut [u8]) -> NumberResult
     ensures { λ r. ⌜ SnapshotWritten (now (arena .entry)) (now (out .entry)) r (now (out .exit)) ⌝ }
 {
-    if arena.len() != arena::ARENA_BYTES {
-        return NumberResult::Refused(Refusal::Size);
-    }
     if out.len() != 65536 {
         return NumberResult::Refused(Refusal::Size);
     }
-    if !validate::is_graph(arena) {
-        return NumberResult::Refused(Refusal::NotAGraph);
+    let asked = validate::ask_graph(arena);
+    match asked {
+        UnitResult::Done => NumberResult::Number(crate::writer::write_snapshot(arena, out)),
+        UnitResult::Refused(refusal) => NumberResult::Refused(refusal),
     }
-    NumberResult::Number(crate::writer::write_snapshot(arena, out))
 }
