@@ -10,13 +10,26 @@ use model::NumberResult;
 use model::Refusal;
 use model::UnitResult;
 
+// What fails and what is printed, under the command's name.
+fn complain(what: &[u8]) {
+    command_io::complain(b"order", what);
+}
+
+fn print(text: &[u8]) {
+    command_io::print(b"order", text);
+}
+
+fn print_refusal(refusal: Refusal) {
+    command_io::print_refusal(b"order", refusal);
+}
+
 // Prints the listing of an ordered graph.
 fn print_listing(arena: &[u8]) {
     let mut text = command_io::zeros();
     let listed = listing::write_listing(arena, &mut text);
     match listed {
-        NumberResult::Number(length) => command_io::print(b"order", &text[..length as usize]),
-        NumberResult::Refused(refusal) => command_io::print_refusal(b"order", refusal),
+        NumberResult::Number(length) => print(&text[..length as usize]),
+        NumberResult::Refused(refusal) => print_refusal(refusal),
     }
 }
 
@@ -25,12 +38,12 @@ fn order(snapshot: &[u8]) {
     let mut arena = command_io::zeros();
     let read = prim_graph::read_snapshot(&mut arena, snapshot);
     if let NumberResult::Refused(refusal) = read {
-        command_io::print_refusal(b"order", refusal);
+        print_refusal(refusal);
         return;
     }
     let ordered = prim_graph::finalize_strength_order(&mut arena);
     if let UnitResult::Refused(refusal) = ordered {
-        command_io::print_refusal(b"order", refusal);
+        print_refusal(refusal);
         return;
     }
     print_listing(&arena);
@@ -41,7 +54,7 @@ fn main() {
     let input = command_io::read_input(&mut bytes);
     match input {
         Input::Held(count) => order(&bytes[..count]),
-        Input::Long => command_io::print_refusal(b"order", Refusal::Snapshot),
-        Input::Failed => command_io::complain(b"order", b": standard input cannot be read\n"),
+        Input::Long => print_refusal(Refusal::Snapshot),
+        Input::Failed => complain(b": standard input cannot be read\n"),
     }
 }
