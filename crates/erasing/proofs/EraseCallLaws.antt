@@ -17,34 +17,26 @@ use Rattle.model.specs.declared.Refusal.{Refusal}
 use Rattle.model.specs.declared.Refusal.the-variants.{Size, EraseSet}
 use Rattle.model.specs.declared.UnitResult.the-variants.{Done, Refused as FinishRefused}
 use Rattle.model.specs.declared.NumberResult.the-variants.{Number, Refused as NumberRefused}
-use Rattle.laws.proofs.ArenaCallLaws.{refusal-some, refused-before, asked-on, on-arena-asks, wrote-decided-refused, wrote-decided}
+use Rattle.laws.proofs.ArenaCallLaws.{refusal-some, refused-before, asked-on, askBoth, buffer-refused, buffer-passed, on-arena-asks, wrote-decided-refused, wrote-decided}
 use Rattle.arena.proofs.ReadNodes.{sizes, node-zero}
 use Rattle.erasing.specs.EraseNodes.{ErasedArena}
-use Rattle.erasing.specs.Erasures.{isSet, ErasableWritten, eraseIn, Erased}
+use Rattle.erasing.specs.Erasures.{ErasableWritten, eraseIn, Erased}
 
 -- ---- The questions
 
--- question 1 of both buffers, and question 2
-abbrev pub askBoth : List ℕ → List ℕ → List Question → List Question
-askBoth bs set questions = ask 1 (isSet bs set) ∷ ask 2 (holdsGraph bs) ∷ questions
-
 module _ (bs set : List ℕ) (questions : List Question) where
-  not-set : (length set ≡ 1024 → ⊥) → 1 ≡ refusal (askBoth bs set questions)
-  not-set h = rw (ne-eqb (length set) 1024 h) (go (isArena bs))
-    where
-      go : (s : Bool) → 1 ≡ refusal (ask 1 (s && false) ∷ ask 2 (holdsGraph bs) ∷ questions)
-      go true = refl
-      go false = refl
+  -- question 1 of both buffers, and question 2
+  abbrev pub askSet : List Question
+  askSet = askBoth bs (eqb (length set) 1024) questions
+
+  not-set : (length set ≡ 1024 → ⊥) → 1 ≡ refusal askSet
+  not-set h = buffer-refused bs (eqb (length set) 1024) questions (ne-eqb (length set) 1024 h)
 
   -- a set of the right size leaves the questions of the arena
-  pub whole-set : length set ≡ 1024 → refusal (askBoth bs set questions) ≡ refusal (askArena bs questions)
-  whole-set large = rw (eq-eqb (length set) 1024 large) (go (isArena bs))
-    where
-      go : (s : Bool) → refusal (ask 1 (s && true) ∷ ask 2 (holdsGraph bs) ∷ questions) ≡ refusal (ask 1 s ∷ ask 2 (holdsGraph bs) ∷ questions)
-      go true = refl
-      go false = refl
+  whole-set : length set ≡ 1024 → refusal askSet ≡ refusal (askArena bs questions)
+  whole-set large = buffer-passed bs (eqb (length set) 1024) questions (eq-eqb (length set) 1024 large)
 
-  pub asks-own : length set ≡ 1024 → ValidArena bs → refusal (askBoth bs set questions) ≡ refusal questions
+  pub asks-own : length set ≡ 1024 → ValidArena bs → refusal askSet ≡ refusal questions
   asks-own large o = whole-set large ∙ asked-on bs questions o
 
 -- the own questions of the erasable set, and of erasing
@@ -58,7 +50,7 @@ eraseQuestions set g = hasNodeZero g ∷ ask 11 (canErase g set) ∷ []
 
 module _ (bs set : List ℕ) where
   abbrev setRefusal : ℕ
-  setRefusal = refusal (askBoth bs set (needsNode (decode bs)))
+  setRefusal = refusal (askSet bs set (needsNode (decode bs)))
 
   refused-as : (r : Refusal) → refusalNumber r ≡ setRefusal → ErasableWritten bs set (FinishRefused r) set
   refused-as r e = record { refused = e; bytes = rw (ne-eqb setRefusal 0 (λ z. refusal-some r (e ∙ z))) }
@@ -79,7 +71,7 @@ module _ (bs set : List ℕ) where
 
 module _ (set bs : List ℕ) where
   abbrev pub eraseAll : List Question
-  eraseAll = askBoth bs set (eraseQuestions set (decode bs))
+  eraseAll = askSet bs set (eraseQuestions set (decode bs))
 
   abbrev pub keptCount : ℕ
   keptCount = newNumber (stays set) (size (decode bs))

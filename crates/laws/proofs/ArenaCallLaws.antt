@@ -2,7 +2,7 @@
 -- the answers that are right: one law for each way a call can end, whatever its questions are.
 -- Assumes nothing.
 use mathlib.Core.Path.{_≡_, refl, sym, ap, _∙_}
-use mathlib.Core.Bool.{Bool, true, false, cond}
+use mathlib.Core.Bool.{Bool, true, false, _&&_, cond}
 use mathlib.Core.List.{List, [], _∷_, _++_}
 use Prim.Native.Nat.{ℕ, zero, suc}
 use native.Mathlib.Omega.{arith}
@@ -80,14 +80,27 @@ module _ (bs : List ℕ) where
   pub count-number : (value n : ℕ) → Answered (askArena bs []) value (Number n) → ValidArena bs × (n ≡ value)
   count-number value n a = (passed-opened [] (sym (a .refused)), a .value ∙ ap (λ (k : ℕ). valueUnless k value) (sym (a .refused)))
 
--- a call that puts its own questions to an arena that holds a graph puts them all
-pub answered-more : (bs : List ℕ) (qs : List Question) (value : ℕ) {number given : ℕ} → ValidArena bs → Answers qs value number given
-    → Answers (askArena bs qs) value number given
-answered-more bs qs value o a =
-    record {
-      refused = a .refused ∙ sym (asked-on bs qs o);
-      value = a .value ∙ ap (λ (k : ℕ). valueUnless k value) (sym (asked-on bs qs o));
-    }
+-- ---- Question 1 of a second buffer
+
+module _ (bs : List ℕ) (sized : Bool) (qs : List Question) where
+  -- question 1 of both, and question 2
+  abbrev pub askBoth : List Question
+  askBoth = ask 1 (isArena bs && sized) ∷ ask 2 (holdsGraph bs) ∷ qs
+
+  pub buffer-refused : sized ≡ false → 1 ≡ refusal askBoth
+  buffer-refused e = rw e (go (isArena bs))
+    where
+      go : (s : Bool) → 1 ≡ refusal (ask 1 (s && false) ∷ ask 2 (holdsGraph bs) ∷ qs)
+      go true = refl
+      go false = refl
+
+  -- the questions of the arena are left
+  pub buffer-passed : sized ≡ true → refusal askBoth ≡ refusal (askArena bs qs)
+  buffer-passed e = rw e (go (isArena bs))
+    where
+      go : (s : Bool) → refusal (ask 1 (s && true) ∷ ask 2 (holdsGraph bs) ∷ qs) ≡ refusal (ask 1 s ∷ ask 2 (holdsGraph bs) ∷ qs)
+      go true = refl
+      go false = refl
 
 -- ---- The calls that write a graph
 

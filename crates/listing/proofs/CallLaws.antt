@@ -2,7 +2,6 @@
 -- and for its callers, that the length answered is one of bytes that the buffer has
 -- (`length-within`). Assumes nothing.
 use mathlib.Core.Path.{_≡_, refl, sym, ap, _∙_}
-use mathlib.Core.Bool.{Bool, true, false, _&&_}
 use mathlib.Core.List.{List, [], _∷_}
 use Prim.Native.Nat.{ℕ, _+_, _≤_, _<_}
 use native.Mathlib.Nat.{zero-add}
@@ -14,13 +13,13 @@ use Rattle.model.specs.Bytes.{stored}
 use Rattle.model.specs.Listing.{listing}
 use Rattle.model.specs.Refusals.{refusalNumber, ask, refusal}
 use Rattle.model.specs.Calls.{hasNodeZero, readsOrder}
-use Rattle.model.specs.Arena.{arenaBytes, countIn, orderedIn, decode, holdsGraph}
-use Rattle.model.specs.ArenaCalls.{isArena, ValidArena, askArena, valueUnless}
+use Rattle.model.specs.Arena.{arenaBytes, countIn, orderedIn, decode}
+use Rattle.model.specs.ArenaCalls.{ValidArena, askArena, valueUnless}
 use Rattle.model.specs.declared.Refusal.{Refusal}
 use Rattle.model.specs.declared.Refusal.the-variants.{Size, NotOrdered}
 use Rattle.model.specs.declared.NumberResult.{NumberResult}
 use Rattle.model.specs.declared.NumberResult.the-variants.{Number, Refused}
-use Rattle.laws.proofs.ArenaCallLaws.{refusal-some, refused-before, answered-refused, answered-number}
+use Rattle.laws.proofs.ArenaCallLaws.{refusal-some, refused-before, answered-refused, answered-number, buffer-refused, buffer-passed}
 use Rattle.validate.proofs.AskingLaws.{node-zero-passed}
 use Rattle.listing.specs.Listings.{listingQuestions, ListingWritten}
 use Rattle.listing.specs.Texts.{Put}
@@ -37,22 +36,12 @@ module _ (bs out : List ℕ) where
   ordered-read = refl
 
   pub not-buffer : (length out ≡ arenaBytes → ⊥) → ListingWritten bs out (Refused Size) out
-  not-buffer h = refused-as Size (rw (ne-eqb (length out) arenaBytes h) (go (isArena bs)))
-    where
-      go : (s : Bool) → 1 ≡ refusal (ask 1 (s && false) ∷ ask 2 (holdsGraph bs) ∷ readsOrder (decode bs))
-      go true = refl
-      go false = refl
+  not-buffer h = refused-as Size (buffer-refused bs (eqb (length out) arenaBytes) (readsOrder (decode bs)) (ne-eqb (length out) arenaBytes h))
 
   module _ (large : length out ≡ arenaBytes) where
     -- a buffer of the right size leaves the questions of the arena
     asks : refusal (listingQuestions bs out) ≡ refusal (askArena bs (readsOrder (decode bs)))
-    asks = rw (eq-eqb (length out) arenaBytes large) (go (isArena bs))
-      where
-        go : (s : Bool)
-            → refusal (ask 1 (s && true) ∷ ask 2 (holdsGraph bs) ∷ readsOrder (decode bs))
-            ≡ refusal (ask 1 s ∷ ask 2 (holdsGraph bs) ∷ readsOrder (decode bs))
-        go true = refl
-        go false = refl
+    asks = buffer-passed bs (eqb (length out) arenaBytes) (readsOrder (decode bs)) (eq-eqb (length out) arenaBytes large)
 
     -- by questions 1 to 3
     pub refused-first : (r : Refusal) → refusalNumber r ≡ refusal (askArena bs (hasNodeZero (decode bs) ∷ [])) → ListingWritten bs out (Refused r) out

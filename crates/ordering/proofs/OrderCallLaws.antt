@@ -1,24 +1,24 @@
 -- The ways that reading the whole order ends: refused (`list-refused`, `list-not-buffer`,
 -- `list-not-ordered`) and written (`list-done`); and what is left of the questions of reading one
 -- entry (`entry-left`). Assumes nothing.
-use mathlib.Core.Path.{_≡_, refl, sym, ap, _∙_}
-use mathlib.Core.Bool.{Bool, true, false, _&&_}
+use mathlib.Core.Path.{_≡_, sym, ap, _∙_}
+use mathlib.Core.Bool.{true, false}
 use mathlib.Core.List.{List, [], _∷_}
 use Prim.Native.Nat.{ℕ, _<_}
 use native.Mathlib.Omega.{arith}
-use lib.Dec.{ltb}
+use lib.Dec.{eqb, ltb}
 use lib.ListN.{length}
 use borrow.Author.Tests.{eq-eqb, ne-eqb, lt-ltb}
 use Rattle.model.specs.Bytes.{stored}
 use Rattle.model.specs.Graph.{size}
 use Rattle.model.specs.Refusals.{refusalNumber, ask, refusal}
 use Rattle.model.specs.Calls.{hasNodeZero, readsOrder, readsEntry}
-use Rattle.model.specs.Arena.{countIn, decode, holdsGraph}
-use Rattle.model.specs.ArenaCalls.{isArena, ValidArena, ValidNode, askArena}
+use Rattle.model.specs.Arena.{countIn, decode}
+use Rattle.model.specs.ArenaCalls.{ValidArena, ValidNode, askArena}
 use Rattle.model.specs.declared.Refusal.{Refusal}
 use Rattle.model.specs.declared.Refusal.the-variants.{Size, NotOrdered}
 use Rattle.model.specs.declared.NumberResult.the-variants.{Number, Refused}
-use Rattle.laws.proofs.ArenaCallLaws.{refusal-some, refused-before, answered-refused, answered-number}
+use Rattle.laws.proofs.ArenaCallLaws.{refusal-some, refused-before, answered-refused, answered-number, buffer-refused, buffer-passed}
 use Rattle.arena.proofs.ReadNodes.{sizes}
 use Rattle.validate.proofs.AskingLaws.{node-zero-passed}
 use Rattle.ordering.specs.OrderReading.{entriesIn, orderBytes, listQuestions, OrderWritten}
@@ -32,22 +32,12 @@ module _ (bs out : List ℕ) where
   }
 
   pub list-not-buffer : (length out ≡ 4096 → ⊥) → OrderWritten bs out (Refused Size) out
-  list-not-buffer h = refused-as Size (rw (ne-eqb (length out) 4096 h) (go (isArena bs)))
-    where
-      go : (s : Bool) → 1 ≡ refusal (ask 1 (s && false) ∷ ask 2 (holdsGraph bs) ∷ readsOrder (decode bs))
-      go true = refl
-      go false = refl
+  list-not-buffer h = refused-as Size (buffer-refused bs (eqb (length out) 4096) (readsOrder (decode bs)) (ne-eqb (length out) 4096 h))
 
   module _ (large : length out ≡ 4096) where
     -- a buffer of the right size leaves the questions of a call that only reads
     list-asks : refusal (listQuestions bs out) ≡ refusal (askArena bs (readsOrder (decode bs)))
-    list-asks = rw (eq-eqb (length out) 4096 large) (go (isArena bs))
-      where
-        go : (s : Bool)
-            → refusal (ask 1 (s && true) ∷ ask 2 (holdsGraph bs) ∷ readsOrder (decode bs))
-            ≡ refusal (ask 1 s ∷ ask 2 (holdsGraph bs) ∷ readsOrder (decode bs))
-        go true = refl
-        go false = refl
+    list-asks = buffer-passed bs (eqb (length out) 4096) (readsOrder (decode bs)) (eq-eqb (length out) 4096 large)
 
     -- by questions 1 to 3
     pub list-refused : (r : Refusal) → refusalNumber r ≡ refusal (askArena bs (hasNodeZero (decode bs) ∷ [])) → OrderWritten bs out (Refused r) out

@@ -1,22 +1,22 @@
 -- The ways that the two calls on snapshots end: `read-not-arena`, `read-into`, and those of
 -- writing. Assumes nothing.
-use mathlib.Core.Path.{_≡_, refl, sym, _∙_}
-use mathlib.Core.Bool.{Bool, true, false, _&&_}
-use mathlib.Core.List.{List, [], _∷_}
+use mathlib.Core.Path.{_≡_, sym, _∙_}
+use mathlib.Core.List.{List, []}
 use Prim.Native.Nat.{ℕ}
+use lib.Dec.{eqb}
 use lib.ListN.{length}
 use borrow.Author.Tests.{eq-eqb, ne-eqb}
 use Rattle.model.specs.Bytes.{stored}
 use Rattle.model.specs.Snapshot.{writeSnapshot}
-use Rattle.model.specs.Refusals.{refusalNumber, ask, refusal}
+use Rattle.model.specs.Refusals.{refusalNumber, refusal}
 use Rattle.model.specs.Calls.{Outcome}
-use Rattle.model.specs.Arena.{arenaBytes, decode, holdsGraph}
-use Rattle.model.specs.ArenaCalls.{isArena, intoArena, Wrote, askArena}
+use Rattle.model.specs.Arena.{arenaBytes, decode}
+use Rattle.model.specs.ArenaCalls.{intoArena, Wrote, askArena}
 use Rattle.model.specs.declared.Refusal.{Refusal}
 use Rattle.model.specs.declared.Refusal.the-variants.{Size}
 use Rattle.model.specs.declared.NumberResult.{NumberResult}
 use Rattle.model.specs.declared.NumberResult.the-variants.{Number, Refused}
-use Rattle.laws.proofs.ArenaCallLaws.{refusal-some, answered-refused, answered-number, wrote-refused}
+use Rattle.laws.proofs.ArenaCallLaws.{refusal-some, answered-refused, answered-number, buffer-refused, buffer-passed, wrote-refused}
 use Rattle.snapshot.specs.Snapshots.{writeQuestions, SnapshotWritten}
 
 module _ (o : Outcome) (bs : List ℕ) where
@@ -38,20 +38,12 @@ module _ (bs out : List ℕ) where
   }
 
   pub write-not-buffer : (length out ≡ 65536 → ⊥) → SnapshotWritten bs out (Refused Size) out
-  write-not-buffer h = refused-as Size (rw (ne-eqb (length out) 65536 h) (go (isArena bs)))
-    where
-      go : (s : Bool) → 1 ≡ refusal (ask 1 (s && false) ∷ ask 2 (holdsGraph bs) ∷ [])
-      go true = refl
-      go false = refl
+  write-not-buffer h = refused-as Size (buffer-refused bs (eqb (length out) 65536) [] (ne-eqb (length out) 65536 h))
 
   module _ (large : length out ≡ 65536) where
     -- a buffer of the right size leaves the questions of the arena
     write-asks : refusal (writeQuestions bs out) ≡ refusal (askArena bs [])
-    write-asks = rw (eq-eqb (length out) 65536 large) (go (isArena bs))
-      where
-        go : (s : Bool) → refusal (ask 1 (s && true) ∷ ask 2 (holdsGraph bs) ∷ []) ≡ refusal (ask 1 s ∷ ask 2 (holdsGraph bs) ∷ [])
-        go true = refl
-        go false = refl
+    write-asks = buffer-passed bs (eqb (length out) 65536) [] (eq-eqb (length out) 65536 large)
 
     pub write-refused : (r : Refusal) → refusalNumber r ≡ refusal (askArena bs []) → SnapshotWritten bs out (Refused r) out
     write-refused r e = refused-as r (e ∙ sym write-asks)
