@@ -302,7 +302,7 @@ fn seeding_from_what_was_erased_from() {
     ));
 }
 
-/// The ten calls of `crates/demand3/proofs/Demand3Examples.antt`: the graph is ordered, finalized and has a node to erase.
+/// The ten calls of `crates/call_sequences/proofs/Demand3Examples.antt`: the graph is ordered, finalized and has a node to erase.
 #[test]
 fn the_ten_calls_of_demand_3() {
     check(&format!(
