@@ -19,7 +19,7 @@ extern "C" {
 
 /* The most that a call uses of the stack, whatever it is given: a thread that makes one must have so much left, or the process is killed. It is measured,
  * not proved (docs/LAYOUT.md, "The stack"). */
-#define CADGWERI_STACK_BYTES 163840
+#define CADGWERI_STACK_BYTES 262144
 
 /* The bytes of a buffer for an order: 4 for each node of the largest graph. */
 #define CADGWERI_ORDER_BYTES 4096

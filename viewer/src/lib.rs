@@ -10,7 +10,7 @@ pub const ARENA_BYTES: usize = 327_744;
 
 /// The most that a call uses of the stack, whatever it is given: a thread that makes one must have so much left, or the
 /// process is killed. It is measured, not proved (`docs/LAYOUT.md`, "The stack").
-pub const STACK_BYTES: usize = 163_840;
+pub const STACK_BYTES: usize = 262_144;
 
 /// The bytes of the buffer that an order is written to, 4 for each node.
 const ORDER_BYTES: usize = 4_096;

@@ -7,7 +7,7 @@ use crate::samples::deepest::{of_seeds, shapes};
 use crate::samples::graphs::Node;
 
 /// What is stated for each call (`docs/LAYOUT.md`, "The stack").
-pub const STATED_BYTES: usize = 163_840;
+pub const STATED_BYTES: usize = 262_144;
 
 /// What a thread may have used of its stack before it makes the first call.
 const START_BYTES: usize = 16_384;
