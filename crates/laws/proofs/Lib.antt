@@ -19,6 +19,7 @@ pub mod StrengthTables
 pub mod StrengthCongruence
 pub mod StrengthLaws
 pub mod StrengthFlips
+pub mod StrengthParents
 pub mod StrengthExamples
 pub mod OrderLaws
 pub mod OrderPlaces

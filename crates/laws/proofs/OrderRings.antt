@@ -1,20 +1,24 @@
 -- Three children of one node of which the first is stronger than the second, the second than the
 -- third and the third than the first (a cycle; document 01: a ring) stand in no order, so the graph
--- is refused 9 (`ring-no-order`). Assumes nothing.
-use mathlib.Core.Path.{_≡_, refl}
+-- is refused 9 (`ring-no-order`). So is one of which three nodes are in a cycle by node strength
+-- (`nodes-ring-no-order`). Assumes nothing.
+use mathlib.Core.Path.{_≡_, refl, ap}
 use mathlib.Core.Bool.{Bool, true, false}
 use mathlib.Core.List.{List, [], _∷_}
 use Prim.Native.Nat.{ℕ, _+_, _<_}
 use native.Mathlib.Omega.{arith}
 use lib.Dec.{eqb}
 use borrow.Author.Tests.{eqb-true}
+use Rattle.model.specs.declared.Ordering.the-variants.{Less}
 use Rattle.model.specs.Lists.{bit, count}
 use Rattle.model.specs.Graph.{Graph, size, childrenOf}
-use Rattle.model.specs.Strength.{viewOf}
-use Rattle.model.specs.Order.{Sorted, isStronger, hasOrder}
-use Rattle.laws.proofs.ListLaws.{all-at}
+use Rattle.model.specs.Strength.{viewOf, compareNodeStrength}
+use Rattle.model.specs.Order.{Sorted, isLess, isStronger, hasOrder, ordering}
+use Rattle.laws.proofs.ListLaws.{all-at, pairs-imp}
 use Rattle.laws.proofs.Trees.{Child, TreeOf}
-use Rattle.laws.proofs.OrderLaws.{has-order-fails, stronger-antisymmetric}
+use Rattle.laws.proofs.StrengthFlips.{nodes-not-both-less}
+use Rattle.laws.proofs.WalkLaws.{is-less}
+use Rattle.laws.proofs.OrderLaws.{Any, anything, has-order-fails, ordering-ordered, stronger-antisymmetric}
 
 module _ (less : ℕ → ℕ → Bool) (anti : (a b : ℕ) → less a b ≡ true → less b a ≡ true → ⊥) where
   -- nothing in a sorted list is less than the first
@@ -51,3 +55,22 @@ ring-no-order g tree v a b c ha hb hc ab bc ca =
   where
     stands : (x : ℕ) → Child (size g) (viewOf g .parent) v x → count x (childrenOf g v) ≡ 1
     stands x h = rw (h .2) at (tree .once x (h .0) (h .1))
+
+-- where there is an order, it has all nodes by their strength
+pub nodes-ring-no-order : (g : Graph) → TreeOf g → (a b c : ℕ) → a < size g → b < size g → c < size g
+    → compareNodeStrength (viewOf g) a b ≡ Less → compareNodeStrength (viewOf g) b c ≡ Less → compareNodeStrength (viewOf g) c a ≡ Less
+    → hasOrder g ≡ false
+nodes-ring-no-order g tree a b c ha hb hc ab bc ca = go (hasOrder g) refl
+  where
+    less : ℕ → ℕ → Bool
+    less x y = isLess (compareNodeStrength (viewOf g) x y)
+
+    go : (t : Bool) → hasOrder g ≡ t → t ≡ false
+    go false e = refl
+    go true e =
+        let all = ordering-ordered g tree (omega arith) e in
+        absurd (cycle-unsorted less (λ x y e f. nodes-not-both-less (viewOf g) x y (is-less _ e) (is-less _ f)) a b c
+        (ap isLess ab) (ap isLess bc) (ap isLess ca) (ordering g .order)
+        (pairs-imp Any (λ x y. compareNodeStrength (viewOf g) x y ≡ Less) (λ x y. less x y ≡ true) (λ x y _ _ l. ap isLess l)
+        (ordering g .order) (anything (ordering g .order)) (all .stronger))
+        (omega (arith, all .once a ha)) (omega (arith, all .once b hb)) (omega (arith, all .once c hc)))
