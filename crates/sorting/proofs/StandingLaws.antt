@@ -36,7 +36,7 @@ use Rattle.certificate.proofs.CertificateChildren.{ChildIn, children-in}
 
 -- ---- Two neighbours by their keys
 
-less-smaller : (x y : ℕ) → isLess (smaller x y) ≡ ltb x y
+pub less-smaller : (x y : ℕ) → isLess (smaller x y) ≡ ltb x y
 unfolding smaller
 less-smaller x y = go (ltb x y) (eqb x y)
   where

@@ -3,4 +3,5 @@ pub mod Authored
 pub mod Standing
 pub mod Sorting
 pub mod Insertion
+pub mod Placing
 pub mod Cycle
