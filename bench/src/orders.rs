@@ -1,4 +1,5 @@
-//! Ordering arenas: the proved call against plain Rust, by the answer and by every byte of the arena.
+//! Ordering arenas: the proved call against plain Rust, by the answer and by every byte of the arena; and whether there
+//! is an order, decided by all pairs alone.
 use plain::layout::ARENA_BYTES;
 use plain::order;
 use plain::random::Random;
@@ -57,7 +58,9 @@ fn agreed(nodes: &[Node], random: &mut Random) -> Option<bool> {
     let lists = order::sorted(nodes);
     lists.iter().for_each(|lists| order::write(lists, &mut expected));
     let answer = if lists.is_some() { Ok(0) } else { Err(9) };
-    (proved::finalize_strength_order(&mut arena) == answer && arena == expected).then_some(lists.is_some())
+    let decided = proved::has_order(&arena) == u32::from(lists.is_some());
+    let ordered = proved::finalize_strength_order(&mut arena) == answer && arena == expected;
+    (decided && ordered).then_some(lists.is_some())
 }
 
 /// Any bytes where the graph uses none; the child lists of one in three as another order left them.

@@ -3,6 +3,7 @@
 unsafe extern "C" {
     fn bench_prim_count(path: *const u8, length: usize) -> u32;
     fn bench_is_graph(arena: *const u8, length: usize) -> u32;
+    fn bench_has_order(arena: *const u8, length: usize) -> u32;
     fn bench_read_snapshot(arena: *mut u8, alen: usize, bytes: *const u8, blen: usize) -> u64;
     fn bench_write_snapshot(arena: *const u8, alen: usize, out: *mut u8, olen: usize) -> u64;
     fn bench_init_root(arena: *mut u8, alen: usize, stack: u32, layer: u32, path: *const u8, plen: usize) -> u64;
@@ -48,6 +49,11 @@ fn answer(number: u64) -> Result<u32, u32> {
 /// Whether the arena holds a graph: 1 or 0.
 pub fn is_graph(arena: &[u8]) -> u32 {
     unsafe { bench_is_graph(arena.as_ptr(), arena.len()) }
+}
+
+/// Whether the arena holds a graph that has an order, decided by all pairs of siblings: 1 or 0.
+pub fn has_order(arena: &[u8]) -> u32 {
+    unsafe { bench_has_order(arena.as_ptr(), arena.len()) }
 }
 
 /// The count.

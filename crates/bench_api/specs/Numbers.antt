@@ -1,5 +1,5 @@
--- What the programs in bench/ give and get, where crates/c_api has no word for it: two numbers that
--- carry no refusal, what two calls leave of a buffer, and the node that is added.
+-- What the programs in bench/ give and get, where crates/c_api has no word for it: three numbers
+-- that carry no refusal, what two calls leave of a buffer, and the node that is added.
 use mathlib.Core.Path.{_≡_}
 use mathlib.Core.Bool.{_&&_, cond}
 use mathlib.Core.Option.{none}
@@ -10,6 +10,7 @@ use lib.ListN.{length}
 use Rattle.model.specs.Lists.{bit}
 use Rattle.model.specs.Bytes.{stored}
 use Rattle.model.specs.Refusals.{refusal}
+use Rattle.model.specs.Order.{hasOrder}
 use Rattle.model.specs.Erasing.{erasable}
 use Rattle.model.specs.Snapshot.{writeSnapshot}
 use Rattle.model.specs.Arena.{decode, holdsGraph}
@@ -28,6 +29,10 @@ countNumber Malformed = 65536
 
 abbrev pub graphNumber : List ℕ → ℕ
 graphNumber bs = bit (isArena bs && holdsGraph bs)
+
+-- whether it is one, and has an order
+abbrev pub orderNumber : List ℕ → ℕ
+orderNumber bs = bit (isArena bs && (holdsGraph bs && hasOrder (decode bs)))
 
 -- the number of a call that writes a snapshot, and the buffer after it: the snapshot at its front;
 -- refused, it is as it was

@@ -20,7 +20,7 @@ ghost use Rattle.model.specs.Strength.{viewOf, compareNodeStrength};
 ghost use Rattle.c_api.specs.Carried.{carriedAnswer, WroteCarried};
 ghost use Rattle.deepening.specs.ChildNames.{seedFrom};
 ghost use Rattle.erasing.specs.Erasures.{eraseIn};
-ghost use Rattle.bench_api.specs.Numbers.{countNumber, graphNumber, referenceDesc, SnapshotCarried, ErasableCarried};
+ghost use Rattle.bench_api.specs.Numbers.{countNumber, graphNumber, orderNumber, referenceDesc, SnapshotCarried, ErasableCarried};
 ghost use Rattle.bench_api.specs.Pairs.{askedNumber, pairsNumber};
 
 // The prim count, or 65,536 where the bytes are no path.
@@ -44,6 +44,25 @@ pub extern "C" fn bench_is_graph(arena: &[u8]) -> u32
         return 0;
     }
     validate::is_graph(arena) as u32
+}
+
+// 1 where the bytes are an arena that holds a graph, and this has an order, else 0. It is decided by
+// all pairs of siblings: ordering comes to that only where nothing quicker shows the order.
+#[no_mangle]
+pub extern "C" fn bench_has_order(arena: &[u8]) -> u32
+    ensures { λ r. ⌜ r ≡ orderNumber (now (arena .entry)) ⌝ }
+{
+    if arena.len() != arena::ARENA_BYTES {
+        return 0;
+    }
+    if !validate::is_graph(arena) {
+        return 0;
+    }
+    let mut sorted: [u32; 1024] = [0; 1024];
+    let mut ends: [u32; 1024] = [0; 1024];
+    let root = arena::local_root(arena);
+    let count = arena::count(arena);
+    sorting::decide(arena, root, count, &mut sorted, &mut ends) as u32
 }
 
 // `init_root`.
