@@ -13,14 +13,16 @@ ghost use mathlib.Core.Bool.{true, false};
 ghost use Rattle.model.specs.Answers.{orderingNumber};
 ghost use Rattle.model.specs.Arena.{decode};
 ghost use Rattle.model.specs.ArenaCalls.{onArena, intoArena, askArena};
-ghost use Rattle.model.specs.Calls.{initRoot, addChild, readInto, comparesNodes, finalizeStrengthOrder, cull, appendChildName};
+ghost use Rattle.model.specs.Calls.{initRoot, addChild, readInto, comparesNodes, finalizeStrengthOrder, cull};
+ghost use Rattle.model.specs.Calls.{appendChildName};
 ghost use Rattle.model.specs.Graph.{emptyGraph};
 ghost use Rattle.model.specs.Path.{countPrims};
 ghost use Rattle.model.specs.Strength.{viewOf, compareNodeStrength};
 ghost use Rattle.c_api.specs.Carried.{carriedAnswer, WroteCarried};
 ghost use Rattle.deepening.specs.ChildNames.{seedFrom};
 ghost use Rattle.erasing.specs.Erasures.{eraseIn};
-ghost use Rattle.bench_api.specs.Numbers.{countNumber, graphNumber, orderNumber, referenceDesc, SnapshotCarried, ErasableCarried};
+ghost use Rattle.bench_api.specs.Numbers.{countNumber, graphNumber, orderNumber, referenceDesc, SnapshotCarried};
+ghost use Rattle.bench_api.specs.Numbers.{ErasableCarried};
 ghost use Rattle.bench_api.specs.Pairs.{askedNumber, pairsNumber};
 
 // The prim count, or 65,536 where the bytes are no path.
@@ -68,7 +70,8 @@ pub extern "C" fn bench_has_order(arena: &[u8]) -> u32
 // `init_root`.
 #[no_mangle]
 pub extern "C" fn bench_init_root(arena: &mut [u8], stack: u32, layer: u32, path: &[u8]) -> u64
-    ensures { λ r. ⌜ WroteCarried (onArena (initRoot stack layer (now (path .entry))) (now (arena .entry))) (now (arena .entry)) r (now (arena .exit)) ⌝ }
+    ensures { λ r. ⌜ WroteCarried (onArena (initRoot stack layer (now (path .entry))) (now (arena .entry)))
+        (now (arena .entry)) r (now (arena .exit)) ⌝ }
 {
     c_api::carry_number(prim_graph::init_root(arena, stack, layer, path))
 }
@@ -76,7 +79,8 @@ pub extern "C" fn bench_init_root(arena: &mut [u8], stack: u32, layer: u32, path
 // `add_child` of a Reference whose origin and depth are missing, other fields 0.
 #[no_mangle]
 pub extern "C" fn bench_add_child(arena: &mut [u8], parent: u32, path: &[u8]) -> u64
-    ensures { λ r. ⌜ WroteCarried (onArena (addChild (referenceDesc parent (now (path .entry)))) (now (arena .entry))) (now (arena .entry)) r (now (arena .exit)) ⌝ }
+    ensures { λ r. ⌜ WroteCarried (onArena (addChild (referenceDesc parent (now (path .entry)))) (now (arena .entry)))
+        (now (arena .entry)) r (now (arena .exit)) ⌝ }
 {
     let desc = NodeDesc {
         arc: 4,
@@ -97,7 +101,8 @@ pub extern "C" fn bench_add_child(arena: &mut [u8], parent: u32, path: &[u8]) ->
 // `read_snapshot`.
 #[no_mangle]
 pub extern "C" fn bench_read_snapshot(arena: &mut [u8], bytes: &[u8]) -> u64
-    ensures { λ r. ⌜ WroteCarried (intoArena (readInto (now (bytes .entry)) emptyGraph) (now (arena .entry))) (now (arena .entry)) r (now (arena .exit)) ⌝ }
+    ensures { λ r. ⌜ WroteCarried (intoArena (readInto (now (bytes .entry)) emptyGraph) (now (arena .entry)))
+        (now (arena .entry)) r (now (arena .exit)) ⌝ }
 {
     c_api::carry_number(prim_graph::read_snapshot(arena, bytes))
 }
@@ -113,7 +118,8 @@ pub extern "C" fn bench_write_snapshot(arena: &[u8], out: &mut [u8]) -> u64
 // `compare_node_strength`.
 #[no_mangle]
 pub extern "C" fn bench_compare_node_strength(arena: &[u8], a: u32, b: u32) -> u64
-    ensures { λ r. ⌜ r ≡ carriedAnswer (askArena (now (arena .entry)) (comparesNodes (decode (now (arena .entry))) a b)) (orderingNumber (compareNodeStrength (viewOf (decode (now (arena .entry)))) a b)) ⌝ }
+    ensures { λ r. ⌜ r ≡ carriedAnswer (askArena (now (arena .entry)) (comparesNodes (decode (now (arena .entry))) a b))
+        (orderingNumber (compareNodeStrength (viewOf (decode (now (arena .entry)))) a b)) ⌝ }
 {
     c_api::carry_order(prim_graph::compare_node_strength(arena, a, b))
 }
@@ -146,7 +152,8 @@ pub extern "C" fn bench_ask_pairs(arena: &[u8], pairs: &[u8], siblings: bool) ->
 // `finalize_strength_order`.
 #[no_mangle]
 pub extern "C" fn bench_finalize_strength_order(arena: &mut [u8]) -> u64
-    ensures { λ r. ⌜ WroteCarried (onArena finalizeStrengthOrder (now (arena .entry))) (now (arena .entry)) r (now (arena .exit)) ⌝ }
+    ensures { λ r. ⌜ WroteCarried (onArena finalizeStrengthOrder (now (arena .entry))) (now (arena .entry)) r
+        (now (arena .exit)) ⌝ }
 {
     c_api::carry_finish(prim_graph::finalize_strength_order(arena))
 }
@@ -170,7 +177,8 @@ pub extern "C" fn bench_erasable(arena: &[u8], set: &mut [u8]) -> u64
 // `erase`.
 #[no_mangle]
 pub extern "C" fn bench_erase(arena: &mut [u8], set: &[u8]) -> u64
-    ensures { λ r. ⌜ WroteCarried (eraseIn (now (set .entry)) (now (arena .entry))) (now (arena .entry)) r (now (arena .exit)) ⌝ }
+    ensures { λ r. ⌜ WroteCarried (eraseIn (now (set .entry)) (now (arena .entry))) (now (arena .entry)) r
+        (now (arena .exit)) ⌝ }
 {
     c_api::carry_number(prim_graph::erase(arena, set))
 }
@@ -178,7 +186,8 @@ pub extern "C" fn bench_erase(arena: &mut [u8], set: &[u8]) -> u64
 // `append_child_name_to_all_sites`.
 #[no_mangle]
 pub extern "C" fn bench_append_child_name_to_all_sites(arena: &mut [u8], child: &[u8]) -> u64
-    ensures { λ r. ⌜ WroteCarried (onArena (appendChildName (now (child .entry))) (now (arena .entry))) (now (arena .entry)) r (now (arena .exit)) ⌝ }
+    ensures { λ r. ⌜ WroteCarried (onArena (appendChildName (now (child .entry))) (now (arena .entry)))
+        (now (arena .entry)) r (now (arena .exit)) ⌝ }
 {
     c_api::carry_finish(prim_graph::append_child_name_to_all_sites(arena, child))
 }
@@ -186,7 +195,8 @@ pub extern "C" fn bench_append_child_name_to_all_sites(arena: &mut [u8], child: 
 // `seed_child`.
 #[no_mangle]
 pub extern "C" fn bench_seed_child(from: &[u8], into: &mut [u8], child: &[u8]) -> u64
-    ensures { λ r. ⌜ WroteCarried (intoArena (seedFrom (now (child .entry)) (now (from .entry))) (now (into .entry))) (now (into .entry)) r (now (into .exit)) ⌝ }
+    ensures { λ r. ⌜ WroteCarried (intoArena (seedFrom (now (child .entry)) (now (from .entry))) (now (into .entry)))
+        (now (into .entry)) r (now (into .exit)) ⌝ }
 {
     c_api::carry_finish(prim_graph::seed_child(from, into, child))
 }

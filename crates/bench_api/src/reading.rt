@@ -20,7 +20,8 @@ ghost use Rattle.nodes.specs.Queries.{handed, localRootOr};
 // `graph_info`: the local root, 4,294,967,295 for none.
 #[no_mangle]
 pub extern "C" fn bench_graph_info(arena: &[u8]) -> u64
-    ensures { λ r. ⌜ r ≡ carriedAnswer (askArena (now (arena .entry)) []) (localRootOr (decode (now (arena .entry)))) ⌝ }
+    ensures { λ r. ⌜ r ≡ carriedAnswer (askArena (now (arena .entry)) [])
+        (localRootOr (decode (now (arena .entry)))) ⌝ }
 {
     let read = prim_graph::graph_info(arena);
     match read {
@@ -32,7 +33,8 @@ pub extern "C" fn bench_graph_info(arena: &[u8]) -> u64
 // `node`: its first child, 4,294,967,295 for none.
 #[no_mangle]
 pub extern "C" fn bench_node(arena: &[u8], n: u32) -> u64
-    ensures { λ r. ⌜ r ≡ carriedAnswer (askArena (now (arena .entry)) (readsNode (decode (now (arena .entry))) n)) (firstOf (childrenOf (decode (now (arena .entry))) n)) ⌝ }
+    ensures { λ r. ⌜ r ≡ carriedAnswer (askArena (now (arena .entry)) (readsNode (decode (now (arena .entry))) n))
+        (firstOf (childrenOf (decode (now (arena .entry))) n)) ⌝ }
 {
     let read = prim_graph::node(arena, n);
     match read {
@@ -44,7 +46,9 @@ pub extern "C" fn bench_node(arena: &[u8], n: u32) -> u64
 // `path`: its length, 0 where the call is refused.
 #[no_mangle]
 pub extern "C" fn bench_path(arena: &[u8], n: u32) -> u64
-    ensures { λ r. ⌜ r ≡ length (handed (askArena (now (arena .entry)) (readsNode (decode (now (arena .entry))) n)) (nodeAt (decode (now (arena .entry)) .nodes) n .path)) ⌝ }
+    ensures { λ r. ⌜ r ≡ length
+        (handed (askArena (now (arena .entry)) (readsNode (decode (now (arena .entry))) n))
+        (nodeAt (decode (now (arena .entry)) .nodes) n .path)) ⌝ }
 {
     prim_graph::path(arena, n).len() as u64
 }
@@ -52,7 +56,9 @@ pub extern "C" fn bench_path(arena: &[u8], n: u32) -> u64
 // `path_at_introduction`: its length, 0 where the call is refused.
 #[no_mangle]
 pub extern "C" fn bench_path_at_introduction(arena: &[u8], n: u32) -> u64
-    ensures { λ r. ⌜ r ≡ length (handed (askArena (now (arena .entry)) (readsNode (decode (now (arena .entry))) n)) (pathAtIntroduction (decode (now (arena .entry)) .nodes) n)) ⌝ }
+    ensures { λ r. ⌜ r ≡ length
+        (handed (askArena (now (arena .entry)) (readsNode (decode (now (arena .entry))) n))
+        (pathAtIntroduction (decode (now (arena .entry)) .nodes) n)) ⌝ }
 {
     prim_graph::path_at_introduction(arena, n).len() as u64
 }
@@ -60,7 +66,8 @@ pub extern "C" fn bench_path_at_introduction(arena: &[u8], n: u32) -> u64
 // `depth_below_introduction`.
 #[no_mangle]
 pub extern "C" fn bench_depth_below_introduction(arena: &[u8], n: u32) -> u64
-    ensures { λ r. ⌜ r ≡ carriedAnswer (askArena (now (arena .entry)) (readsNode (decode (now (arena .entry))) n)) (depthBelowIntroduction (decode (now (arena .entry)) .nodes) n) ⌝ }
+    ensures { λ r. ⌜ r ≡ carriedAnswer (askArena (now (arena .entry)) (readsNode (decode (now (arena .entry))) n))
+        (depthBelowIntroduction (decode (now (arena .entry)) .nodes) n) ⌝ }
 {
     c_api::carry_number(prim_graph::depth_below_introduction(arena, n))
 }
@@ -68,7 +75,9 @@ pub extern "C" fn bench_depth_below_introduction(arena: &[u8], n: u32) -> u64
 // `node_using_site`: 4,294,967,295 for none.
 #[no_mangle]
 pub extern "C" fn bench_node_using_site(arena: &[u8], stack: u32, path: &[u8]) -> u64
-    ensures { λ r. ⌜ r ≡ carriedAnswer (askArena (now (arena .entry)) (usesSite (decode (now (arena .entry))) (now (path .entry)))) (nodeUsingSite stack (now (path .entry)) (decode (now (arena .entry)))) ⌝ }
+    ensures { λ r. ⌜ r ≡ carriedAnswer
+        (askArena (now (arena .entry)) (usesSite (decode (now (arena .entry))) (now (path .entry))))
+        (nodeUsingSite stack (now (path .entry)) (decode (now (arena .entry)))) ⌝ }
 {
     c_api::carry_number(prim_graph::node_using_site(arena, stack, path))
 }
@@ -76,7 +85,8 @@ pub extern "C" fn bench_node_using_site(arena: &[u8], stack: u32, path: &[u8]) -
 // `is_ancestor_of`: 1 for yes and 0 for no.
 #[no_mangle]
 pub extern "C" fn bench_is_ancestor_of(arena: &[u8], x: u32, y: u32) -> u64
-    ensures { λ r. ⌜ r ≡ carriedAnswer (askArena (now (arena .entry)) (comparesNodes (decode (now (arena .entry))) x y)) (bit (isAncestorOf (view (decode (now (arena .entry)) .nodes)) x y)) ⌝ }
+    ensures { λ r. ⌜ r ≡ carriedAnswer (askArena (now (arena .entry)) (comparesNodes (decode (now (arena .entry))) x y))
+        (bit (isAncestorOf (view (decode (now (arena .entry)) .nodes)) x y)) ⌝ }
 {
     c_api::carry_test(prim_graph::is_ancestor_of(arena, x, y))
 }
@@ -84,7 +94,8 @@ pub extern "C" fn bench_is_ancestor_of(arena: &[u8], x: u32, y: u32) -> u64
 // `same_site`, the same.
 #[no_mangle]
 pub extern "C" fn bench_same_site(arena: &[u8], a: u32, b: u32) -> u64
-    ensures { λ r. ⌜ r ≡ carriedAnswer (askArena (now (arena .entry)) (comparesNodes (decode (now (arena .entry))) a b)) (bit (view (decode (now (arena .entry)) .nodes) .sameSite a b)) ⌝ }
+    ensures { λ r. ⌜ r ≡ carriedAnswer (askArena (now (arena .entry)) (comparesNodes (decode (now (arena .entry))) a b))
+        (bit (view (decode (now (arena .entry)) .nodes) .sameSite a b)) ⌝ }
 {
     c_api::carry_test(prim_graph::same_site(arena, a, b))
 }
@@ -92,7 +103,8 @@ pub extern "C" fn bench_same_site(arena: &[u8], a: u32, b: u32) -> u64
 // `is_propagated_specializes`, the same.
 #[no_mangle]
 pub extern "C" fn bench_is_propagated_specializes(arena: &[u8], n: u32) -> u64
-    ensures { λ r. ⌜ r ≡ carriedAnswer (askArena (now (arena .entry)) (readsNode (decode (now (arena .entry))) n)) (bit (isPropagatedSpecializes (view (decode (now (arena .entry)) .nodes)) n)) ⌝ }
+    ensures { λ r. ⌜ r ≡ carriedAnswer (askArena (now (arena .entry)) (readsNode (decode (now (arena .entry))) n))
+        (bit (isPropagatedSpecializes (view (decode (now (arena .entry)) .nodes)) n)) ⌝ }
 {
     c_api::carry_test(prim_graph::is_propagated_specializes(arena, n))
 }
@@ -100,7 +112,8 @@ pub extern "C" fn bench_is_propagated_specializes(arena: &[u8], n: u32) -> u64
 // `get_propagated_specializes_node`: 4,294,967,295 for none.
 #[no_mangle]
 pub extern "C" fn bench_get_propagated_specializes_node(arena: &[u8], n: u32) -> u64
-    ensures { λ r. ⌜ r ≡ carriedAnswer (askArena (now (arena .entry)) (readsNode (decode (now (arena .entry))) n)) (getPropagatedSpecializesNode (decode (now (arena .entry))) n) ⌝ }
+    ensures { λ r. ⌜ r ≡ carriedAnswer (askArena (now (arena .entry)) (readsNode (decode (now (arena .entry))) n))
+        (getPropagatedSpecializesNode (decode (now (arena .entry))) n) ⌝ }
 {
     c_api::carry_number(prim_graph::get_propagated_specializes_node(arena, n))
 }
@@ -108,7 +121,8 @@ pub extern "C" fn bench_get_propagated_specializes_node(arena: &[u8], n: u32) ->
 // `starting_node_of_class_hierarchy`: the topmost class, 4,294,967,295 for none.
 #[no_mangle]
 pub extern "C" fn bench_starting_node_of_class_hierarchy(arena: &[u8], n: u32) -> u64
-    ensures { λ r. ⌜ r ≡ carriedAnswer (askArena (now (arena .entry)) (readsNode (decode (now (arena .entry))) n)) (topmostClassNode (view (decode (now (arena .entry)) .nodes)) n) ⌝ }
+    ensures { λ r. ⌜ r ≡ carriedAnswer (askArena (now (arena .entry)) (readsNode (decode (now (arena .entry))) n))
+        (topmostClassNode (view (decode (now (arena .entry)) .nodes)) n) ⌝ }
 {
     let read = prim_graph::starting_node_of_class_hierarchy(arena, n);
     match read {

@@ -6,7 +6,8 @@ ghost use Prim.Native.Nat.{_≤_, _/_};
 ghost use lib.ListN.{length};
 ghost use Rattle.model.specs.Arena.{countIn, localRootIn};
 ghost use Rattle.model.specs.ArenaCalls.{ValidArena, ValidNode};
-ghost use Rattle.bench_api.specs.Pairs.{areSiblings, pairRefused, pairsRefused, callRefused, comparison, pairSum, askedNumber, pairsNumber, mostPairBytes};
+ghost use Rattle.bench_api.specs.Pairs.{areSiblings, pairRefused, pairsRefused, callRefused, comparison, pairSum};
+ghost use Rattle.bench_api.specs.Pairs.{askedNumber, pairsNumber, mostPairBytes};
 
 // Whether two nodes have one parent, and neither is node 0.
 fn are_siblings(arena: &[u8], a: u32, b: u32) -> bool
@@ -45,7 +46,8 @@ fn ask_pair(arena: &[u8], siblings: bool, count: u32, a: u32, b: u32) -> u32
 // What refuses the first pair that is refused, or 0.
 fn ask_pairs(arena: &[u8], pairs: &[u8], siblings: bool) -> u32
     requires { ⌜ ValidArena (now arena) × (length (now pairs) ≤ mostPairBytes) ⌝ }
-    ensures { λ r. ⌜ r ≡ pairsRefused (pairRefused siblings (now (arena .entry))) (now (pairs .entry)) (length (now (pairs .entry)) / 8) ⌝ }
+    ensures { λ r. ⌜ r ≡ pairsRefused (pairRefused siblings (now (arena .entry))) (now (pairs .entry))
+        (length (now (pairs .entry)) / 8) ⌝ }
 {
     let count = arena::count(arena);
     let n = pairs.len() / 8;
@@ -80,7 +82,8 @@ fn ask_call(arena: &[u8], pairs: &[u8], siblings: bool) -> u32
 
 // Which of a pair that has passed is the stronger.
 fn compare_pair(arena: &[u8], siblings: bool, root: u32, a: u32, b: u32) -> Ordering
-    requires { ⌜ ValidArena (now arena) × (root ≡ localRootIn (now arena)) × (pairRefused siblings (now arena) a b ≡ 0) ⌝ }
+    requires { ⌜ ValidArena (now arena) × (root ≡ localRootIn (now arena))
+        × (pairRefused siblings (now arena) a b ≡ 0) ⌝ }
     ensures { λ r. ⌜ r ≡ comparison siblings (now (arena .entry)) a b ⌝ }
 {
     if siblings {
@@ -92,7 +95,8 @@ fn compare_pair(arena: &[u8], siblings: bool, root: u32, a: u32, b: u32) -> Orde
 // The sum over pairs that have passed: nothing is asked here.
 fn sum_pairs(arena: &[u8], pairs: &[u8], siblings: bool) -> u64
     requires { ⌜ callRefused siblings (now arena) (now pairs) ≡ 0 ⌝ }
-    ensures { λ r. ⌜ r ≡ pairSum (comparison siblings (now (arena .entry))) (now (pairs .entry)) (length (now (pairs .entry)) / 8) ⌝ }
+    ensures { λ r. ⌜ r ≡ pairSum (comparison siblings (now (arena .entry))) (now (pairs .entry))
+        (length (now (pairs .entry)) / 8) ⌝ }
 {
     let root = arena::local_root(arena);
     let n = pairs.len() / 8;

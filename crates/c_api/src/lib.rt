@@ -25,7 +25,8 @@ ghost use Rattle.c_api.specs.CarriedOrders.{OrderCarried};
 // 12, then 4 to 7; the arena is then as it was.
 #[no_mangle]
 pub extern "C" fn cadgweri_read_snapshot(arena: &mut [u8], bytes: &[u8]) -> u64
-    ensures { λ r. ⌜ WroteCarried (intoArena (readInto (now (bytes .entry)) emptyGraph) (now (arena .entry))) (now (arena .entry)) r (now (arena .exit)) ⌝ }
+    ensures { λ r. ⌜ WroteCarried (intoArena (readInto (now (bytes .entry)) emptyGraph) (now (arena .entry)))
+        (now (arena .entry)) r (now (arena .exit)) ⌝ }
 {
     crate::carried::carry_number(prim_graph::read_snapshot(arena, bytes))
 }
@@ -42,7 +43,8 @@ pub extern "C" fn cadgweri_count(arena: &[u8]) -> u64
 // to 4.
 #[no_mangle]
 pub extern "C" fn cadgweri_compare_node_strength(arena: &[u8], a: u32, b: u32) -> u64
-    ensures { λ r. ⌜ r ≡ carriedAnswer (askArena (now (arena .entry)) (comparesNodes (decode (now (arena .entry))) a b)) (orderingNumber (compareNodeStrength (viewOf (decode (now (arena .entry)))) a b)) ⌝ }
+    ensures { λ r. ⌜ r ≡ carriedAnswer (askArena (now (arena .entry)) (comparesNodes (decode (now (arena .entry))) a b))
+        (orderingNumber (compareNodeStrength (viewOf (decode (now (arena .entry)))) a b)) ⌝ }
 {
     crate::carried::carry_order(prim_graph::compare_node_strength(arena, a, b))
 }
@@ -50,7 +52,9 @@ pub extern "C" fn cadgweri_compare_node_strength(arena: &[u8], a: u32, b: u32) -
 // The same of two siblings: refused 1 to 4, and 8 where they have not one parent.
 #[no_mangle]
 pub extern "C" fn cadgweri_compare_sibling_node_strength(arena: &[u8], a: u32, b: u32) -> u64
-    ensures { λ r. ⌜ r ≡ carriedAnswer (askArena (now (arena .entry)) (comparesSiblings (decode (now (arena .entry))) a b)) (orderingNumber (compareSiblingNodeStrength (viewOf (decode (now (arena .entry)))) a b)) ⌝ }
+    ensures { λ r. ⌜ r ≡ carriedAnswer
+        (askArena (now (arena .entry)) (comparesSiblings (decode (now (arena .entry))) a b))
+        (orderingNumber (compareSiblingNodeStrength (viewOf (decode (now (arena .entry)))) a b)) ⌝ }
 {
     crate::carried::carry_order(prim_graph::compare_sibling_node_strength(arena, a, b))
 }
@@ -60,7 +64,8 @@ pub extern "C" fn cadgweri_compare_sibling_node_strength(arena: &[u8], a: u32, b
 // it was.
 #[no_mangle]
 pub extern "C" fn cadgweri_finalize_strength_order(arena: &mut [u8]) -> u64
-    ensures { λ r. ⌜ WroteCarried (onArena finalizeStrengthOrder (now (arena .entry))) (now (arena .entry)) r (now (arena .exit)) ⌝ }
+    ensures { λ r. ⌜ WroteCarried (onArena finalizeStrengthOrder (now (arena .entry))) (now (arena .entry)) r
+        (now (arena .exit)) ⌝ }
 {
     crate::carried::carry_finish(prim_graph::finalize_strength_order(arena))
 }
@@ -79,7 +84,8 @@ pub extern "C" fn cadgweri_strength_order(arena: &[u8], out: &mut [u8]) -> u64
 // not below the count, and 10.
 #[no_mangle]
 pub extern "C" fn cadgweri_order_entry(arena: &[u8], place: u32) -> u64
-    ensures { λ r. ⌜ r ≡ carriedAnswer (askArena (now (arena .entry)) (readsEntry (decode (now (arena .entry))) place)) (getD (decode (now (arena .entry)) .order) place 0) ⌝ }
+    ensures { λ r. ⌜ r ≡ carriedAnswer (askArena (now (arena .entry)) (readsEntry (decode (now (arena .entry))) place))
+        (getD (decode (now (arena .entry)) .order) place 0) ⌝ }
 {
     crate::carried::carry_number(prim_graph::order_entry(arena, place))
 }
