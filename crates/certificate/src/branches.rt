@@ -46,7 +46,8 @@ pub(crate) fn branches_fit(
 ) -> bool
     requires { ⌜ ValidArena (now arena) × Reaches (now arena) (now places) × Reaches (now arena) (now stops) ⌝ }
     requires { ⌜ (length (now sorted) ≡ 1024) × (parent < countIn (now arena)) × (start ≤ end) × (end ≤ 1024) ⌝ }
-    ensures { λ r. ⌜ (r ≡ true → FitsIn (now (arena .entry)) (now (sorted .entry)) (now (places .entry)) (now (stops .entry)) parent start end) ⌝ }
+    ensures { λ r. ⌜ (r ≡ true → FitsIn (now (arena .entry)) (now (sorted .entry))
+        (now (places .entry)) (now (stops .entry)) parent start end) ⌝ }
 {
     let count = arena::count(arena);
     let mut from = wide(places[parent as usize]) + 1;

@@ -5,7 +5,8 @@ ghost use mathlib.Core.Path.{_≡_};
 ghost use mathlib.Core.Bool.{true, not, _||_, cond};
 ghost use Prim.Native.Nat.{_≤_, _<_};
 ghost use lib.ListN.{length};
-ghost use Rattle.certificate.specs.Certificate.{placeIn, Placed, IsBefore, SameStack, FollowsBy, NextBy, RisesOver};
+ghost use Rattle.certificate.specs.Certificate.{placeIn, Placed, IsBefore, SameStack};
+ghost use Rattle.certificate.specs.Certificate.{FollowsBy, NextBy, RisesOver};
 
 // A place, as wide as the numbers that are compared.
 pub(crate) fn wide(place: u16) -> u32

@@ -4,9 +4,8 @@ ghost use mathlib.Core.Path.{_≡_};
 ghost use mathlib.Core.Bool.{true};
 ghost use Prim.Native.Nat.{_≤_, _<_};
 ghost use lib.ListN.{length};
-ghost use lib.Seq.{slice};
 ghost use Rattle.model.specs.Arena.{countIn};
-ghost use Rattle.certificate.specs.Certificate.{Given, Reaches, Part, ByLines, RunEnd};
+ghost use Rattle.certificate.specs.Certificate.{Given, Reaches, Part, PartInOrder, RunEnd};
 
 // Where the children of the first one's rank end.
 fn run_end(
@@ -17,7 +16,8 @@ fn run_end(
     start: usize,
     end: usize,
 ) -> usize
-    requires { ⌜ Given (now arena) (now table) (now sorted) × Part (now arena) (now sorted) parent start end × (start < end) ⌝ }
+    requires { ⌜ Given (now arena) (now table) (now sorted) ⌝ }
+    requires { ⌜ Part (now arena) (now sorted) parent start end × (start < end) ⌝ }
     ensures { λ r. ⌜ RunEnd (now (arena .entry)) (now (sorted .entry)) start end r ⌝ }
 {
     let first = line_table::entry_of(arena, table, sorted[start]);
@@ -46,7 +46,7 @@ pub(crate) fn list_in_order(
 ) -> bool
     requires { ⌜ Given (now arena) (now table) (now sorted) × Reaches (now arena) (now places) ⌝ }
     requires { ⌜ Part (now arena) (now sorted) parent start end × (countIn (now arena) ≤ length (now row)) ⌝ }
-    ensures { λ r. ⌜ (r ≡ true → ByLines (now (arena .entry)) (now (places .entry)) (slice start end (now (sorted .entry)))) ⌝ }
+    ensures { λ r. ⌜ PartInOrder (now (arena .entry)) (now (places .entry)) (now (sorted .entry)) start end r ⌝ }
 {
     let mut least: u32 = 0;
     let mut at = start;

@@ -8,12 +8,11 @@ ghost use mathlib.Core.Path.{_≡_};
 ghost use mathlib.Core.Bool.{true, false};
 ghost use Prim.Native.Nat.{_≤_, _<_};
 ghost use lib.ListN.{length};
-ghost use lib.Seq.{slice};
 ghost use Rattle.model.specs.Arena.{countIn};
 ghost use Rattle.model.specs.ArenaCalls.{ValidArena};
 ghost use Rattle.view.specs.View.{viewIn};
 ghost use Rattle.line_table.specs.LineTable.{NestedRow, Tabled};
-ghost use Rattle.certificate.specs.Certificate.{Given, Reaches, Part, OneDepth, OneRank, ByLines};
+ghost use Rattle.certificate.specs.Certificate.{Given, Reaches, Part, OneDepth, OneRank, PartInOrder};
 
 // Whether no child of a part is a copy (`is_copy`) and each is before the next: then each is before
 // all later ones.
@@ -28,7 +27,7 @@ fn neighbours_in_order(
 ) -> bool
     requires { ⌜ Given (now arena) (now table) (now sorted) × Reaches (now arena) (now places) ⌝ }
     requires { ⌜ Part (now arena) (now sorted) parent start end × (start < end) ⌝ }
-    ensures { λ r. ⌜ (r ≡ true → ByLines (now (arena .entry)) (now (places .entry)) (slice start end (now (sorted .entry)))) ⌝ }
+    ensures { λ r. ⌜ PartInOrder (now (arena .entry)) (now (places .entry)) (now (sorted .entry)) start end r ⌝ }
 {
     let first = line_table::entry_of(arena, table, sorted[start]);
     if is_copy(first) {
@@ -58,7 +57,8 @@ fn has_two_depths(
     start: usize,
     end: usize,
 ) -> bool
-    requires { ⌜ Given (now arena) (now table) (now sorted) × Part (now arena) (now sorted) parent start end × (start < end) ⌝ }
+    requires { ⌜ Given (now arena) (now table) (now sorted) ⌝ }
+    requires { ⌜ Part (now arena) (now sorted) parent start end × (start < end) ⌝ }
     ensures { λ r. ⌜ (r ≡ false → OneDepth (now (arena .entry)) (now (sorted .entry)) start end) ⌝ }
 {
     let first = line_table::entry_of(arena, table, sorted[start]);
@@ -88,9 +88,10 @@ fn copies_in_order(
     uneven: bool,
 ) -> bool
     requires { ⌜ Given (now arena) (now table) (now sorted) × Reaches (now arena) (now places) ⌝ }
-    requires { ⌜ Part (now arena) (now sorted) parent start end × (start < end) × OneRank (now arena) (now sorted) start end ⌝ }
+    requires { ⌜ Part (now arena) (now sorted) parent start end × (start < end) ⌝ }
+    requires { ⌜ OneRank (now arena) (now sorted) start end ⌝ }
     requires { ⌜ (uneven ≡ false → OneDepth (now arena) (now sorted) start end) ⌝ }
-    ensures { λ r. ⌜ (r ≡ true → ByLines (now (arena .entry)) (now (places .entry)) (slice start end (now (sorted .entry)))) ⌝ }
+    ensures { λ r. ⌜ PartInOrder (now (arena .entry)) (now (places .entry)) (now (sorted .entry)) start end r ⌝ }
 {
     let mut last = line_table::entry_of(arena, table, sorted[start]);
     if !last.special {
@@ -141,9 +142,10 @@ fn pairs_in_order(
     row: &mut [u8],
 ) -> bool
     requires { ⌜ Given (now arena) (now table) (now sorted) × Reaches (now arena) (now places) ⌝ }
-    requires { ⌜ Part (now arena) (now sorted) parent start end × (uneven ≡ false → OneDepth (now arena) (now sorted) start end) ⌝ }
+    requires { ⌜ Part (now arena) (now sorted) parent start end ⌝ }
+    requires { ⌜ (uneven ≡ false → OneDepth (now arena) (now sorted) start end) ⌝ }
     requires { ⌜ countIn (now arena) ≤ length (now row) ⌝ }
-    ensures { λ r. ⌜ (r ≡ true → ByLines (now (arena .entry)) (now (places .entry)) (slice start end (now (sorted .entry)))) ⌝ }
+    ensures { λ r. ⌜ PartInOrder (now (arena .entry)) (now (places .entry)) (now (sorted .entry)) start end r ⌝ }
 {
     let count = arena::count(arena);
     let mut found = true;
@@ -179,9 +181,9 @@ pub(crate) fn run_in_order(
     row: &mut [u8],
 ) -> bool
     requires { ⌜ Given (now arena) (now table) (now sorted) × Reaches (now arena) (now places) ⌝ }
-    requires { ⌜ Part (now arena) (now sorted) parent start end × (start < end) × (countIn (now arena) ≤ length (now row)) ⌝ }
-    requires { ⌜ OneRank (now arena) (now sorted) start end ⌝ }
-    ensures { λ r. ⌜ (r ≡ true → ByLines (now (arena .entry)) (now (places .entry)) (slice start end (now (sorted .entry)))) ⌝ }
+    requires { ⌜ Part (now arena) (now sorted) parent start end × (start < end) ⌝ }
+    requires { ⌜ OneRank (now arena) (now sorted) start end × (countIn (now arena) ≤ length (now row)) ⌝ }
+    ensures { λ r. ⌜ PartInOrder (now (arena .entry)) (now (places .entry)) (now (sorted .entry)) start end r ⌝ }
 {
     if end - start == 1 {
         return true;

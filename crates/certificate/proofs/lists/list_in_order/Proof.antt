@@ -53,7 +53,7 @@ run-end-requires c κs =
     let l = c .before .before .before in
     let s = entry (l .before) in
     let w = l .before .loop .inv .1 in
-    (s .pre .0 .0, ranking-part w (s .pre .0 .0 .long) (s .pre .1 .0) (w .high) (omega arith), l .loop-test .taken)
+    (s .pre .0 .0, (ranking-part w (s .pre .0 .0 .long) (s .pre .1 .0) (w .high) (omega arith), l .loop-test .taken))
 
 run-in-order-requires : tie.Need-run-in-order-requires Inv-loop μ-loop
 run-in-order-requires c κs =
@@ -65,9 +65,8 @@ run-in-order-requires c κs =
         (
           ranking-part (l .loop .inv .1) (s .pre .0 .0 .long) (s .pre .1 .0) (omega (arith, run .longer)) (run .within),
           run .longer,
-          omega (arith, l .loop .inv .0, s .pre .1 .1),
         ),
-        run .one-rank,
+        (run .one-rank, omega (arith, l .loop .inv .0, s .pre .1 .1)),
       ),
     )
 

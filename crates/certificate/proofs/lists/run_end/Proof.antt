@@ -25,30 +25,30 @@ module _ (c : tie.In-loop Inv-loop μ-loop) where
   at = c .before
 
   here : ChildOf (entry at .args .arena .now) (entry at .args .parent) (getD (entry at .args .sorted .now) (at .loop .i) 0)
-  here = part-child (entry at .pre .0 .long) (entry at .pre .1) (at .loop .i) (at .loop .inv .1 .low) (c .loop-test .taken)
+  here = part-child (entry at .pre .0 .long) (entry at .pre .1 .0) (at .loop .i) (at .loop .inv .1 .low) (c .loop-test .taken)
 
   small : (at .loop .i < 1024) × (at .loop .i < length (entry at .args .sorted .now))
   small =
       let s = entry at in
-      (omega (arith, c .loop-test .taken, s .pre .1 .high), omega (arith, c .loop-test .taken, s .pre .1 .high, s .pre .0 .long))
+      (omega (arith, c .loop-test .taken, s .pre .1 .0 .high), omega (arith, c .loop-test .taken, s .pre .1 .0 .high, s .pre .0 .long))
 
 mul-entry-of : tie.Need-mul-entry-of Inv-loop μ-loop
-mul-entry-of c = omega (arith, c .before .before .before .pre .1 .high)
+mul-entry-of c = omega (arith, c .before .before .before .pre .1 .0 .high)
 
 shared-slice-read-entry-of : tie.Need-shared-slice-read-entry-of Inv-loop μ-loop
-shared-slice-read-entry-of c = omega (arith, c .before .before .before .before .pre .0 .long, c .before .before .before .before .pre .1 .high)
+shared-slice-read-entry-of c = omega (arith, c .before .before .before .before .pre .0 .long, c .before .before .before .before .pre .1 .0 .high)
 
 entry-of-requires : tie.Need-entry-of-requires Inv-loop μ-loop
 entry-of-requires c κs =
     let s = c .before .before .before .before in
-    let child = part-child (s .pre .0 .long) (s .pre .1) (s .args .start) (omega arith) (s .pre .2) in
+    let child = part-child (s .pre .0 .long) (s .pre .1 .0) (s .args .start) (omega arith) (s .pre .1 .1) in
     (s .pre .0 .tabled, child .0, child .1)
 
 add-i : tie.Need-add-i Inv-loop μ-loop
-add-i c = omega (arith, c .before .before .before .before .before .pre .1 .high, c .before .before .before .before .before .pre .2)
+add-i c = omega (arith, c .before .before .before .before .before .pre .1 .0 .high, c .before .before .before .before .before .pre .1 .1)
 
 loop-holds : tie.Need-loop-holds Inv-loop μ-loop
-loop-holds c = let s = c .before .before .before .before .before in (omega arith, alike-step (alike-start (s .pre .1 .low)) (s .pre .2) refl)
+loop-holds c = let s = c .before .before .before .before .before in (omega arith, alike-step (alike-start (s .pre .1 .0 .low)) (s .pre .1 .1) refl)
 
 mul-entry-of-2 : tie.Need-mul-entry-of-2 Inv-loop μ-loop
 mul-entry-of-2 c = omega (arith, small c)

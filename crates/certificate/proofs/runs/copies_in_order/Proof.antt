@@ -129,7 +129,7 @@ loop-again c =
 returns-4 : tie.Need-returns-4 Inv-loop μ-loop
 returns-4 c =
     let s = entry (c .before) in
-    λ e. copying-ends (c .before .loop .inv) (s .pre .0 .0 .opened) (s .pre .0 .0 .long) (s .pre .1 .0 .0) (s .pre .1 .0 .2) (s .pre .1 .1)
+    λ e. copying-ends (c .before .loop .inv) (s .pre .0 .0 .opened) (s .pre .0 .0 .long) (s .pre .1 .0 .0) (s .pre .1 .1 .0) (s .pre .1 .1 .1)
     (omega (arith, c .loop-test .left))
 
 pub copies-in-order-spec : {M : Type 1} → statement M

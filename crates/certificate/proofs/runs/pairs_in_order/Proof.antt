@@ -43,7 +43,7 @@ IsChild c k = ChildOf (entry c .args .arena .now) (entry c .args .parent) (getD 
 first : (c : tie.In-pairs Inv-loop μ-loop Inv-pairs μ-pairs) → IsChild (c .before) (c .before .pairs .i)
 first c =
     let s = entry (c .before) in
-    part-child (s .pre .0 .0 .long) (s .pre .1 .0 .0) (c .before .pairs .i) (c .before .pairs .inv .2 .low) (c .pairs-test .taken)
+    part-child (s .pre .0 .0 .long) (s .pre .1 .0) (c .before .pairs .i) (c .before .pairs .inv .2 .low) (c .pairs-test .taken)
 
 module _ (c : tie.In-loop Inv-loop μ-loop Inv-pairs μ-pairs) where
   abbrev outer : tie.At-pairs Inv-loop μ-loop Inv-pairs μ-pairs
@@ -53,7 +53,7 @@ module _ (c : tie.In-loop Inv-loop μ-loop Inv-pairs μ-pairs) where
   later = let w = c .before .loop .inv .1 in omega (arith, w .outer .low, w .past)
 
   second : IsChild outer (c .before .loop .j)
-  second = let s = entry outer in part-child (s .pre .0 .0 .long) (s .pre .1 .0 .0) (c .before .loop .j) later (c .loop-test .taken)
+  second = let s = entry outer in part-child (s .pre .0 .0 .long) (s .pre .1 .0) (c .before .loop .j) later (c .loop-test .taken)
 
 second-root : (c : tie.After-entry-of2 Inv-loop μ-loop Inv-pairs μ-pairs)
     → c .entry-of2 .result .root < countIn (entry (outer (c .before .before)) .args .arena .now)
@@ -79,7 +79,7 @@ module _ (c : tie.Else1 Inv-loop μ-loop Inv-pairs μ-pairs) where
   compared =
       let l = inner .before in
       let w = l .loop .inv .1 in
-      let depth = given .pre .1 .0 .1 in
+      let depth = given .pre .1 .1 .0 in
       let a = l .before .before .before .before .before .entry-of .ensures in
       let b = c .before .before .before .before .entry-of2 .ensures in
       let nested = l .before .before .before .nest-where in
@@ -92,15 +92,15 @@ count-requires : tie.Need-count-requires Inv-loop μ-loop Inv-pairs μ-pairs
 count-requires c κs = c .before .before .before .before .before .pre .0 .0 .opened .whole
 
 pairs-holds : tie.Need-pairs-holds Inv-loop μ-loop Inv-pairs μ-pairs
-pairs-holds c = (refl, refl, pairing-start (c .before .before .before .before .before .before .pre .1 .0 .0 .low))
+pairs-holds c = (refl, refl, pairing-start (c .before .before .before .before .before .before .pre .1 .0 .low))
 
 mul-entry-of : tie.Need-mul-entry-of Inv-loop μ-loop Inv-pairs μ-pairs
-mul-entry-of c = omega (arith, c .pairs-test .taken, entry (c .before) .pre .1 .0 .0 .high)
+mul-entry-of c = omega (arith, c .pairs-test .taken, entry (c .before) .pre .1 .0 .high)
 
 shared-slice-read-entry-of : tie.Need-shared-slice-read-entry-of Inv-loop μ-loop Inv-pairs μ-pairs
 shared-slice-read-entry-of c =
     let s = entry (c .before .before) in
-    omega (arith, c .before .pairs-test .taken, s .pre .1 .0 .0 .high, s .pre .0 .0 .long)
+    omega (arith, c .before .pairs-test .taken, s .pre .1 .0 .high, s .pre .0 .0 .long)
 
 entry-of-requires : tie.Need-entry-of-requires Inv-loop μ-loop Inv-pairs μ-pairs
 entry-of-requires c κs = (entry (c .before .before) .pre .0 .0 .tabled, first (c .before) .0, first (c .before) .1)
@@ -111,10 +111,10 @@ nest-where-requires c κs =
     let s = entry l in
     let counted = l .before .count .ensures in
     let root = entry-root (legal (s .args .arena .now) (s .pre .0 .0 .opened)) (first (c .before .before .before)) (c .before .entry-of .ensures) in
-    ((s .pre .0 .0 .opened, s .pre .0 .0 .tabled, counted), (omega arith, omega (arith, s .pre .1 .1, l .pairs .inv .1)))
+    ((s .pre .0 .0 .opened, s .pre .0 .0 .tabled, counted), (omega arith, omega (arith, s .pre .1 .1 .1, l .pairs .inv .1)))
 
 add-j : tie.Need-add-j Inv-loop μ-loop Inv-pairs μ-pairs
-add-j c = let l = c .before .before .before .before .before .before in omega (arith, l .pairs-test .taken, entry (l .before) .pre .1 .0 .0 .high)
+add-j c = let l = c .before .before .before .before .before .before in omega (arith, l .pairs-test .taken, entry (l .before) .pre .1 .0 .high)
 
 loop-holds : tie.Need-loop-holds Inv-loop μ-loop Inv-pairs μ-pairs
 loop-holds c =
@@ -123,12 +123,12 @@ loop-holds c =
     (w .0, facing-start (w .2) (t .pairs-test .taken))
 
 mul-entry-of-2 : tie.Need-mul-entry-of-2 Inv-loop μ-loop Inv-pairs μ-pairs
-mul-entry-of-2 c = omega (arith, c .loop-test .taken, entry (outer c) .pre .1 .0 .0 .high)
+mul-entry-of-2 c = omega (arith, c .loop-test .taken, entry (outer c) .pre .1 .0 .high)
 
 shared-slice-read-entry-of-2 : tie.Need-shared-slice-read-entry-of-2 Inv-loop μ-loop Inv-pairs μ-pairs
 shared-slice-read-entry-of-2 c =
     let s = entry (outer (c .before)) in
-    omega (arith, c .before .loop-test .taken, s .pre .1 .0 .0 .high, s .pre .0 .0 .long)
+    omega (arith, c .before .loop-test .taken, s .pre .1 .0 .high, s .pre .0 .0 .long)
 
 entry-of-requires-2 : tie.Need-entry-of-requires-2 Inv-loop μ-loop Inv-pairs μ-pairs
 entry-of-requires-2 c κs = (entry (outer (c .before)) .pre .0 .0 .tabled, second (c .before) .0, second (c .before) .1)
@@ -139,7 +139,7 @@ cast-r c = omega (arith, second-root (c .before))
 slice-read-is-before : tie.Need-slice-read-is-before Inv-loop μ-loop Inv-pairs μ-pairs
 slice-read-is-before c =
     let l = c .before .before .before .before in
-    omega (arith, second-root (c .before .before), row-kept (l .before), entry (outer l) .pre .1 .1)
+    omega (arith, second-root (c .before .before), row-kept (l .before), entry (outer l) .pre .1 .1 .1)
 
 is-before-requires : tie.Need-is-before-requires Inv-loop μ-loop Inv-pairs μ-pairs
 is-before-requires c κs =
@@ -152,7 +152,7 @@ is-before-requires c κs =
     )
 
 add-j-2 : tie.Need-add-j-2 Inv-loop μ-loop Inv-pairs μ-pairs
-add-j-2 c = let l = c .before .before .before .before .before .before in omega (arith, l .loop-test .taken, entry (outer l) .pre .1 .0 .0 .high)
+add-j-2 c = let l = c .before .before .before .before .before .before in omega (arith, l .loop-test .taken, entry (outer l) .pre .1 .0 .high)
 
 loop-less : tie.Need-loop-less Inv-loop μ-loop Inv-pairs μ-pairs
 loop-less c = omega (arith, c .before .before .before .before .before .before .loop-test .taken)
@@ -164,7 +164,7 @@ loop-again c =
     (w .0, facing-step (w .1) (l .loop-test .taken) (compared c))
 
 add-i : tie.Need-add-i Inv-loop μ-loop Inv-pairs μ-pairs
-add-i c = let t = turn (c .before) in omega (arith, t .pairs-test .taken, entry (t .before) .pre .1 .0 .0 .high)
+add-i c = let t = turn (c .before) in omega (arith, t .pairs-test .taken, entry (t .before) .pre .1 .0 .high)
 
 pairs-less : tie.Need-pairs-less Inv-loop μ-loop Inv-pairs μ-pairs
 pairs-less c = omega (arith, turn (c .before) .pairs-test .taken)
@@ -178,7 +178,7 @@ same-length c = c .before .pairs .inv .1
 returns : tie.Need-returns Inv-loop μ-loop Inv-pairs μ-pairs
 returns c =
     let s = entry (c .before) in
-    λ e. pairing-ends (c .before .pairs .inv .2) (s .pre .0 .0 .long) (s .pre .1 .0 .0 .high) (c .pairs-test .left)
+    λ e. pairing-ends (c .before .pairs .inv .2) (s .pre .0 .0 .long) (s .pre .1 .0 .high) (c .pairs-test .left)
 
 same-length-2 : tie.Need-same-length-2 Inv-loop μ-loop Inv-pairs μ-pairs
 same-length-2 c = row-kept (c .before .before .before .before .before .before .before)

@@ -6,6 +6,9 @@ use Rattle.certificate.proofs.CertificateParts.{alone-in-order}
 use Rattle.certificate.proofs.runs.run_in_order.Statement.{statement}
 use Rattle.certificate.proofs.runs.run_in_order.Tie as tie
 
+abbrev entry : tie.After-has-two-depths → tie.Start
+entry c = c .before .before .before .before .before .before .before .before .before
+
 sub-if1 : tie.Need-sub-if1
 sub-if1 c = search needs
 
@@ -32,7 +35,10 @@ returns-3 : tie.Need-returns-3
 returns-3 c = λ e. c .before .copies-in-order .ensures (c .if3 .taken)
 
 pairs-in-order-requires : tie.Need-pairs-in-order-requires
-pairs-in-order-requires c κs = search needs
+pairs-in-order-requires c κs =
+    let tested = c .before .before .before in
+    let s = entry tested in
+    (s .pre .0, (s .pre .1 .0 .0, (tested .has-two-depths .ensures, s .pre .1 .1 .1)))
 
 same-length : tie.Need-same-length
 same-length c = search needs
