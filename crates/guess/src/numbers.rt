@@ -1,4 +1,4 @@
-// Numbers as others: wider ones, places in an array, nodes.
+// A number as a wider one, as a place in an array, as a node of the graph.
 ghost use Prim.Native.Nat.{_<_};
 
 // A number as wide as the numbers that are compared.
