@@ -27,18 +27,18 @@ small c = let s = entry (c .before) in (omega (arith, c .loop-test .taken, s .pr
 
 -- what the first test leaves
 module _ (c : tie.Else1 Inv-loop μ-loop) where
-  abbrev at : tie.At-loop Inv-loop μ-loop
-  at = c .before .before .before .before
+  abbrev turn : tie.In-loop Inv-loop μ-loop
+  turn = c .before .before .before
 
   abbrev child : ℕ
-  child = getD (entry at .args .sorted .now) (at .loop .at) 0
+  child = getD (entry (turn .before) .args .sorted .now) (turn .before .loop .at) 0
 
-  is-there : ChildOf (entry at .args .arena .now) (entry at .args .parent) child
+  is-there : ChildOf (entry (turn .before) .args .arena .now) (entry (turn .before) .args .parent) child
   is-there = c .before .is-child .ensures (not-false _ (c .if1 .left))
 
-  placed : (child < 1024) × (child < length (entry at .args .places .now)) × (child < length (entry at .args .stops .now))
+  placed : (child < 1024) × (child < length (entry (turn .before) .args .places .now)) × (child < length (entry (turn .before) .args .stops .now))
   placed =
-      let s = entry at in (
+      let s = entry (turn .before) in (
         omega (arith, is-there, s .pre .0 .1 .reaches, s .pre .0 .1 .few),
         omega (arith, is-there, s .pre .0 .1 .reaches),
         omega (arith, is-there, s .pre .0 .2 .reaches),
@@ -104,14 +104,14 @@ wide-requires-3 : tie.Need-wide-requires-3 Inv-loop μ-loop
 wide-requires-3 c κs = search needs
 
 add-at : tie.Need-add-at Inv-loop μ-loop
-add-at c = omega (arith, small (c .before .before .before .before .before .before .before .before))
+add-at c = omega (arith, small (turn (c .before .before .before .before .before)))
 
 loop-less : tie.Need-loop-less Inv-loop μ-loop
-loop-less c = omega (arith, c .before .before .before .before .before .before .before .before .loop-test .taken)
+loop-less c = omega (arith, turn (c .before .before .before .before .before) .loop-test .taken)
 
 loop-again : tie.Need-loop-again Inv-loop μ-loop
 loop-again c =
-    let l = c .before .before .before .before .before .before .before .before in
+    let l = turn (c .before .before .before .before .before) in
     let s = entry (l .before) in
     rw (c .wide3 .ensures)
     (fitting-step (l .before .loop .inv) (s .pre .1 .0) (s .pre .1 .3) (l .loop-test .taken) (is-there (c .before .before .before .before .before))

@@ -22,10 +22,10 @@ is-less-requires c κs = search needs
 
 returns : tie.Need-returns
 returns c = λ e u p q.
-    let s = c .before .before .before .before .before .before .before .before in
-    let implied = c .before .before .before .before .before .before .by-having .ensures in
+    let having = c .before .before .before .before .before .before in
+    let s = having .before .before in
     origin-follows p q (s .args .places .now) (s .pre .2) (c .before .before .before .if1 .taken)
-    (said-less e (c .is-less .ensures) (c .before .or-else .ensures) implied (c .before .before .by-number .ensures))
+    (said-less e (c .is-less .ensures) (c .before .or-else .ensures) (having .by-having .ensures) (c .before .before .by-number .ensures))
 
 cast-wide : tie.Need-cast-wide
 cast-wide c = search needs
@@ -63,11 +63,12 @@ is-less-requires-2 c κs = search needs
 returns-2 : tie.Need-returns-2
 returns-2 c = λ e u p q.
     let w = c .before .before .before .before in
-    let s = w .before .before .before .before .before .before .before .before .before .before .before in
-    let implied = w .before .before .before .before .before .before .before .before .before .by-having .ensures in
-    let origins = read-smaller (w .before .before .before .wide .ensures) (w .wide2 .ensures) (c .before .before .before .by-number2 .ensures) in
+    let from = w .before .before .before in
+    let having = from .before .before .before .before .before .before in
+    let s = having .before .before in
+    let origins = read-smaller (from .wide .ensures) (w .wide2 .ensures) (c .before .before .before .by-number2 .ensures) in
     stack-follows p q (s .args .places .now) (s .pre .2)
-    (rw (c .before .before .if2 .taken) (said-less e (c .is-less2 .ensures) (c .before .or-else2 .ensures) implied origins))
+    (rw (c .before .before .if2 .taken) (said-less e (c .is-less2 .ensures) (c .before .or-else2 .ensures) (having .by-having .ensures) origins))
 
 is-less-requires-3 : tie.Need-is-less-requires-3
 is-less-requires-3 c κs = search needs

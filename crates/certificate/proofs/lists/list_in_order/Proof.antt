@@ -72,32 +72,32 @@ run-in-order-requires c κs =
 
 same-length-2 : tie.Need-same-length-2 Inv-loop μ-loop
 same-length-2 c =
-    let l = c .before .before .before .before .before .before .before .before .before .before in
-    c .before .before .before .run-in-order .kept .1 .1 .1 .1 .1 .1 .1 .0 ∙ l .loop .inv .0
+    let ran = c .before .before .before in
+    ran .run-in-order .kept .1 .1 .1 .1 .1 .1 .1 .0 ∙ ran .before .before .before .before .before .before .before .loop .inv .0
 
 returns-2 : tie.Need-returns-2 Inv-loop μ-loop
 returns-2 c = λ e. absurd (false≢true e)
 
 add-least : tie.Need-add-least Inv-loop μ-loop
 add-least c =
-    let first-entry = c .before .before .before .before .before .before .before .entry-of .ensures in
-    let l = c .before .before .before .before .before .before .before .before .before in
-    omega (arith, entry-rank first-entry, rank-low (entry (l .before) .pre .0 .0 .opened) _ (first l .1))
+    let read = c .before .before .before .before .before .before .before in
+    let l = read .before .before in
+    omega (arith, entry-rank (read .entry-of .ensures), rank-low (entry (l .before) .pre .0 .0 .opened) _ (first l .1))
 
 loop-less : tie.Need-loop-less Inv-loop μ-loop
 loop-less c = let run = c .before .before .before .before .before .run-end .ensures in omega (arith, run .longer, run .within)
 
 loop-again : tie.Need-loop-again Inv-loop μ-loop
 loop-again c =
-    let l = c .before .before .before .before .before .before .before .before .before .before in
+    let read = c .before .before .before .before .before .before .before in
+    let l = read .before .before .before in
     let s = entry l in
     let w = l .loop .inv in
-    let first-entry = c .before .before .before .before .before .before .before .entry-of .ensures in
     let higher = c .before .before .before .before .before .before .if1 .left in
     let run = c .before .before .before .before .before .run-end .ensures in
     let ordered = c .before .before .before .run-in-order in (
       ordered .kept .1 .1 .1 .1 .1 .1 .1 .0 ∙ w .0,
-      ranking-step (w .1) (s .pre .0 .0 .long) (s .pre .1 .0 .high) (entry-rank first-entry) (omega arith) run
+      ranking-step (w .1) (s .pre .0 .0 .long) (s .pre .1 .0 .high) (entry-rank (read .entry-of .ensures)) (omega arith) run
           (ordered .ensures (not-false _ (c .if2 .left))),
     )
 
