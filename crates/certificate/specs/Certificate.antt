@@ -88,6 +88,10 @@ OneRank bs sorted start end = (k : ℕ) → start ≤ k → k < end → viewIn b
 abbrev pub ByLines : List ℕ → List ℕ → List ℕ → Type 0
 ByLines bs places xs = Sorted (λ a b. isLess (siblingLines (viewIn bs) (byPlace (placeIn places)) a b)) xs
 
+-- true says so of the part from `start` to `end`
+abbrev pub PartInOrder : List ℕ → List ℕ → List ℕ → ℕ → ℕ → Bool → Type 0
+PartInOrder bs places sorted start end r = r ≡ true → ByLines bs places (slice start end sorted)
+
 -- the part from `start` to `end` begins with a run of one rank, up to r
 pub record RunEnd (bs sorted : List ℕ) (start end r : ℕ) : Type 0 where
   pub longer : start < r

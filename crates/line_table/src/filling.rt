@@ -105,7 +105,8 @@ fn skipped_depth(arena: &[u8], root: u32, n: u32, table: &[u16]) -> u32
 // D from node n, which is not replaced itself: up over class arcs with one depth below
 // introduction. `skipped` is where it stays at n.
 fn hierarchy_depth(arena: &[u8], root: u32, n: u32, table: &[u16], below: u32, skipped: u32) -> u32
-    requires { ⌜ Filling (now arena) (now table) root n 12 × (below ≡ depthBelowIntroduction (decode (now arena) .nodes) n) ⌝ }
+    requires { ⌜ Filling (now arena) (now table) root n 12 ⌝ }
+    requires { ⌜ below ≡ depthBelowIntroduction (decode (now arena) .nodes) n ⌝ }
     requires { ⌜ Cell (skippedDepth (viewIn (now arena)) n) skipped ⌝ }
     ensures { λ r. ⌜ Cell (hierarchyDepth (viewIn (now (arena .entry))) n) r ⌝ }
 {

@@ -2,7 +2,8 @@
 use crate::Entry;
 use model::Ordering;
 use model::Verdict;
-ghost use Rattle.model.specs.Strength.{sameOriginLines, localLine, sameRootLines, originLines, specializesLines, plainLines};
+ghost use Rattle.model.specs.Strength.{sameOriginLines, localLine, sameRootLines};
+ghost use Rattle.model.specs.Strength.{originLines, specializesLines, plainLines};
 ghost use Rattle.strength.proofs.VerdictNumbers.{bySibling};
 ghost use Rattle.line_table.specs.LineTable.{Always, NestedAtDepths, Orders, Weighs, WeighsBy};
 

@@ -55,7 +55,8 @@ fn start_record(stack: u32, layer: u32, prims: u16, path_length: usize) -> arena
 // Starts a graph in an arena that holds the empty one, and answers its number, 0. Refused 1, 2, 3
 // where there is a node 0, 5.
 pub fn init_root(arena: &mut [u8], stack: u32, layer: u32, path: &[u8]) -> NumberResult
-    ensures { λ r. ⌜ Wrote (onArena (initRoot stack layer (now (path .entry))) (now (arena .entry))) (now (arena .entry)) r (now (arena .exit)) ⌝ }
+    ensures { λ r. ⌜ Wrote (onArena (initRoot stack layer (now (path .entry))) (now (arena .entry)))
+        (now (arena .entry)) r (now (arena .exit)) ⌝ }
 {
     let asked = validate::ask_graph(arena);
     match asked {
@@ -81,7 +82,8 @@ pub fn init_root(arena: &mut [u8], stack: u32, layer: u32, path: &[u8]) -> Numbe
 
 // Adds the node as the last child of its parent and answers its number. Refused 1 to 7.
 pub fn add_child(arena: &mut [u8], desc: NodeDesc, path: &[u8]) -> NumberResult
-    ensures { λ r. ⌜ Wrote (onArena (addChild (descOf desc (now (path .entry)))) (now (arena .entry))) (now (arena .entry)) r (now (arena .exit)) ⌝ }
+    ensures { λ r. ⌜ Wrote (onArena (addChild (descOf desc (now (path .entry)))) (now (arena .entry)))
+        (now (arena .entry)) r (now (arena .exit)) ⌝ }
 {
     let asked = validate::ask_node_zero(arena);
     match asked {
@@ -115,7 +117,8 @@ pub fn node(arena: &[u8], n: u32) -> NodeRead
 // The path of node n, a part of the arena. Refused as `node` is, which has the refusal: then it is
 // no bytes.
 pub fn path(arena: &[u8], n: u32) -> &[u8]
-    ensures { λ r. ⌜ now r ≡ handed (askArena (now (arena .entry)) (readsNode (decode (now (arena .entry))) n)) (nodeAt (decode (now (arena .entry)) .nodes) n .path) ⌝ }
+    ensures { λ r. ⌜ now r ≡ handed (askArena (now (arena .entry)) (readsNode (decode (now (arena .entry))) n))
+        (nodeAt (decode (now (arena .entry)) .nodes) n .path) ⌝ }
 {
     let asked = validate::ask_node(arena, n);
     let UnitResult::Done = asked else {
@@ -126,7 +129,8 @@ pub fn path(arena: &[u8], n: u32) -> &[u8]
 
 // The parent's prim count less the node's depth, at least 0. Refused 1 to 4.
 pub fn depth_below_introduction(arena: &[u8], n: u32) -> NumberResult
-    ensures { λ r. ⌜ Answered (askArena (now (arena .entry)) (readsNode (decode (now (arena .entry))) n)) (depthBelowIntroduction (decode (now (arena .entry)) .nodes) n) r ⌝ }
+    ensures { λ r. ⌜ Answered (askArena (now (arena .entry)) (readsNode (decode (now (arena .entry))) n))
+        (depthBelowIntroduction (decode (now (arena .entry)) .nodes) n) r ⌝ }
 {
     let asked = validate::ask_node(arena, n);
     match asked {
@@ -138,7 +142,8 @@ pub fn depth_below_introduction(arena: &[u8], n: u32) -> NumberResult
 // The path of node n as it was at its introduction: the front part of its path. Refused as
 // `depth_below_introduction` is, which has the refusal: then it is no bytes.
 pub fn path_at_introduction(arena: &[u8], n: u32) -> &[u8]
-    ensures { λ r. ⌜ now r ≡ handed (askArena (now (arena .entry)) (readsNode (decode (now (arena .entry))) n)) (pathAtIntroduction (decode (now (arena .entry)) .nodes) n) ⌝ }
+    ensures { λ r. ⌜ now r ≡ handed (askArena (now (arena .entry)) (readsNode (decode (now (arena .entry))) n))
+        (pathAtIntroduction (decode (now (arena .entry)) .nodes) n) ⌝ }
 {
     let asked = validate::ask_node(arena, n);
     let UnitResult::Done = asked else {
@@ -257,7 +262,9 @@ fn lowest(arena: &[u8], count: u32, stack: u32, path: &[u8]) -> u32
 // The lowest node, neither INERT nor CULLED, that has that stack and path; 4,294,967,295 where none
 // does. Refused 1, 2, 3 and 5.
 pub fn node_using_site(arena: &[u8], stack: u32, path: &[u8]) -> NumberResult
-    ensures { λ r. ⌜ Answered (askArena (now (arena .entry)) (calls.usesSite (decode (now (arena .entry))) (now (path .entry)))) (nodeUsingSite stack (now (path .entry)) (decode (now (arena .entry)))) r ⌝ }
+    ensures { λ r. ⌜ Answered (askArena (now (arena .entry))
+        (calls.usesSite (decode (now (arena .entry))) (now (path .entry))))
+        (nodeUsingSite stack (now (path .entry)) (decode (now (arena .entry)))) r ⌝ }
 {
     let asked = validate::ask_node_zero(arena);
     match asked {

@@ -4,7 +4,8 @@ ghost use mathlib.Core.Path.{_≡_};
 ghost use mathlib.Core.Bool.{false};
 ghost use Prim.Native.Nat.{_<_, _≤_};
 ghost use lib.ListN.{length};
-ghost use Rattle.model.specs.Path.{openBrace, beforeLast, endsIn, nameStart, beforeName, parentLength, withoutSelections, introLength};
+ghost use Rattle.model.specs.Path.{openBrace, beforeLast, endsIn, nameStart, beforeName};
+ghost use Rattle.model.specs.Path.{parentLength, withoutSelections, introLength};
 
 // Whether the first `end` bytes end in `b`.
 pub fn ends_in(path: &[u8], end: usize, b: u8) -> bool
@@ -80,7 +81,8 @@ fn without_selections(path: &[u8], end: usize) -> usize
 
 // How much of the path its parent keeps.
 pub fn parent_length(path: &[u8]) -> usize
-    ensures { λ r. ⌜ (r ≡ parentLength (now (path .entry)) (length (now (path .entry)))) × (r ≤ length (now (path .entry))) ⌝ }
+    ensures { λ r. ⌜ r ≡ parentLength (now (path .entry)) (length (now (path .entry))) ⌝ }
+    ensures { λ r. ⌜ r ≤ length (now (path .entry)) ⌝ }
 {
     let end = path.len();
     if ends_in(path, end, b'}') {
@@ -94,7 +96,8 @@ pub fn parent_length(path: &[u8]) -> usize
 
 // How much of the path is left `depth` names up.
 pub fn intro_length(path: &[u8], depth: u16) -> usize
-    ensures { λ r. ⌜ (r ≡ introLength depth (now (path .entry)) (length (now (path .entry)))) × (r ≤ length (now (path .entry))) ⌝ }
+    ensures { λ r. ⌜ r ≡ introLength depth (now (path .entry)) (length (now (path .entry))) ⌝ }
+    ensures { λ r. ⌜ r ≤ length (now (path .entry)) ⌝ }
 {
     let mut end = path.len();
     let mut left = depth;

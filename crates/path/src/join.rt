@@ -26,8 +26,10 @@ pub fn joint(path: &[u8]) -> usize
 // Writes the path with the name appended, which starts at `at`. The slash is written where the name
 // may come over it.
 pub fn put_joined(path: &[u8], name: &[u8], at: usize, out: &mut [u8])
-    requires { ⌜ (at ≡ length (now path) + length (separator (now path))) × (0 < length (now name)) × (at + length (now name) ≤ length (now out)) ⌝ }
-    ensures { λ _. ⌜ now (out .exit) ≡ appendName (now (path .entry)) (now (name .entry)) ++ drop (at + length (now (name .entry))) (now (out .entry)) ⌝ }
+    requires { ⌜ (at ≡ length (now path) + length (separator (now path)))
+        × (0 < length (now name)) × (at + length (now name) ≤ length (now out)) ⌝ }
+    ensures { λ _. ⌜ now (out .exit) ≡ appendName (now (path .entry)) (now (name .entry))
+        ++ drop (at + length (now (name .entry))) (now (out .entry)) ⌝ }
 {
     big_endian::write_bytes(out, 0, path);
     out[path.len()] = b'/';

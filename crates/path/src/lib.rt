@@ -18,7 +18,8 @@ use model::Refusal;
 ghost use mathlib.Core.Path.{_≡_};
 ghost use Prim.Native.Nat.{_<_};
 ghost use Rattle.path.specs.Tables.{Tables};
-ghost use Rattle.model.specs.Path.{wellFormed, countPrims, parent, lastName, appendChildName, written, pathAtIntroDepth, samePath};
+ghost use Rattle.model.specs.Path.{wellFormed, countPrims, parent, lastName, appendChildName};
+ghost use Rattle.model.specs.Path.{written, pathAtIntroDepth, samePath};
 
 // How many names the path has, or that the bytes are no path.
 pub fn prim_count(path: &[u8]) -> PrimCount

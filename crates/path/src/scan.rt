@@ -7,7 +7,8 @@ ghost use mathlib.Core.Bool.{true, false};
 ghost use Prim.Native.Nat.{_+_, _<_, _≤_};
 ghost use lib.ListN.{length, drop};
 ghost use Rattle.model.specs.Path.{start, slash, name, between, isNameStart, isWordByte, isSelectionByte};
-ghost use Rattle.path.specs.PathReading.{Run, Stops, NameRead, SelectionRead, ElementRead, reading, standing, beginsName, standsAt, asName, asSelection};
+ghost use Rattle.path.specs.PathReading.{Run, Stops, NameRead, SelectionRead, ElementRead, reading};
+ghost use Rattle.path.specs.PathReading.{standing, beginsName, standsAt, asName, asSelection};
 
 // A part of a path: where it ends, or that it is malformed.
 pub enum Part {

@@ -16,14 +16,16 @@ ghost use Rattle.model.specs.Arena.{decode};
 ghost use Rattle.model.specs.ArenaCalls.{askArena, AnsweredOrder, AnsweredTest, Answered};
 ghost use Rattle.model.specs.Calls.{comparesNodes, comparesSiblings, readsNode};
 ghost use Rattle.model.specs.Hierarchy.{isAncestorOf, getPropagatedSpecializesNode};
-ghost use Rattle.model.specs.Strength.{view, viewOf, compareNodeStrength, compareSiblingNodeStrength, isPropagatedSpecializes};
+ghost use Rattle.model.specs.Strength.{view, viewOf, compareNodeStrength, compareSiblingNodeStrength};
+ghost use Rattle.model.specs.Strength.{isPropagatedSpecializes};
 ghost use Rattle.strength.specs.Comparisons.{Siblings};
 ghost use Rattle.strength.specs.Hierarchies.{HierarchyAnswered};
 
 // Which of two nodes is the stronger: Less where a is, Equal only for one node twice. Refused 1 to
 // 4.
 pub fn compare_node_strength(arena: &[u8], a: u32, b: u32) -> OrderingResult
-    ensures { λ r. ⌜ AnsweredOrder (askArena (now (arena .entry)) (comparesNodes (decode (now (arena .entry))) a b)) (compareNodeStrength (viewOf (decode (now (arena .entry)))) a b) r ⌝ }
+    ensures { λ r. ⌜ AnsweredOrder (askArena (now (arena .entry)) (comparesNodes (decode (now (arena .entry))) a b))
+        (compareNodeStrength (viewOf (decode (now (arena .entry)))) a b) r ⌝ }
 {
     let asked = validate::ask_nodes(arena, a, b);
     match asked {
@@ -49,7 +51,8 @@ fn compare_siblings(arena: &[u8], a: u32, b: u32) -> Ordering
 
 // Which of two siblings is the stronger. Refused 1 to 4 and 8.
 pub fn compare_sibling_node_strength(arena: &[u8], a: u32, b: u32) -> OrderingResult
-    ensures { λ r. ⌜ AnsweredOrder (askArena (now (arena .entry)) (comparesSiblings (decode (now (arena .entry))) a b)) (compareSiblingNodeStrength (viewOf (decode (now (arena .entry)))) a b) r ⌝ }
+    ensures { λ r. ⌜ AnsweredOrder (askArena (now (arena .entry)) (comparesSiblings (decode (now (arena .entry))) a b))
+        (compareSiblingNodeStrength (viewOf (decode (now (arena .entry)))) a b) r ⌝ }
 {
     let asked = validate::ask_siblings(arena, a, b);
     match asked {
@@ -60,7 +63,8 @@ pub fn compare_sibling_node_strength(arena: &[u8], a: u32, b: u32) -> OrderingRe
 
 // Whether x is met from y upward, y counted, before the local root and node 0. Refused 1 to 4.
 pub fn is_ancestor_of(arena: &[u8], x: u32, y: u32) -> BoolResult
-    ensures { λ r. ⌜ AnsweredTest (askArena (now (arena .entry)) (comparesNodes (decode (now (arena .entry))) x y)) (isAncestorOf (view (decode (now (arena .entry)) .nodes)) x y) r ⌝ }
+    ensures { λ r. ⌜ AnsweredTest (askArena (now (arena .entry)) (comparesNodes (decode (now (arena .entry))) x y))
+        (isAncestorOf (view (decode (now (arena .entry)) .nodes)) x y) r ⌝ }
 {
     let asked = validate::ask_nodes(arena, x, y);
     match asked {
@@ -74,7 +78,8 @@ pub fn is_ancestor_of(arena: &[u8], x: u32, y: u32) -> BoolResult
 
 // Whether two nodes have one site: the same stack and the same path. Refused 1 to 4.
 pub fn same_site(arena: &[u8], a: u32, b: u32) -> BoolResult
-    ensures { λ r. ⌜ AnsweredTest (askArena (now (arena .entry)) (comparesNodes (decode (now (arena .entry))) a b)) (view (decode (now (arena .entry)) .nodes) .sameSite a b) r ⌝ }
+    ensures { λ r. ⌜ AnsweredTest (askArena (now (arena .entry)) (comparesNodes (decode (now (arena .entry))) a b))
+        (view (decode (now (arena .entry)) .nodes) .sameSite a b) r ⌝ }
 {
     let asked = validate::ask_nodes(arena, a, b);
     match asked {
@@ -93,7 +98,8 @@ pub enum HierarchyRead {
 // Whether node n is a propagated specializes: arc Specialize, the local root as parent, and its
 // origin's site. Refused 1 to 4.
 pub fn is_propagated_specializes(arena: &[u8], n: u32) -> BoolResult
-    ensures { λ r. ⌜ AnsweredTest (askArena (now (arena .entry)) (readsNode (decode (now (arena .entry))) n)) (isPropagatedSpecializes (view (decode (now (arena .entry)) .nodes)) n) r ⌝ }
+    ensures { λ r. ⌜ AnsweredTest (askArena (now (arena .entry)) (readsNode (decode (now (arena .entry))) n))
+        (isPropagatedSpecializes (view (decode (now (arena .entry)) .nodes)) n) r ⌝ }
 {
     let asked = validate::ask_node(arena, n);
     match asked {
@@ -108,7 +114,8 @@ pub fn is_propagated_specializes(arena: &[u8], n: u32) -> BoolResult
 // The propagated specializes under the local root whose origin is node n; 4,294,967,295 where there
 // is none. Refused 1 to 4.
 pub fn get_propagated_specializes_node(arena: &[u8], n: u32) -> NumberResult
-    ensures { λ r. ⌜ Answered (askArena (now (arena .entry)) (readsNode (decode (now (arena .entry))) n)) (getPropagatedSpecializesNode (decode (now (arena .entry))) n) r ⌝ }
+    ensures { λ r. ⌜ Answered (askArena (now (arena .entry)) (readsNode (decode (now (arena .entry))) n))
+        (getPropagatedSpecializesNode (decode (now (arena .entry))) n) r ⌝ }
 {
     let asked = validate::ask_node(arena, n);
     match asked {

@@ -21,7 +21,8 @@ pub fn depth(arena: &[u8], n: u32) -> u32
 // "Smaller sibling number, then smaller node number."
 pub fn by_sibling(arena: &[u8], a: u32, b: u32) -> Ordering
     requires { ⌜ ValidNode (now arena) a × ValidNode (now arena) b ⌝ }
-    ensures { λ r. ⌜ r ≡ first (smaller (viewIn (now (arena .entry)) .sibling a) (viewIn (now (arena .entry)) .sibling b)) (smaller a b) ⌝ }
+    ensures { λ r. ⌜ r ≡ first
+        (smaller (viewIn (now (arena .entry)) .sibling a) (viewIn (now (arena .entry)) .sibling b)) (smaller a b) ⌝ }
 {
     let x = view::sibling(arena, a) as u32;
     let y = view::sibling(arena, b) as u32;

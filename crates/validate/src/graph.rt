@@ -13,7 +13,8 @@ ghost use lib.ListN.{length};
 ghost use Rattle.model.specs.Arena.{arenaBytes, countIn, recordLengthIn, localRootIn, stateValid, holdsGraph};
 ghost use Rattle.path.specs.Tables.{Tables};
 ghost use Rattle.arena.specs.Slot.{HasSlot, arcIn, parentIn};
-ghost use Rattle.validate.specs.Validate.{marksAt, rootWith, depthValid, numbersValid, recordValidAfter, recordsValid, entriesValid, orderValid};
+ghost use Rattle.validate.specs.Validate.{marksAt, rootWith, depthValid, numbersValid, recordValidAfter};
+ghost use Rattle.validate.specs.Validate.{recordsValid, entriesValid, orderValid};
 
 // Whether these marks, a byte each, may stand together over `count` nodes.
 fn state_allowed(count: u32, ordered: u8, finalized: u8, shallow: u8) -> bool
@@ -77,8 +78,10 @@ fn depth_valid(arena: &[u8], n: u32, parent: u32) -> bool
 // Whether the numbers of the node that comes next pass the questions on its links, its kind and the
 // room left.
 fn numbers_valid(arena: &[u8], before: Before, length: usize, arc: u8, parent: u32) -> bool
-    requires { ⌜ HasSlot (now arena) (before .count) × (length ≡ recordLengthIn (now arena) (before .count)) × (27 ≤ length) × (length ≤ 282) ⌝ }
-    requires { ⌜ (arc ≡ arcIn (now arena) (before .count)) × (parent ≡ parentIn (now arena) (before .count)) × (before .«path_bytes» ≤ 32768) ⌝ }
+    requires { ⌜ HasSlot (now arena) (before .count) × (length ≡ recordLengthIn (now arena) (before .count))
+        × (27 ≤ length) × (length ≤ 282) ⌝ }
+    requires { ⌜ (arc ≡ arcIn (now arena) (before .count)) × (parent ≡ parentIn (now arena) (before .count))
+        × (before .«path_bytes» ≤ 32768) ⌝ }
     ensures { λ r. ⌜ r ≡ numbersValid (now (arena .entry)) before ⌝ }
 {
     let n = before.count;
@@ -102,7 +105,8 @@ fn numbers_valid(arena: &[u8], before: Before, length: usize, arc: u8, parent: u
 // last: the loop over its bytes is quickest where little else is kept for later.
 fn record_valid(kinds: &[u8], pairs: &[u64], arena: &[u8], before: Before, length: usize) -> bool
     requires { ⌜ Tables (now kinds) (now pairs) ⌝ }
-    requires { ⌜ HasSlot (now arena) (before .count) × (length ≡ recordLengthIn (now arena) (before .count)) × (before .«path_bytes» ≤ 32768) ⌝ }
+    requires { ⌜ HasSlot (now arena) (before .count) × (length ≡ recordLengthIn (now arena) (before .count))
+        × (before .«path_bytes» ≤ 32768) ⌝ }
     ensures { λ r. ⌜ r ≡ recordValidAfter (now (arena .entry)) before ⌝ }
 {
     if length < 28 {

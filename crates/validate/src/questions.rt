@@ -43,7 +43,8 @@ pub fn count(arena: &[u8]) -> NumberResult
 
 // Questions 1 to 3: whether the graph has a node.
 pub fn ask_node_zero(arena: &[u8]) -> UnitResult
-    ensures { λ r. ⌜ unitRefusal r ≡ refusal (askArena (now (arena .entry)) (hasNodeZero (decode (now (arena .entry))) ∷ [])) ⌝ }
+    ensures { λ r. ⌜ unitRefusal r
+        ≡ refusal (askArena (now (arena .entry)) (hasNodeZero (decode (now (arena .entry))) ∷ [])) ⌝ }
 {
     let asked = ask_graph(arena);
     match asked {
@@ -70,7 +71,8 @@ fn ask_number(arena: &[u8], n: u32) -> UnitResult
 
 // Questions 1 to 4: whether node n can be read.
 pub fn ask_node(arena: &[u8], n: u32) -> UnitResult
-    ensures { λ r. ⌜ unitRefusal r ≡ refusal (askArena (now (arena .entry)) (readsNode (decode (now (arena .entry))) n)) ⌝ }
+    ensures { λ r. ⌜ unitRefusal r
+        ≡ refusal (askArena (now (arena .entry)) (readsNode (decode (now (arena .entry))) n)) ⌝ }
 {
     let asked = ask_node_zero(arena);
     match asked {
@@ -81,7 +83,8 @@ pub fn ask_node(arena: &[u8], n: u32) -> UnitResult
 
 // Questions 1 to 4 of two nodes. The arena is checked once.
 pub fn ask_nodes(arena: &[u8], a: u32, b: u32) -> UnitResult
-    ensures { λ r. ⌜ unitRefusal r ≡ refusal (askArena (now (arena .entry)) (comparesNodes (decode (now (arena .entry))) a b)) ⌝ }
+    ensures { λ r. ⌜ unitRefusal r
+        ≡ refusal (askArena (now (arena .entry)) (comparesNodes (decode (now (arena .entry))) a b)) ⌝ }
 {
     let asked = ask_node(arena, a);
     match asked {
@@ -93,7 +96,9 @@ pub fn ask_nodes(arena: &[u8], a: u32, b: u32) -> UnitResult
 // Question 8: one parent. A node with itself passes.
 fn ask_parents(arena: &[u8], a: u32, b: u32) -> UnitResult
     requires { ⌜ ValidNode (now arena) a × ValidNode (now arena) b ⌝ }
-    ensures { λ r. ⌜ unitRefusal r ≡ refusal (ask 8 (eqb a b || eqb (nodeAt (decode (now (arena .entry)) .nodes) a .parent) (nodeAt (decode (now (arena .entry)) .nodes) b .parent)) ∷ []) ⌝ }
+    ensures { λ r. ⌜ unitRefusal r ≡ refusal (ask 8 (eqb a b
+        || eqb (nodeAt (decode (now (arena .entry)) .nodes) a .parent)
+        (nodeAt (decode (now (arena .entry)) .nodes) b .parent)) ∷ []) ⌝ }
 {
     if a == b {
         return UnitResult::Done;
@@ -106,7 +111,8 @@ fn ask_parents(arena: &[u8], a: u32, b: u32) -> UnitResult
 
 // Questions 1 to 4 of two nodes, and 8.
 pub fn ask_siblings(arena: &[u8], a: u32, b: u32) -> UnitResult
-    ensures { λ r. ⌜ unitRefusal r ≡ refusal (askArena (now (arena .entry)) (comparesSiblings (decode (now (arena .entry))) a b)) ⌝ }
+    ensures { λ r. ⌜ unitRefusal r
+        ≡ refusal (askArena (now (arena .entry)) (comparesSiblings (decode (now (arena .entry))) a b)) ⌝ }
 {
     let asked = ask_nodes(arena, a, b);
     match asked {

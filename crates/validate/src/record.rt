@@ -9,7 +9,8 @@ ghost use mathlib.Core.Path.{_≡_};
 ghost use Prim.Native.Nat.{_≤_};
 ghost use Rattle.model.specs.Path.{countPrims};
 ghost use Rattle.model.specs.Node.{hasFlag, inertFlag, culledFlag};
-ghost use Rattle.validate.specs.RecordCheck.{rootAt, linksAt, rootKindAt, kindAt, roomAt, questionsAt, RecordChecked};
+ghost use Rattle.validate.specs.RecordCheck.{rootAt, linksAt, rootKindAt, kindAt};
+ghost use Rattle.validate.specs.RecordCheck.{roomAt, questionsAt, RecordChecked};
 
 // The numbers of a record that its questions read.
 pub struct RecordNumbers {

@@ -2,7 +2,8 @@
 ghost use mathlib.Core.Path.{_≡_};
 ghost use Prim.Native.Nat.{_<_};
 ghost use Rattle.model.specs.ArenaCalls.{ValidNode};
-ghost use Rattle.model.specs.Strength.{isAuthored, isImplied, isClassBasedArc, isPropagatedSpecializes, outward, replaced};
+ghost use Rattle.model.specs.Strength.{isAuthored, isImplied, isClassBasedArc, isPropagatedSpecializes};
+ghost use Rattle.model.specs.Strength.{outward, replaced};
 ghost use Rattle.view.specs.View.{viewIn, ValidNodeAndRoot};
 
 // Whether a node with this arc is a class's instance: Inherit or Specialize.

@@ -44,14 +44,14 @@ within c = c .before .is-part .ensures (not-false _ (c .if1 .left))
 
 -- and whose branches fit
 module _ (c : tie.Else2 Inv-loop μ-loop) where
-  abbrev at : tie.At-loop Inv-loop μ-loop
-  at = c .before .before .before .before .before .before
+  abbrev turn : tie.In-loop Inv-loop μ-loop
+  turn = c .before .before .before .before .before
 
   abbrev given : tie.Start Inv-loop μ-loop
-  given = entry at
+  given = entry (turn .before)
 
-  fitting : FitsIn (given .args .arena .now) (given .args .sorted .now) (given .args .places .now) (given .args .stops .now) (at .loop .parent)
-      (at .loop .start) (end at)
+  fitting : FitsIn (given .args .arena .now) (given .args .sorted .now) (given .args .places .now) (given .args .stops .now) (turn .before .loop .parent)
+      (turn .before .loop .start) (end (turn .before))
   fitting = c .before .branches-fit .ensures (not-false _ (c .if2 .left))
 
 loop-holds : tie.Need-loop-holds Inv-loop μ-loop
@@ -98,21 +98,21 @@ list-in-order-requires c κs =
 
 same-length-3 : tie.Need-same-length-3 Inv-loop μ-loop
 same-length-3 c =
-    let l = c .before .before .before .before .before .before .before .before .before .before .before in
+    let l = turn (c .before .before .before .before .before) .before in
     c .before .before .before .list-in-order .kept .1 .1 .1 .1 .1 .1 .1 .0 ∙ l .loop .inv .0
 
 returns-3 : tie.Need-returns-3 Inv-loop μ-loop
 returns-3 c = λ e. absurd (false≢true e)
 
 add-parent : tie.Need-add-parent Inv-loop μ-loop
-add-parent c = omega (arith, below (c .before .before .before .before .before .before .before .before .before .before))
+add-parent c = omega (arith, below (turn (c .before .before .before .before .before)))
 
 loop-less : tie.Need-loop-less Inv-loop μ-loop
-loop-less c = omega (arith, c .before .before .before .before .before .before .before .before .before .before .loop-test .taken)
+loop-less c = omega (arith, turn (c .before .before .before .before .before) .loop-test .taken)
 
 loop-again : tie.Need-loop-again Inv-loop μ-loop
 loop-again c =
-    let l = c .before .before .before .before .before .before .before .before .before .before in
+    let l = turn (c .before .before .before .before .before) in
     let w = l .before .loop .inv in
     let ordered = c .before .before .before .list-in-order in (
       ordered .kept .1 .1 .1 .1 .1 .1 .1 .0 ∙ w .0,

@@ -53,22 +53,23 @@ cell-requires-11 c κs = search needs
 
 returns : tie.Need-returns
 unfolding nodeRow
-returns c = (
-  refl,
-  record {
-    rank = c .before .before .before .before .before .before .before .before .before .before .cell .ensures .same ∙ at (start c) 3 (omega arith);
-    depth = c .before .before .before .before .before .before .before .before .before .cell2 .ensures .same ∙ at (start c) 1 (omega arith);
-    sibling = c .before .before .before .before .before .before .before .before .cell3 .ensures .same ∙ at (start c) 2 (omega arith);
-    origin = c .before .before .before .before .before .before .before .cell4 .ensures .same ∙ at (start c) 0 (omega arith);
-    special = told _ (c .before .before .before .before .before .before .cell5 .ensures .same ∙ at (start c) 4 (omega arith));
-    authored = told _ (c .before .before .before .before .before .cell6 .ensures .same ∙ at (start c) 5 (omega arith));
-    implied = told _ (c .before .before .before .before .cell7 .ensures .same ∙ at (start c) 7 (omega arith));
-    local = told _ (c .before .before .before .cell8 .ensures .same ∙ at (start c) 6 (omega arith));
-    root = c .before .before .cell9 .ensures .same ∙ at (start c) 10 (omega arith);
-    hops = c .before .cell10 .ensures .same ∙ at (start c) 11 (omega arith);
-    class-depth = c .cell11 .ensures .same ∙ at (start c) 15 (omega arith);
-  },
-)
+returns c =
+    let sixth = c .before .before .before .before .before in (
+      refl,
+      record {
+        rank = sixth .before .before .before .before .before .cell .ensures .same ∙ at (start c) 3 (omega arith);
+        depth = sixth .before .before .before .before .cell2 .ensures .same ∙ at (start c) 1 (omega arith);
+        sibling = sixth .before .before .before .cell3 .ensures .same ∙ at (start c) 2 (omega arith);
+        origin = sixth .before .before .cell4 .ensures .same ∙ at (start c) 0 (omega arith);
+        special = told _ (sixth .before .cell5 .ensures .same ∙ at (start c) 4 (omega arith));
+        authored = told _ (sixth .cell6 .ensures .same ∙ at (start c) 5 (omega arith));
+        implied = told _ (c .before .before .before .before .cell7 .ensures .same ∙ at (start c) 7 (omega arith));
+        local = told _ (c .before .before .before .cell8 .ensures .same ∙ at (start c) 6 (omega arith));
+        root = c .before .before .cell9 .ensures .same ∙ at (start c) 10 (omega arith);
+        hops = c .before .cell10 .ensures .same ∙ at (start c) 11 (omega arith);
+        class-depth = c .cell11 .ensures .same ∙ at (start c) 15 (omega arith);
+      },
+    )
 
 pub entry-of-spec : {M : Type 1} → statement M
 entry-of-spec =

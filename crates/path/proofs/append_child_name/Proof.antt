@@ -15,15 +15,18 @@ use Rattle.model.specs.declared.Appended.the-variants.{Length}
 use Rattle.path.proofs.append_child_name.Statement.{statement}
 use Rattle.path.proofs.append_child_name.Tie as tie
 
+abbrev entry : tie.After-joint → tie.Start
+entry c = c .before .before .before .before .before .before .before .before
+
 -- past the second test the two can be joined
 joins : (c : tie.Else2) → joinable (c .before .before .before .before .before .before .args .path .now) (c .before .before .before .before .before .before .args .child .now) ≡ true
 joins c = sym (c .before .can-join .ensures) ∙ not-false _ (c .if2 .left)
 
 -- the new path's length
 ends : (c : tie.After-joint)
-    → c .joint .result + length (c .before .last-name .result .now) ≡ length (appendName (c .before .before .before .before .before .before .before .before .args .path .now) (lastName (c .before .before .before .before .before .before .before .before .args .child .now)))
+    → c .joint .result + length (c .before .last-name .result .now) ≡ length (appendName (entry c .args .path .now) (lastName (entry c .args .child .now)))
 ends c =
-    let s = c .before .before .before .before .before .before .before .before .args in
+    let s = entry c .args in
     omega (arith, c .joint .ensures, ap length (c .before .last-name .ensures), length-append-name (s .path .now) (lastName (s .child .now)))
 
 returns : tie.Need-returns
@@ -42,15 +45,16 @@ joint-requires : tie.Need-joint-requires
 joint-requires c κs = search needs
 
 add-end : tie.Need-add-end
-add-end c = omega (arith, ends c, joinable-short (c .before .before .before .before .before .before .before .before .args .path .now) (c .before .before .before .before .before .before .before .before .args .child .now) (joins (c .before .before)))
+add-end c = omega (arith, ends c, joinable-short (entry c .args .path .now) (entry c .args .child .now) (joins (c .before .before)))
 
 returns-3 : tie.Need-returns-3
 returns-3 c =
-    (refused-capacity (c .before .before .before .before .before .before .before .before .before .args .path .now) (c .before .before .before .before .before .before .before .before .before .args .child .now) (c .before .before .before .before .before .before .before .before .before .args .out .now) (c .before .before .before .before .before .if1 .left) (joins (c .before .before .before)) (omega (arith, ends (c .before))), refl)
+    let s = entry (c .before) .args in
+    (refused-capacity (s .path .now) (s .child .now) (s .out .now) (c .before .before .before .before .before .if1 .left) (joins (c .before .before .before)) (omega (arith, ends (c .before))), refl)
 
 put-joined-requires : tie.Need-put-joined-requires
 put-joined-requires c κs =
-    let s = c .before .before .before .before .before .before .before .before .before .before .args in (
+    let s = entry (c .before .before) .args in (
       c .before .before .joint .ensures,
       rw (c .before .before .before .last-name .ensures) (joinable-named (s .path .now) (s .child .now) (joins (c .before .before .before .before))),
       omega (arith, c .before .if3 .left, c .before .before .before .before .before .before .if1 .left),
@@ -61,12 +65,13 @@ same-length c = search needs
 
 returns-4 : tie.Need-returns-4
 returns-4 c =
-    let s = c .before .before .before .before .before .before .before .before .before .before .before .before .before .args in (
-      ap Length (ends (c .before .before .before .before .before))
-          ∙ accepted (s .path .now) (s .child .now) (s .out .now) (c .before .before .before .before .before .before .before .before .before .if1 .left) (joins (c .before .before .before .before .before .before .before)) (omega (arith, ends (c .before .before .before .before .before), c .before .before .before .before .if3 .left)),
+    let joined = c .before .before .before .before .before in
+    let s = entry joined .args in (
+      ap Length (ends joined)
+          ∙ accepted (s .path .now) (s .child .now) (s .out .now) (joined .before .before .before .before .if1 .left) (joins (joined .before .before)) (omega (arith, ends joined, c .before .before .before .before .if3 .left)),
       c .before .before .put-joined .ensures
-          ∙ ap (λ (l : List ℕ). appendName (s .path .now) l ++ drop (c .before .before .before .before .before .joint .result + length (c .before .before .before .before .before .before .last-name .result .now)) (s .out .now))
-          (c .before .before .before .before .before .before .last-name .ensures),
+          ∙ ap (λ (l : List ℕ). appendName (s .path .now) l ++ drop (joined .joint .result + length (joined .before .last-name .result .now)) (s .out .now))
+          (joined .before .last-name .ensures),
     )
 
 pub append-child-name-spec : {M : Type 1} → statement M

@@ -14,6 +14,9 @@ Inv-loop arena root count table₀ n₀ table n = Tabling arena count n table₀
 abbrev μ-loop : tie.MeasureT-loop
 μ-loop arena root count table₀ n₀ table n = count - n
 
+abbrev entry : tie.At-loop Inv-loop μ-loop → tie.Start Inv-loop μ-loop
+entry c = c .before .before .before .before .before .before .before .before
+
 returns : tie.Need-returns Inv-loop μ-loop
 returns c = none-filled _ _ (sym (c .before .before .before .pre .0 .2) ∙ c .if1 .taken)
 
@@ -27,7 +30,7 @@ loop-holds c = tabling-start (positive _ (c .before .before .before .before .if1
 
 fill-row-requires : tie.Need-fill-row-requires Inv-loop μ-loop
 fill-row-requires c κs =
-    let given = c .before .before .before .before .before .before .before .before .before .before .pre in
+    let given = entry (c .before .before) .pre in
     tabling-row (given .0 .2) (c .before .before .loop .inv) (given .0 .0) (given .0 .1) (c .before .loop-test .taken)
 
 add-n : tie.Need-add-n Inv-loop μ-loop
@@ -38,14 +41,14 @@ loop-less c = omega (arith, c .before .before .before .before .loop-test .taken)
 
 loop-again : tie.Need-loop-again Inv-loop μ-loop
 loop-again c =
-    tabling-step (c .before .before .before .before .before .before .before .before .before .before .before .before .before .pre .0 .2) (c .before .before .before .before .before .loop .inv) (c .before .before .before .before .loop-test .taken)
+    tabling-step (entry (c .before .before .before .before .before) .pre .0 .2) (c .before .before .before .before .before .loop .inv) (c .before .before .before .before .loop-test .taken)
     (c .before .before .fill-row .ensures) (c .before .before .fill-row .kept .1 .1 .1 .0)
 
 same-length : tie.Need-same-length Inv-loop μ-loop
 same-length c = c .before .loop .inv .same-length ∙ c .before .before .before .before .fill-root .kept .1 .0
 
 returns-2 : tie.Need-returns-2 Inv-loop μ-loop
-returns-2 c = tabling-end (c .before .before .before .before .before .before .before .before .before .pre .0 .2) (c .before .loop .inv) (omega arith)
+returns-2 c = tabling-end (entry (c .before) .pre .0 .2) (c .before .loop .inv) (omega arith)
 
 pub fill-spec : {M : Type 1} → statement M
 fill-spec =

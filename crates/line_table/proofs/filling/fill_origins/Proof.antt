@@ -21,8 +21,9 @@ put-requires c κs =
 put-requires-2 : tie.Need-put-requires-2
 unfolding nodeRow
 put-requires-2 c κs =
-    let given = c .before .before .before .before .before .before .before .before .before .before .pre in
-    let authored = bit-set _ (authored-read given (omega arith) (c .before .before .before .before .before .before .cell .ensures)) (c .before .before .before .before .before .if1 .taken) in
+    let read = c .before .before .before .before .before .before in
+    let given = read .before .before .before .before .pre in
+    let authored = bit-set _ (authored-read given (omega arith) (read .cell .ensures)) (c .before .before .before .before .before .if1 .taken) in
     next given 11 (omega arith) (c .before .before .before .put .ensures) (authored-hops given authored)
 
 cell-requires-2 : tie.Need-cell-requires-2
@@ -35,16 +36,18 @@ cell-requires-3 c κs =
 
 cell-requires-4 : tie.Need-cell-requires-4
 cell-requires-4 c κs =
-    let given = c .before .before .before .before .before .before .before .before .before .before .pre in
-    cell-within given _ 11 (omega (arith, origin-read given (omega arith) (c .before .before .before .cell2 .ensures), origin-lower given)) (omega arith)
+    let origin = c .before .before .before in
+    let given = origin .before .before .before .before .before .before .before .pre in
+    cell-within given _ 11 (omega (arith, origin-read given (omega arith) (origin .cell2 .ensures), origin-lower given)) (omega arith)
 
 put-requires-3 : tie.Need-put-requires-3
 unfolding nodeRow
 put-requires-3 c κs =
-    let given = c .before .before .before .before .before .before .before .before .before .before .before .before .pre in
-    let authored = bit-clear _ (authored-read given (omega arith) (c .before .before .before .before .before .before .before .before .cell .ensures)) (c .before .before .before .before .before .before .before .if1 .left) in
+    let origin = c .before .before .before .before .before in
+    let given = origin .before .before .before .before .before .before .before .pre in
+    let authored = bit-clear _ (authored-read given (omega arith) (origin .before .before .before .cell .ensures)) (origin .before .before .if1 .left) in
     next given 10 (omega arith) (given .filled)
-    (root-from-origin given authored (origin-read given (omega arith) (c .before .before .before .before .before .cell2 .ensures)) (c .before .before .before .cell3 .ensures))
+    (root-from-origin given authored (origin-read given (omega arith) (origin .cell2 .ensures)) (c .before .before .before .cell3 .ensures))
 
 add-put : tie.Need-add-put
 add-put c = search needs
@@ -52,10 +55,12 @@ add-put c = search needs
 put-requires-4 : tie.Need-put-requires-4
 unfolding nodeRow
 put-requires-4 c κs =
-    let given = c .before .before .before .before .before .before .before .before .before .before .before .before .before .before .before .before .pre in
-    let authored = bit-clear _ (authored-read given (omega arith) (c .before .before .before .before .before .before .before .before .before .before .before .before .cell .ensures)) (c .before .before .before .before .before .before .before .before .before .before .before .if1 .left) in
+    let hops = c .before .before .before .before .before in
+    let origin = hops .before .before .before .before in
+    let given = origin .before .before .before .before .before .before .before .pre in
+    let authored = bit-clear _ (authored-read given (omega arith) (origin .before .before .before .cell .ensures)) (origin .before .before .if1 .left) in
     next given 11 (omega arith) (c .before .before .before .put3 .ensures)
-    (hops-from-origin given authored (origin-read given (omega arith) (c .before .before .before .before .before .before .before .before .before .cell2 .ensures)) (c .before .before .before .before .before .cell4 .ensures))
+    (hops-from-origin given authored (origin-read given (omega arith) (origin .cell2 .ensures)) (hops .cell4 .ensures))
 
 same-length : tie.Need-same-length
 same-length c = search needs

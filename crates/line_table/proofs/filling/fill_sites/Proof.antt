@@ -26,18 +26,21 @@ put-requires c κs =
 put-requires-2 : tie.Need-put-requires-2
 unfolding nodeRow
 put-requires-2 c κs =
-    let given = c .before .before .before .before .before .before .before .before .before .before .before .pre in
-    let told = sym (c .before .before .before .before .before .before .before .before .is-propagated-specializes .ensures) ∙ c .before .before .before .before .before .before .before .if1 .taken in
-    let origin = c .before .before .before .before .before .cell .ensures in
+    let read = c .before .before .before .before .before in
+    let given = read .before .before .before .before .before .before .pre in
+    let told = sym (read .before .before .before .is-propagated-specializes .ensures) ∙ read .before .before .if1 .taken in
+    let origin = read .cell .ensures in
     next given 8 (omega arith) (c .before .before .before .put .ensures) (record { same = origin-read given (omega arith) origin ∙ sym (propagated-replaced _ _ told); fits = origin .fits })
 
 put-requires-3 : tie.Need-put-requires-3
 unfolding nodeRow
 put-requires-3 c κs =
-    let given = c .before .before .before .before .before .before .before .before .before .before .before .before .before .before .before .pre in
-    let told = sym (c .before .before .before .before .before .before .before .before .before .before .before .before .is-propagated-specializes .ensures) ∙ c .before .before .before .before .before .before .before .before .before .before .before .if1 .taken in
-    let origin = c .before .before .before .before .before .before .before .before .before .cell .ensures in
-    next given 9 (omega arith) (c .before .before .before .put2 .ensures) (record { same = origin-read given (omega arith) origin ∙ sym (propagated-outward _ _ told); fits = origin .fits })
+    let put = c .before .before .before in
+    let read = put .before .before .before .before .before .before in
+    let given = read .before .before .before .before .before .before .pre in
+    let told = sym (read .before .before .before .is-propagated-specializes .ensures) ∙ read .before .before .if1 .taken in
+    let origin = read .cell .ensures in
+    next given 9 (omega arith) (put .put2 .ensures) (record { same = origin-read given (omega arith) origin ∙ sym (propagated-outward _ _ told); fits = origin .fits })
 
 is-implied-requires : tie.Need-is-implied-requires
 is-implied-requires c κs = search needs
@@ -54,8 +57,9 @@ put-requires-4 c κs =
 put-requires-5 : tie.Need-put-requires-5
 unfolding nodeRow
 put-requires-5 c κs =
-    let given = c .before .before .before .before .before .before .before .before .before .before .before .pre in
-    let told = sym (c .before .before .before .before .before .before .before .before .is-propagated-specializes .ensures) ∙ c .before .before .before .before .before .before .before .if1 .left in
+    let other = c .before .before .before .before .before .before .before in
+    let given = other .before .before .before .before .pre in
+    let told = sym (other .before .is-propagated-specializes .ensures) ∙ other .if1 .left in
     next given 8 (omega arith) (c .before .before .before .put4 .ensures) (record { same = sym (other-replaced _ _ told); fits = omega (arith, small (given .standing .readable)) })
 
 parent-requires : tie.Need-parent-requires
@@ -64,9 +68,11 @@ parent-requires c κs = search needs
 put-requires-6 : tie.Need-put-requires-6
 unfolding nodeRow
 put-requires-6 c κs =
-    let given = c .before .before .before .before .before .before .before .before .before .before .before .before .before .before .before .before .pre in
-    let told = sym (c .before .before .before .before .before .before .before .before .before .before .before .before .before .is-propagated-specializes .ensures) ∙ c .before .before .before .before .before .before .before .before .before .before .before .before .if1 .left in
-    next given 9 (omega arith) (c .before .before .before .before .put5 .ensures)
+    let put = c .before .before .before .before in
+    let other = put .before .before .before .before .before .before .before .before in
+    let given = other .before .before .before .before .pre in
+    let told = sym (other .before .is-propagated-specializes .ensures) ∙ other .if1 .left in
+    next given 9 (omega arith) (put .put5 .ensures)
     (record {
       same = c .parent .ensures ∙ sym (other-outward _ _ told);
       fits = omega (arith, c .parent .ensures, parent-lower given, small (given .standing .readable));

@@ -12,6 +12,9 @@ use Rattle.arena.proofs.ReadNodes.{has-slot, has-path, fields-read}
 use Rattle.nodes.proofs.calls.uses.Statement.{statement}
 use Rattle.nodes.proofs.calls.uses.Tie as tie
 
+abbrev entry : tie.Else1 → tie.Start
+entry c = c .before .before .before .before .before
+
 -- the flags that are read are the node's
 skips : (c : tie.After-contributes)
     → not (isInert (nodeIn (c .before .before .before .before .args .arena .now) (c .before .before .before .before .args .n)) || isCulled (nodeIn (c .before .before .before .before .args .arena .now) (c .before .before .before .before .args .n)))
@@ -30,26 +33,26 @@ returns : tie.Need-returns
 returns c = rw (skips (c .before) ∙ not-true _ (c .if1 .taken))
 
 stack-requires : tie.Need-stack-requires
-stack-requires c κs = has-slot _ _ (c .before .before .before .before .before .pre)
+stack-requires c κs = has-slot _ _ (entry c .pre)
 
 returns-2 : tie.Need-returns-2
 returns-2 c =
-    let a = c .before .before .before .before .before .before .before .args in
+    let a = entry (c .before .before) .args in
     rw (
       skips (c .before .before .before) ∙ not-false _ (c .before .before .if1 .left),
-      ne-eqb (nodeIn (a .arena .now) (a .n) .stack) (a .stack) (λ e. c .if2 .taken (c .before .stack .ensures ∙ sym (fields-read _ _ (c .before .before .before .before .before .before .before .pre) .stack) ∙ e)),
+      ne-eqb (nodeIn (a .arena .now) (a .n) .stack) (a .stack) (λ e. c .if2 .taken (c .before .stack .ensures ∙ sym (fields-read _ _ (entry (c .before .before) .pre) .stack) ∙ e)),
     )
 
 path-requires : tie.Need-path-requires
-path-requires c κs = has-path _ _ (c .before .before .before .before .before .before .before .pre)
+path-requires c κs = has-path _ _ (entry (c .before .before) .pre)
 
 same-path-requires : tie.Need-same-path-requires
 same-path-requires c κs = search needs
 
 returns-3 : tie.Need-returns-3
 returns-3 c =
-    let a = c .before .before .before .before .before .before .before .before .before .args in
-    let stack = fields-read _ _ (c .before .before .before .before .before .before .before .before .before .pre) .stack ∙ sym (c .before .before .before .stack .ensures) ∙ c .before .before .if2 .left in
+    let a = entry (c .before .before .before .before) .args in
+    let stack = fields-read _ _ (entry (c .before .before .before .before) .pre) .stack ∙ sym (c .before .before .before .stack .ensures) ∙ c .before .before .if2 .left in
     rw (skips (c .before .before .before .before .before) ∙ not-false _ (c .before .before .before .before .if1 .left), eq-eqb (nodeIn (a .arena .now) (a .n) .stack) (a .stack) stack)
     (c .same-path .ensures ∙ ap (λ (p : List ℕ). samePath p (a .path .now)) (c .before .path .ensures))
 

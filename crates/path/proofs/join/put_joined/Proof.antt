@@ -13,6 +13,9 @@ use Rattle.model.specs.Path.{solidus}
 use Rattle.path.proofs.join.put_joined.Statement.{statement}
 use Rattle.path.proofs.join.put_joined.Tie as tie
 
+abbrev entry : tie.After-write-bytes-arg2 → tie.Start
+entry c = c .before .before .before .before .before .before .before .before
+
 write-bytes-requires : tie.Need-write-bytes-requires
 write-bytes-requires c κs = search needs
 
@@ -20,17 +23,17 @@ slice-write-out : tie.Need-slice-write-out
 slice-write-out c = search needs
 
 write-bytes-requires-2 : tie.Need-write-bytes-requires-2
-write-bytes-requires-2 c κs = simp length-set (omega (arith, c .before .before .before .write-bytes .kept, c .before .before .before .before .before .before .before .before .pre))
+write-bytes-requires-2 c κs = simp length-set (omega (arith, c .before .before .before .write-bytes .kept, entry c .pre))
 
 same-length : tie.Need-same-length
 same-length c =
-    c .before .before .write-bytes2 .kept .0 ∙ length-set (c .before .before .before .before .before .before .write-bytes .last .0) (length (c .before .before .before .before .before .before .before .before .before .before .before .args .path .now)) solidus
+    c .before .before .write-bytes2 .kept .0 ∙ length-set (c .before .before .before .before .before .before .write-bytes .last .0) (length (entry (c .before .before .before) .args .path .now)) solidus
     ∙ c .before .before .before .before .before .before .write-bytes .kept .0
 
 returns : tie.Need-returns
 unfolding stored
 returns c =
-    let s = c .before .before .before .before .before .before .before .before .before .before .before in
+    let s = entry (c .before .before .before) in
     let path = s .args .path .now in
     let name = s .args .name .now in
     let at = s .args .at in
@@ -41,5 +44,4 @@ returns c =
     ∙ put-name path name out at (s .pre .0) (s .pre .1) (s .pre .2)
 
 pub put-joined-spec : {M : Type 1} → statement M
-put-joined-spec =
-    tie.close (tie.spec write-bytes-requires slice-write-out write-bytes-requires-2 same-length returns)
+put-joined-spec = tie.close (tie.spec write-bytes-requires slice-write-out write-bytes-requires-2 same-length returns)

@@ -11,13 +11,15 @@ use Rattle.path.proofs.ReadingLaws.{begins-within, stands-within, no-se
 use Rattle.path.proofs.scan.read_selection.Statement.{statement}
 use Rattle.path.proofs.scan.read_selection.Tie as tie
 
+abbrev entry : tie.Else2 → tie.Start
+entry c = c .before .before .before .before .before .before
+
 -- past the first test a set begins at `at`
 begun : (c : tie.Else1) → beginsName (c .before .before .before .args .path .now) (c .before .before .before .args .at) ≡ true
 begun c = sym (c .before .name-begins .ensures) ∙ not-false _ (c .if1 .left)
 
 -- past the second `=` stands behind it
-signed : (c : tie.Else2)
-    → standsAt (c .before .before .before .before .before .before .args .path .now) (c .before .before .word-end .result) equalsSign ≡ true
+signed : (c : tie.Else2) → standsAt (entry c .args .path .now) (c .before .before .word-end .result) equalsSign ≡ true
 signed c = sym (c .before .stands .ensures) ∙ not-false _ (c .if2 .left)
 
 name-begins-requires : tie.Need-name-begins-requires
@@ -52,12 +54,12 @@ add-first c = search needs
 
 selection-end-requires : tie.Need-selection-end-requires
 selection-end-requires c κs =
-    let s = c .before .before .before .before .before .before .args in
+    let s = entry c .args in
     omega (arith, stands-within (s .path .now) (c .before .before .word-end .result) equalsSign (signed c))
 
 returns-3 : tie.Need-returns-3
 returns-3 c =
-    let s = c .before .before .before .before .before .before .before .before .args in
+    let s = entry (c .before .before) .args in
     let word = c .before .before .before .before .word-end in
     no-value (s .path .now) (s .at) (word .result) (begun (c .before .before .before .before .before)) (word .ensures) (signed (c .before .before))
     (c .before .selection-end .result) (c .before .selection-end .ensures) (c .if3 .taken)
@@ -67,7 +69,7 @@ stands-requires-2 c κs = search needs
 
 returns-4 : tie.Need-returns-4
 returns-4 c =
-    let s = c .before .before .before .before .before .before .before .before .before .before .args in
+    let s = entry (c .before .before .before .before) .args in
     let word = c .before .before .before .before .before .before .word-end in
     no-brace (s .path .now) (s .at) (word .result) (begun (c .before .before .before .before .before .before .before)) (word .ensures)
     (signed (c .before .before .before .before)) (c .before .before .before .selection-end .result)
@@ -79,7 +81,7 @@ add-t8 c = search needs
 
 returns-5 : tie.Need-returns-5
 returns-5 c =
-    let s = c .before .before .before .before .before .before .before .before .before .before .args in
+    let s = entry (c .before .before .before .before) .args in
     let word = c .before .before .before .before .before .before .word-end in
     selection-read (s .path .now) (s .at) (word .result) (begun (c .before .before .before .before .before .before .before)) (word .ensures)
     (signed (c .before .before .before .before)) (c .before .before .before .selection-end .result)

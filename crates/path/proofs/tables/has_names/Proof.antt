@@ -11,10 +11,13 @@ use Rattle.path.proofs.PathTables.{other-names, names-end}
 use Rattle.path.proofs.tables.has_names.Statement.{statement}
 use Rattle.path.proofs.tables.has_names.Tie as tie
 
+abbrev entry : tie.After-read-behind-slash → tie.Start
+entry c = c .before .before .before .before .before .before .before
+
 -- the path is counted as the reading ends
-counted : (c : tie.After-read-behind-slash) → countPrims (c .before .before .before .before .before .before .before .args .path .now) ≡ endsAs (c .read-behind-slash .result)
+counted : (c : tie.After-read-behind-slash) → countPrims (entry c .args .path .now) ≡ endsAs (c .read-behind-slash .result)
 counted c =
-    let s = c .before .before .before .before .before .before .before in
+    let s = entry c in
     sym (c .read-behind-slash .ensures .same ∙ sym (rooted (s .args .path .now) (omega (arith, c .before .if2 .left, s .pre .1 .0)) (c .before .before .if1 .left))
     ∙ count-prims-reads (s .args .path .now) (s .pre .1 .1))
 
@@ -34,17 +37,17 @@ read-behind-slash-requires c κs = search needs
 
 returns-3 : tie.Need-returns-3
 returns-3 c =
-    let a = c .before .before .before .before .before .before .before .before .args in
+    let a = entry (c .before) .args in
     sym (ap (isNames (a .names)) (counted (c .before)) ∙ other-names _ (a .names) (c .if3 .taken))
 
 returns-4 : tie.Need-returns-4
 returns-4 c =
-    let a = c .before .before .before .before .before .before .before .before .before .args in
+    let a = entry (c .before .before) .args in
     sym (ap (isNames (a .names)) (counted (c .before .before)) ∙ names-end _ (a .names) (c .before .if3 .left) ∙ rw (eq-eqb _ _ (c .if4 .taken)))
 
 returns-5 : tie.Need-returns-5
 returns-5 c =
-    let a = c .before .before .before .before .before .before .before .before .before .args in
+    let a = entry (c .before .before) .args in
     sym (ap (isNames (a .names)) (counted (c .before .before)) ∙ names-end _ (a .names) (c .before .if3 .left) ∙ rw (ne-eqb _ _ (c .if4 .left)))
 
 pub has-names-spec : {M : Type 1} → statement M

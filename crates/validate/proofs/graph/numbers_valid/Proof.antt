@@ -14,6 +14,9 @@ use Rattle.validate.proofs.ArenaRecords.{links, kind, links-wrong, kind
 use Rattle.validate.proofs.graph.numbers_valid.Statement.{statement}
 use Rattle.validate.proofs.graph.numbers_valid.Tie as tie
 
+abbrev entry : tie.After-links-allowed → tie.Start
+entry c = c .before .before .before .before .before
+
 -- the numbers that were read are the node's
 abbrev numbers : tie.After-has-specs → RecordNumbers
 numbers c = record {
@@ -35,11 +38,11 @@ read c =
       «has_specs» = c .has-specs .ensures i;
     }
 
-linked : (c : tie.After-links-allowed) → let a = c .before .before .before .before .before .args in c .links-allowed .result ≡ links (a .arena .now) (a .before)
-linked c = c .links-allowed .ensures ∙ ap (linksAt (c .before .before .before .before .before .args .before)) (read (c .before))
+linked : (c : tie.After-links-allowed) → let a = entry c .args in c .links-allowed .result ≡ links (a .arena .now) (a .before)
+linked c = c .links-allowed .ensures ∙ ap (linksAt (entry c .args .before)) (read (c .before))
 
-allowed : (c : tie.After-kind-allowed) → let a = c .before .before .before .before .before .before .before .args in c .kind-allowed .result ≡ kind (a .arena .now) (a .before)
-allowed c = c .kind-allowed .ensures ∙ ap (kindAt (c .before .before .before .before .before .before .before .args .before)) (read (c .before .before .before))
+allowed : (c : tie.After-kind-allowed) → let a = entry (c .before .before) .args in c .kind-allowed .result ≡ kind (a .arena .now) (a .before)
+allowed c = c .kind-allowed .ensures ∙ ap (kindAt (entry (c .before .before) .args .before)) (read (c .before .before .before))
 
 flags-requires : tie.Need-flags-requires
 flags-requires c κs = search needs
@@ -54,14 +57,14 @@ links-allowed-requires : tie.Need-links-allowed-requires
 links-allowed-requires c κs = search needs
 
 returns : tie.Need-returns
-returns c = let a = c .before .before .before .before .before .before .args in sym (links-wrong (a .arena .now) (a .before) (sym (linked (c .before)) ∙ not-true _ (c .if1 .taken)))
+returns c = let a = entry (c .before) .args in sym (links-wrong (a .arena .now) (a .before) (sym (linked (c .before)) ∙ not-true _ (c .if1 .taken)))
 
 kind-allowed-requires : tie.Need-kind-allowed-requires
 kind-allowed-requires c κs = search needs
 
 returns-2 : tie.Need-returns-2
 returns-2 c =
-    let a = c .before .before .before .before .before .before .before .before .args in
+    let a = entry (c .before .before .before) .args in
     sym (kind-wrong (a .arena .now) (a .before) (sym (linked (c .before .before .before)) ∙ not-false _ (c .before .before .if1 .left)) (sym (allowed (c .before)) ∙ not-true _ (c .if2 .taken)))
 
 sub-result : tie.Need-sub-result
@@ -72,7 +75,7 @@ add-result c = search needs
 
 returns-3 : tie.Need-returns-3
 returns-3 c =
-    let s = c .before .before .before .before .before .before .before .before .before in
+    let s = entry (c .before .before .before .before) in
     let bs = s .args .arena .now in
     let b = s .args .before in
     (λ i. leb (b .«path_bytes» + (s .pre .0 .1 i - 27)) 32768)

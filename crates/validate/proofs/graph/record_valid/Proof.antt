@@ -15,6 +15,9 @@ use Rattle.validate.proofs.ArenaRecords.{too-short, too-long, numbers-l
 use Rattle.validate.proofs.graph.record_valid.Statement.{statement}
 use Rattle.validate.proofs.graph.record_valid.Tie as tie
 
+abbrev entry : tie.After-numbers-valid → tie.Start
+entry c = c .before .before .before .before .before .before .before .before
+
 -- the record's length is right
 fits : (c : tie.Else2) → let a = c .before .before .before .before .before .args in HasPath (a .arena .now) (a .before .count)
 fits c =
@@ -22,7 +25,7 @@ fits c =
     record { slot = s .pre .1 .0; numbered = omega (arith, c .before .if1 .left, s .pre .1 .1); short = omega (arith, c .if2 .left, s .pre .1 .1) }
 
 -- its numbers are right
-numbered : (c : tie.Else3) → let a = c .before .before .before .before .before .before .before .before .before .args in numbersValid (a .arena .now) (a .before) ≡ true
+numbered : (c : tie.Else3) → let a = entry (c .before) .args in numbersValid (a .arena .now) (a .before) ≡ true
 numbered c = sym (c .before .numbers-valid .ensures) ∙ not-false _ (c .if3 .left)
 
 returns : tie.Need-returns
@@ -44,18 +47,18 @@ numbers-valid-requires c κs = search needs
 
 returns-3 : tie.Need-returns-3
 returns-3 c =
-    let s = c .before .before .before .before .before .before .before .before .before in
+    let s = entry (c .before) in
     sym (numbers-wrong _ _ (fits (c .before .before .before .before)) (omega (arith, c .before .before .before .before .before .if1 .left, s .pre .1 .1)) (sym (c .before .numbers-valid .ensures) ∙ not-true _ (c .if3 .taken)))
 
 depth-valid-requires : tie.Need-depth-valid-requires
 depth-valid-requires c κs =
-    let s = c .before .before .before .before .before .before .before .before .before in
+    let s = entry (c .before) in
     let same = c .before .before .before .parent .ensures in
     (s .pre .1 .0, same, λ l. omega (arith, numbers-lower _ _ (numbered c) l, same))
 
 returns-4 : tie.Need-returns-4
 returns-4 c =
-    let s = c .before .before .before .before .before .before .before .before .before .before .before in
+    let s = entry (c .before .before .before) in
     sym (depth-wrong _ _ (fits (c .before .before .before .before .before .before)) (omega (arith, c .before .before .before .before .before .before .before .if1 .left, s .pre .1 .1)) (numbered (c .before .before))
     (sym (c .before .depth-valid .ensures) ∙ not-true _ (c .if4 .taken)))
 
@@ -67,16 +70,18 @@ path-requires c κs = search needs
 
 has-names-requires : tie.Need-has-names-requires
 has-names-requires c κs =
-    let s = c .before .before .before .before .before .before .before .before .before .before .before .before .before in
-    let long = path-length (s .args .arena .now) (s .args .before .count) (fits (c .before .before .before .before .before .before .before .before)) in
+    let numbers = c .before .before .before .before .before in
+    let s = entry numbers in
+    let long = path-length (s .args .arena .now) (s .args .before .count) (fits (numbers .before .before .before)) in
     let same = ap length (c .path .ensures) in
-    (s .pre .0, (omega (arith, long, same, c .before .before .before .before .before .before .before .before .before .if1 .left, s .pre .1 .1), omega (arith, long, same, c .before .before .before .before .before .before .before .before .if2 .left, s .pre .1 .1)))
+    (s .pre .0, (omega (arith, long, same, numbers .before .before .before .before .if1 .left, s .pre .1 .1), omega (arith, long, same, numbers .before .before .before .if2 .left, s .pre .1 .1)))
 
 returns-5 : tie.Need-returns-5
 returns-5 c =
-    let s = c .before .before .before .before .before .before .before .before .before .before .before .before .before .before in
+    let numbers = c .before .before .before .before .before .before in
+    let s = entry numbers in
     c .has-names .ensures ∙ (λ i. isNames (c .before .before .prim-count .ensures i) (countPrims (c .before .path .ensures i)))
-    ∙ sym (names-left _ _ (fits (c .before .before .before .before .before .before .before .before .before)) (omega (arith, c .before .before .before .before .before .before .before .before .before .before .if1 .left, s .pre .1 .1)) (numbered (c .before .before .before .before .before))
+    ∙ sym (names-left _ _ (fits (numbers .before .before .before)) (omega (arith, numbers .before .before .before .before .if1 .left, s .pre .1 .1)) (numbered (c .before .before .before .before .before))
     (sym (c .before .before .before .before .depth-valid .ensures) ∙ not-false _ (c .before .before .before .if4 .left)))
 
 pub record-valid-spec : {M : Type 1} → statement M
