@@ -1,20 +1,22 @@
--- Demand 3 (specs/GraphDemand3.antt): every list of calls leaves a legal graph (CallsKeepLegal.antt), and
--- each clause holds of every legal graph. Assumes nothing.
+-- Demand 3 (specs/GraphDemand3.antt): every list of calls leaves a legal graph
+-- (CallsKeepLegal.antt), and each clause holds of every legal graph. Assumes nothing.
 use mathlib.Core.Path.{_≡_, refl, sym, ap, _∙_}
 use mathlib.Core.Bool.{Bool, true, false, not}
 use mathlib.Core.List.{List}
 use Prim.Native.Nat.{ℕ, _<_}
+use lib.ListN.{length}
 use borrow.Author.Tests.{lt-ltb, not-false}
 use Rattle.model.specs.Path.{lastName}
 use Rattle.model.specs.Graph.{Graph, size}
-use Rattle.model.specs.Strength.{viewOf, compareNodeStrength}
+use Rattle.model.specs.Strength.{view, viewOf, compareNodeStrength}
 use Rattle.model.specs.Order.{ordering}
 use Rattle.model.specs.Culling.{isErasable}
 use Rattle.model.specs.Erasing.{newNumber, eraseBy}
 use Rattle.model.specs.Deepening.{appendChildNameToAllSites}
 use Rattle.model.specs.Calls.{Outcome, deepening, call, calls, deepenQuestions, appendChildName, eraseSet}
-use Rattle.laws.specs.Demand3Clauses.{Listed, kept, Free, Afresh, Erased, Deepened}
+use Rattle.laws.specs.Demand3Clauses.{Listed, kept, Free, Stand, Afresh, Erased, Deepened}
 use Rattle.laws.specs.GraphDemand3.{erasingAll, rest, Demand3, Demand3AfterEveryList}
+use Rattle.laws.proofs.Views.{LegalView}
 use Rattle.laws.proofs.StrengthCongruence.{nodes-alike}
 use Rattle.laws.proofs.OrderLaws.{in-order-ordered, in-order-has-order, in-order-afresh, stronger-antisymmetric}
 use Rattle.laws.proofs.ErasableLaws.{Spared, erasable-spared, erasable-largest}
@@ -27,6 +29,16 @@ use Rattle.laws.proofs.LegalAlike.{deepens-by-name}
 use Rattle.laws.proofs.LegalErased.{erased-legal}
 use Rattle.laws.proofs.AcceptedQuestions.{Accepted, decided-keeps}
 use Rattle.laws.proofs.CallsKeepLegal.{every-list-legal}
+
+-- ---- "The rest stand as before", whatever set went that spares what it must
+
+pub erased-stand : (kept : ℕ → Bool) (g : Graph) → Spares g kept → LegalView (size g) (view (g .nodes)) → length (g .children) ≡ size g
+    → Stand kept g (eraseBy kept g)
+erased-stand kept g spares links lengths = record {
+  fields = node-erased kept g;
+  chains = children-erased kept g lengths;
+  compare = nodes-alike links (erase-looks-like kept g spares links);
+}
 
 -- ---- "Ordering afresh changes nothing"
 
@@ -83,10 +95,7 @@ module _ (g : Graph) (legal : Legal g) where
       origins-kept = spares .origin;
       largest = λ goes free n h e.
           erasable-stays g (legal .few-nodes) n h ∙ ap not (erasable-largest (g .nodes) (legal .links) some-node goes (spared goes free) n h e);
-      fields-stand = λ n h k. rw rest-erased (node-erased (kept g) g n h k);
-      chains-stand = λ n h k. rw rest-erased (children-erased (kept g) g (legal .lengths) n h k);
-      compare-as-before = λ a b h l k j.
-          rw rest-erased (nodes-alike (legal .links) (erase-looks-like (kept g) g spares (legal .links)) a b h l k j);
+      rest-stands = rw rest-erased (erased-stand (kept g) g spares (legal .links) (legal .lengths));
       list-stands = λ e. rw rest-erased (marks-erased (kept g) g .0 ∙ e, order-erased (kept g) g);
       afresh = λ e.
           rw rest-erased (legal-afresh (eraseBy (kept g) g) (erased-legal (kept g) g legal spares some-node) (marks-erased (kept g) g .0 ∙ e));

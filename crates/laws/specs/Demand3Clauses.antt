@@ -13,27 +13,36 @@ use Rattle.model.specs.Order.{hasOrder, ordering}
 use Rattle.model.specs.Culling.{isMarked}
 use Rattle.model.specs.Erasing.{stays, erasable, newNumber, renumbered}
 
--- ---- "If the graph is ordered, its list has each node once, and of any two the earlier is the stronger."
+-- ---- The order
 
+-- "If the graph is ordered, its list has each node once, and of any two the earlier is the
+-- stronger."
 pub record Listed (g : Graph) : Type 0 where
   pub each-once : (n : ℕ) → n < size g → count n (g .order) ≡ 1
   pub nothing-else : All (λ n. n < size g) (g .order)
   pub earlier-stronger : Pairs (λ a b. compareNodeStrength (viewOf g) a b ≡ Less) (g .order)
 
--- ---- "If its erasable nodes are erased"
+-- ---- Erasing: "If its erasable nodes are erased"
 
--- what stays, and its new number
+-- what stays
 abbrev pub kept : Graph → ℕ → Bool
 kept g = stays (erasable g)
-
-abbrev pub new : Graph → ℕ → ℕ
-new g = newNumber (kept g)
 
 -- "a set of marked nodes that no node outside it had as parent or origin"
 pub record Free (g : Graph) (goes : ℕ → Bool) : Type 0 where
   pub marked : (n : ℕ) → n < size g → goes n ≡ true → isMarked (g .nodes) n ≡ true
   pub no-parent : (n : ℕ) → 0 < n → n < size g → goes n ≡ false → goes (nodeAt (g .nodes) n .parent) ≡ false
   pub no-origin : (n : ℕ) → 0 < n → n < size g → goes n ≡ false → goes (nodeAt (g .nodes) n .origin) ≡ false
+
+-- "the rest stand as before", what is kept by its new number
+pub record Stand (kept : ℕ → Bool) (g rest : Graph) : Type 0 where
+  -- "the fields a snapshot holds are unchanged but for that renumbering of parent and origin"
+  pub fields : (n : ℕ) → n < size g → kept n ≡ true → nodeAt (rest .nodes) (newNumber kept n) ≡ renumbered kept (size g) (nodeAt (g .nodes) n)
+  -- "chains lose only what went"
+  pub chains : (n : ℕ) → n < size g → kept n ≡ true → childrenOf rest (newNumber kept n) ≡ map (newNumber kept) (filter kept (childrenOf g n))
+  -- "any two of them compare as before"
+  pub compare : (a b : ℕ) → a < size g → b < size g → kept a ≡ true → kept b ≡ true
+      → compareNodeStrength (viewOf rest) (newNumber kept a) (newNumber kept b) ≡ compareNodeStrength (viewOf g) a b
 
 -- "Ordering afresh sorts and walks anew, a finalized graph too"
 pub record Afresh (g : Graph) : Type 0 where
@@ -53,19 +62,15 @@ pub record Erased (g : Graph) (refused value : ℕ) (rest : Graph) : Type 0 wher
   -- "and every set of marked nodes that no node outside it had as parent or origin lies within what
   -- went"
   pub largest : (goes : ℕ → Bool) → Free g goes → (n : ℕ) → n < size g → goes n ≡ true → kept g n ≡ false
-  -- "the rest stand as before": the fields a snapshot holds are unchanged but for the renumbering
-  -- of parent and origin; chains lose only what went
-  pub fields-stand : (n : ℕ) → n < size g → kept g n ≡ true → nodeAt (rest .nodes) (new g n) ≡ renumbered (kept g) (size g) (nodeAt (g .nodes) n)
-  pub chains-stand : (n : ℕ) → n < size g → kept g n ≡ true → childrenOf rest (new g n) ≡ map (new g) (filter (kept g) (childrenOf g n))
-  -- "any two of them compare as before"
-  pub compare-as-before : (a b : ℕ) → a < size g → b < size g → kept g a ≡ true → kept g b ≡ true
-      → compareNodeStrength (viewOf rest) (new g a) (new g b) ≡ compareNodeStrength (viewOf g) a b
+  pub rest-stands : Stand (kept g) g rest
   -- "and, where the graph was ordered, its list is the old one without what went"
-  pub list-stands : g .ordered ≡ true → (rest .ordered ≡ true) × (rest .order ≡ map (new g) (filter (kept g) (g .order)))
+  pub list-stands : g .ordered ≡ true → (rest .ordered ≡ true) × (rest .order ≡ map (newNumber (kept g)) (filter (kept g) (g .order)))
   -- "and ordering afresh changes nothing"
   pub afresh : g .ordered ≡ true → Afresh rest
 
--- ---- "If instead the graph is finalized and is deepened by a child name, every pair compares as before."
+-- ---- Deepening
 
+-- "If instead the graph is finalized and is deepened by a child name, every pair compares as
+-- before."
 pub record Deepened (g after : Graph) : Type 0 where
   pub pairs-as-before : (a b : ℕ) → a < size g → b < size g → compareNodeStrength (viewOf after) a b ≡ compareNodeStrength (viewOf g) a b
