@@ -95,7 +95,7 @@ fn spares_one(arena: &[u8], set: &[u8], n: u32) -> bool
     if byte > 1 {
         return false;
     }
-    view::arc(arena, n) != 0
+    view::arc(arena, n) != arena::arcs::ROOT
 }
 
 // Whether the set may be erased: question 11.
