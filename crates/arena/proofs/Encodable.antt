@@ -48,6 +48,7 @@ legal-encodable g legal fit empty = record {
     final = λ e. absurd (false≢true e);
     no-order = λ e. refl;
     in-order = λ e. absurd (false≢true e);
+    ordered-final = λ e. absurd (false≢true e);
   };
   fit = fit;
   final = legal .final;

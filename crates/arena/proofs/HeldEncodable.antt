@@ -100,6 +100,7 @@ module _ (bs : List ℕ) (held : Held bs) where
     final = λ e. absurd (false≢true e);
     no-order = λ e. refl;
     in-order = λ e. absurd (false≢true e);
+    ordered-final = λ e. absurd (false≢true e);
   }
     where
       legal : Legal (built (nodesIn bs))

@@ -139,12 +139,15 @@ linksStored n x bs =
 abbrev pub recordStored : ℕ → Node → List ℕ → List ℕ → List ℕ
 recordStored n x path bs = stored (slotAt n + 16) (x .«prim_count» ∷ recordBytes (nodeOf x path)) bs
 
--- parts of these bytes: up to the flags, and four numbers of one width
-abbrev pub headBytes : ℕ → ℕ → ℕ → ℕ → List ℕ
-headBytes primCount recordLength arc flags = primCount ∷ (bigEndian 2 recordLength ++ (bigEndian 1 arc ++ bigEndian 1 flags))
+-- parts of these bytes: up to the flags, the four numbers of 32 bits, and those of 16
+abbrev pub headBytes : ℕ → Node → List ℕ
+headBytes primCount x = primCount ∷ (bigEndian 2 (x .«record_length») ++ (bigEndian 1 (x .arc) ++ bigEndian 1 (x .flags)))
 
-abbrev pub fourNumbers : ℕ → ℕ → ℕ → ℕ → ℕ → List ℕ
-fourNumbers w a b c d = bigEndian w a ++ (bigEndian w b ++ (bigEndian w c ++ bigEndian w d))
+abbrev pub idBytes : Node → List ℕ
+idBytes x = bigEndian 4 (x .stack) ++ (bigEndian 4 (x .layer) ++ (bigEndian 4 (x .parent .0) ++ bigEndian 4 (x .origin .0)))
+
+abbrev pub depthBytes : Node → List ℕ
+depthBytes x = bigEndian 2 (x .depth) ++ (bigEndian 2 (x .sibling) ++ (bigEndian 2 (x .restriction) ++ bigEndian 2 (x .«spec_from»)))
 
 abbrev pub orderEntryStored : ℕ → ℕ → List ℕ → List ℕ
 orderEntryStored n entry bs = stored (slotAt n + 12) (bigEndian 4 entry) bs

@@ -49,7 +49,7 @@ ghost use mathlib.Core.Path.{_≡_};
 ghost use Prim.Native.Nat.{_+_, _≤_};
 ghost use lib.ListN.{length};
 ghost use Rattle.model.specs.Bytes.{stored};
-ghost use Rattle.arena.specs.Slot.{HasSlot, Loaded, withFirstChild, withLastChild, withNextSibling, linksStored, recordStored, headBytes, fourNumbers};
+ghost use Rattle.arena.specs.Slot.{HasSlot, Loaded, withFirstChild, withLastChild, withNextSibling, linksStored, recordStored, headBytes, idBytes, depthBytes};
 
 // A node's record by value: its links, the prim count of its path, the record's length and the
 // record's numbers. Its path stays in the arena (`path`).
@@ -134,51 +134,57 @@ pub fn store_links(arena: &mut [u8], n: u32, node: Node)
     big_endian::write_u32(arena, at + 8, node.next_sibling.0);
 }
 
-// Stores the prim count, the record's length, arc and flags in the slot at `at`.
-fn store_head(arena: &mut [u8], at: usize, prim_count: u8, record_length: u16, arc: u8, flags: u8)
+// Stores the prim count, and the record's length, arc and flags, in the slot at `at`. The prim
+// count is an argument of its own, since that it is a byte is known of a number, not of a field.
+fn store_head(arena: &mut [u8], at: usize, prim_count: u8, node: Node)
     requires { ⌜ at + 320 ≤ length (now arena) ⌝ }
-    ensures { λ _. ⌜ now (arena .exit) ≡ stored (at + 16) (headBytes «prim_count» «record_length» arc flags) (now (arena .entry)) ⌝ }
+    ensures { λ _. ⌜ now (arena .exit) ≡ stored (at + 16) (headBytes «prim_count» node) (now (arena .entry)) ⌝ }
 {
     big_endian::write_u8(arena, at + 16, prim_count);
-    big_endian::write_u16(arena, at + 17, record_length);
-    big_endian::write_u8(arena, at + (offsets::RECORD + offsets::ARC), arc);
-    big_endian::write_u8(arena, at + (offsets::RECORD + offsets::FLAGS), flags);
+    big_endian::write_u16(arena, at + 17, node.record_length);
+    big_endian::write_u8(arena, at + (offsets::RECORD + offsets::ARC), node.arc);
+    big_endian::write_u8(arena, at + (offsets::RECORD + offsets::FLAGS), node.flags);
 }
 
 // Stores stack, layer, parent and origin in the slot at `at`.
-fn store_ids(arena: &mut [u8], at: usize, stack: u32, layer: u32, parent: u32, origin: u32)
+fn store_ids(arena: &mut [u8], at: usize, node: Node)
     requires { ⌜ at + 320 ≤ length (now arena) ⌝ }
-    ensures { λ _. ⌜ now (arena .exit) ≡ stored (at + 21) (fourNumbers 4 stack layer parent origin) (now (arena .entry)) ⌝ }
+    ensures { λ _. ⌜ now (arena .exit) ≡ stored (at + 21) (idBytes node) (now (arena .entry)) ⌝ }
 {
-    big_endian::write_u32(arena, at + (offsets::RECORD + offsets::STACK), stack);
-    big_endian::write_u32(arena, at + (offsets::RECORD + offsets::LAYER), layer);
-    big_endian::write_u32(arena, at + (offsets::RECORD + offsets::PARENT), parent);
-    big_endian::write_u32(arena, at + (offsets::RECORD + offsets::ORIGIN), origin);
+    big_endian::write_u32(arena, at + (offsets::RECORD + offsets::STACK), node.stack);
+    big_endian::write_u32(arena, at + (offsets::RECORD + offsets::LAYER), node.layer);
+    big_endian::write_u32(
+        arena,
+        at + (offsets::RECORD + offsets::PARENT),
+        node.parent.0,
+    );
+    big_endian::write_u32(
+        arena,
+        at + (offsets::RECORD + offsets::ORIGIN),
+        node.origin.0,
+    );
 }
 
 // Stores the four numbers of 16 bits in the slot at `at`.
-fn store_depths(
-    arena: &mut [u8],
-    at: usize,
-    depth: u16,
-    sibling: u16,
-    restriction: u16,
-    spec_from: u16,
-)
+fn store_depths(arena: &mut [u8], at: usize, node: Node)
     requires { ⌜ at + 320 ≤ length (now arena) ⌝ }
-    ensures { λ _. ⌜ now (arena .exit) ≡ stored (at + 37) (fourNumbers 2 depth sibling restriction «spec_from») (now (arena .entry)) ⌝ }
+    ensures { λ _. ⌜ now (arena .exit) ≡ stored (at + 37) (depthBytes node) (now (arena .entry)) ⌝ }
 {
-    big_endian::write_u16(arena, at + (offsets::RECORD + offsets::DEPTH), depth);
-    big_endian::write_u16(arena, at + (offsets::RECORD + offsets::SIBLING), sibling);
+    big_endian::write_u16(arena, at + (offsets::RECORD + offsets::DEPTH), node.depth);
+    big_endian::write_u16(
+        arena,
+        at + (offsets::RECORD + offsets::SIBLING),
+        node.sibling,
+    );
     big_endian::write_u16(
         arena,
         at + (offsets::RECORD + offsets::RESTRICTION),
-        restriction,
+        node.restriction,
     );
     big_endian::write_u16(
         arena,
         at + (offsets::RECORD + offsets::SPEC_FROM),
-        spec_from,
+        node.spec_from,
     );
 }
 
@@ -190,30 +196,9 @@ pub fn store_record(arena: &mut [u8], n: u32, node: Node, path: &[u8])
     ensures { λ _. ⌜ now (arena .exit) ≡ recordStored n node (now (path .entry)) (now (arena .entry)) ⌝ }
 {
     let at = slot::HEADER + (n as usize) * slot::SLOT;
-    store_head(
-        arena,
-        at,
-        node.prim_count,
-        node.record_length,
-        node.arc,
-        node.flags,
-    );
-    store_ids(
-        arena,
-        at,
-        node.stack,
-        node.layer,
-        node.parent.0,
-        node.origin.0,
-    );
-    store_depths(
-        arena,
-        at,
-        node.depth,
-        node.sibling,
-        node.restriction,
-        node.spec_from,
-    );
+    store_head(arena, at, node.prim_count, node);
+    store_ids(arena, at, node);
+    store_depths(arena, at, node);
     big_endian::write_u8(
         arena,
         at + (offsets::RECORD + offsets::HAS_SPECS),

@@ -2,7 +2,7 @@
 -- widths (`starting-keeps`, `adding-keeps`). Assumes nothing.
 use mathlib.Core.Path.{_≡_, refl}
 use mathlib.Core.Logic.{_⊎_, inl, inr}
-use mathlib.Core.Bool.{Bool, true, false, _&&_, cond, false≢true}
+use mathlib.Core.Bool.{Bool, true, false, _&&_, cond}
 use mathlib.Core.Option.{Option, none, some}
 use mathlib.Core.List.{List, [], _∷_}
 use Prim.Native.Nat.{ℕ, zero, suc, _^_, _≤_, _<_}
@@ -72,7 +72,7 @@ pub starting-keeps : (stack layer : ℕ) (path : List ℕ) → stack < 256 ^ 4 �
     → (g : Graph) → Encodable g → Keeps g (initRoot stack layer path g)
 unfolding initRoot withNode
 starting-keeps stack layer path s l bytes g ok =
-    decided-encodable (ask 3 (eqb (size g) 0) ∷ ask 5 (wellFormed path) ∷ []) g 0 (withNode g (rootNode stack layer path)) (λ old e. absurd (false≢true e)) refl
+    decided-encodable (ask 3 (eqb (size g) 0) ∷ ask 5 (wellFormed path) ∷ []) g 0 (withNode g (rootNode stack layer path)) refl
     (starting-keeps-legal stack layer path (unordered g) (ok .legal))
     (λ a. more-encodable g (rootNode stack layer path) ok (numbers-root stack layer path s l bytes (a 5))) ok
 
@@ -114,5 +114,5 @@ module _ (d : NodeDesc) (fit : NumbersFit (d .fields)) (deep : DepthFits (d .dep
       decided-encodable
       (hasNodeZero g ∷ ask 4 (givenBelow (size g) (d .fields .parent) && givenBelow (size g) (d .fields .origin)) ∷ ask 5 (wellFormed (d .fields .path))
       ∷ ask 6 (addedKind g (addedNode g d)) ∷ ask 7 (hasRoom g (addedNode g d)) ∷ [])
-      g (size g) (withNode g (addedNode g d)) (λ old e. absurd (false≢true e)) refl (adding-keeps-legal d (unordered g) (ok .legal))
+      g (size g) (withNode g (addedNode g d)) refl (adding-keeps-legal d (unordered g) (ok .legal))
       (λ a. more-encodable g (addedNode g d) ok (numbers-added (a 5))) ok

@@ -87,5 +87,5 @@ module _ (g : Graph) (ok : Encodable g) where
 pub culling-keeps : (g : Graph) → Encodable g → Keeps g (cull g)
 unfolding cull cullSubtreesWithoutOpinions
 culling-keeps g ok =
-    decided-encodable (hasNodeZero g ∷ []) g 0 (cullSubtreesWithoutOpinions g) (λ old. old) refl (culling-keeps-legal (unordered g) (ok .legal))
+    decided-encodable (hasNodeZero g ∷ []) g 0 (cullSubtreesWithoutOpinions g) refl (culling-keeps-legal (unordered g) (ok .legal))
     (λ a. culled-encodable g ok) ok

@@ -21,7 +21,7 @@ use Rattle.laws.proofs.LegalGraphs.{Legal}
 use Rattle.laws.proofs.LegalAlike.{deepening-keeps-legal}
 use Rattle.arena.proofs.Encodable.{unordered, Encodable}
 use Rattle.child_lists.proofs.AppendEncodable.{NumbersFit}
-use Rattle.call_sequences.proofs.KeptFits.{fit-numbers, legal-fits, FinalUnlessShallow, Keeps, decided-encodable, decided-leaves}
+use Rattle.call_sequences.proofs.KeptFits.{fit-numbers, legal-fits, Keeps, decided-encodable, decided-leaves}
 
 -- ---- Paths
 
@@ -95,21 +95,15 @@ module _ (name : List ℕ) (bytes : Bytes name) (g : Graph) (ok : Encodable g) w
     empty-unmarked = λ none. marks-after .3 (sym (size-deepened name g) ∙ none);
   }
 
--- an order that stays is a finalized one
-final-deepened : (name : List ℕ) (g : Graph) → FinalUnlessShallow g → FinalUnlessShallow (deepen name g)
-unfolding deepen
-final-deepened name g old e = old (and-eq-true-iff (g .ordered) (g .finalized) .0 e .0)
-
 module _ (child : List ℕ) (bytes : Bytes child) where
   pub deepening-keeps : (g : Graph) → Encodable g → Keeps g (appendChildName child g)
   unfolding appendChildName deepen
   deepening-keeps g ok =
-      decided-encodable (deepenQuestions child g) g 0 (appendChildNameToAllSites child g) (final-deepened (lastName child) g) refl
+      decided-encodable (deepenQuestions child g) g 0 (appendChildNameToAllSites child g) refl
       (deepening-keeps-legal child (unordered g) (ok .legal)) (λ a. deepened-encodable (lastName child) (name-bytes child bytes) g ok) ok
 
-  pub seeding-leaves : (from into : Graph) → Encodable from → seedChild child from into .refused ≡ 0
-      → Encodable (seedChild child from into .graph) × (FinalUnlessShallow from → FinalUnlessShallow (seedChild child from into .graph))
+  pub seeding-leaves : (from into : Graph) → Encodable from → seedChild child from into .refused ≡ 0 → Encodable (seedChild child from into .graph)
   unfolding appendChildName seedChild deepen
   seeding-leaves from into ok =
-      decided-leaves (deepenQuestions child from) from 0 (appendChildNameToAllSites child from) (final-deepened (lastName child) from) refl
+      decided-leaves (deepenQuestions child from) from 0 (appendChildNameToAllSites child from) refl
       (deepening-keeps-legal child (unordered from) (ok .legal)) (λ a. deepened-encodable (lastName child) (name-bytes child bytes) from ok) into

@@ -25,13 +25,14 @@ use Rattle.model.specs.Calls.{Outcome, initRoot, addChild, finalizeStrengthOrde
 use Rattle.model.specs.Arena.{countIn, decode, holdsGraph}
 use Rattle.model.specs.ArenaCalls.{arenaAfter}
 use Rattle.model.proofs.Text.{bytes}
+use Rattle.laws.specs.Demand3Clauses.{Deepened}
 use Rattle.laws.proofs.SnapshotLaws.{written-bytes}
 use Rattle.laws.proofs.ListLaws.{all-imp, every-all}
 use Rattle.nodes.specs.declared.description.Depth.{Depth}
 use Rattle.nodes.specs.declared.description.Depth.the-variants.{Given, Missing}
 use Rattle.snapshot.proofs.ReadBack.{written-reads-back}
 use Rattle.call_sequences.proofs.KeepEncodable.{Arena, arena-encodable, ArenaOf}
-use Rattle.call_sequences.specs.Demand3.{Slice, DepthFits, Write, starting, adding, ordering, culling, erasing, deepening, reading, step, steps, Lent, seeding, Start, empty, read, seeded, rest, Deepened, Demand3}
+use Rattle.call_sequences.specs.Demand3.{Slice, DepthFits, Write, starting, adding, ordering, culling, erasing, deepening, reading, step, steps, Lent, seeding, Start, empty, read, seeded, rest, Demand3}
 use Rattle.call_sequences.proofs.StepGraphs.{graphSteps, into-whole, steps-arena}
 use Rattle.call_sequences.proofs.ReachedArenas.{no-node, seed-whole}
 use Rattle.call_sequences.proofs.Demand3Proof.{demand3}
@@ -138,7 +139,7 @@ module _ (bs : List ℕ) (lent : Lent bs) (holds : holdsGraph bs ≡ true) (none
   ten-erased : decode (rest (steps ten bs)) .order ≡ 0 ∷ 1 ∷ 3 ∷ 2 ∷ []
   ten-erased = ten-demand .erased (ten-arena .some-node) .list-stands (ten-arena .ordered) .1 ∙ ten-arena .order-left
 
-  ten-deepened : (child : Slice) → Deepened (steps ten bs) child
+  ten-deepened : (child : Slice) → Deepened (decode (steps ten bs)) (decode (step (deepening child) (steps ten bs)))
   ten-deepened = ten-demand .deepened (ten-arena .finalized)
 
   -- ---- The other starts, in an arena of any content

@@ -15,10 +15,10 @@ use lib.ListN.{length}
 use borrow.Author.Tests.{eqb-true, eq-eqb, lt-ltb, ltb-true}
 use Rattle.model.specs.Lists.{filter}
 use Rattle.model.specs.Node.{Node}
-use Rattle.model.specs.Graph.{Graph, size, nodeAt, childrenOf}
-use Rattle.model.specs.Strength.{viewOf, compareSiblingNodeStrength, compareNodeStrength}
+use Rattle.model.specs.Graph.{Graph, size}
+use Rattle.model.specs.Strength.{viewOf, compareSiblingNodeStrength}
 use Rattle.model.specs.Culling.{isErasable}
-use Rattle.model.specs.Erasing.{stays, erasable, canErase, newNumber, renumbered, erase}
+use Rattle.model.specs.Erasing.{stays, erasable, canErase, newNumber, erase}
 use Rattle.model.specs.Refusals.{Question, refusal}
 use Rattle.model.specs.Answers.{numberRefusal}
 use Rattle.model.specs.Calls.{Outcome, settled, decided, eraseSet, erasing}
@@ -27,7 +27,7 @@ use Rattle.model.specs.ArenaCalls.{isArena, ValidArena, Wrote}
 use Rattle.model.specs.declared.UnitResult.the-variants.{Done}
 use Rattle.model.specs.declared.NumberResult.{NumberResult}
 use Rattle.model.specs.declared.NumberResult.the-variants.{Number}
-use Rattle.laws.proofs.Views.{LooksLike}
+use Rattle.laws.specs.Demand3Clauses.{Stand}
 use Rattle.laws.proofs.BigEndianLaws.{Bytes}
 use Rattle.laws.proofs.AcceptedQuestions.{Accepted, none-refused-accepted}
 use Rattle.laws.proofs.ArenaCallLaws.{decided-accepted}
@@ -35,8 +35,9 @@ use Rattle.laws.proofs.LegalGraphs.{Legal, roots-unculled}
 use Rattle.laws.proofs.ErasableLaws.{Spared, erasable-spared, erasable-largest}
 use Rattle.laws.proofs.Spares.{Spares}
 use Rattle.laws.proofs.EraseSets.{can-erase-iff, erasable-length, erasable-stays, erasable-accepted}
-use Rattle.laws.proofs.EraseLaws.{size-erased, node-erased, children-erased, order-erased, marks-erased, erase-looks-like}
-use Rattle.laws.proofs.StrengthCongruence.{siblings-alike, nodes-alike}
+use Rattle.laws.proofs.EraseLaws.{size-erased, order-erased, marks-erased, erase-looks-like}
+use Rattle.laws.proofs.GraphDemand3Proof.{erased-stand}
+use Rattle.laws.proofs.StrengthCongruence.{siblings-alike}
 use Rattle.arena.proofs.Encodable.{unordered, Encodable}
 use Rattle.arena.proofs.HeldEncodable.{held-encodable}
 use Rattle.arena.proofs.ReadNodes.{sizes}
@@ -122,18 +123,12 @@ module _ (bs set after : List ℕ) (bytes : Bytes bs) (done : ErasableWritten bs
 pub record Stands (set : List ℕ) (g left : Graph) : Type 0 where
   -- what is kept has its parent and its origin kept, and each Root arc is
   pub spares : Spares g (stays set)
-  -- "any two of them compare as before"
-  pub compare : (a b : ℕ) → a < size g → b < size g → stays set a ≡ true → stays set b ≡ true
-      → compareNodeStrength (viewOf left) (newNumber (stays set) a) (newNumber (stays set) b) ≡ compareNodeStrength (viewOf g) a b
+  -- fields and child lists stand, and any two nodes compare as before; siblings too
+  pub stand : Stand (stays set) g left
   pub compare-siblings : (a b : ℕ) → a < size g → b < size g → stays set a ≡ true → stays set b ≡ true
       → compareSiblingNodeStrength (viewOf left) (newNumber (stays set) a) (newNumber (stays set) b)
       ≡ compareSiblingNodeStrength (viewOf g) a b
-  -- "the fields a snapshot holds are unchanged but for that renumbering of parent and origin;
-  -- chains lose only what went", the order too
-  pub fields : (n : ℕ) → n < size g → stays set n ≡ true
-      → nodeAt (left .nodes) (newNumber (stays set) n) ≡ renumbered (stays set) (size g) (nodeAt (g .nodes) n)
-  pub child-list : (n : ℕ) → n < size g → stays set n ≡ true
-      → childrenOf left (newNumber (stays set) n) ≡ map (newNumber (stays set)) (filter (stays set) (childrenOf g n))
+  -- the order loses only what went
   pub order : left .order ≡ map (newNumber (stays set)) (filter (stays set) (g .order))
   pub marks : (left .ordered ≡ g .ordered) × (left .finalized ≡ g .finalized) × (left .shallow ≡ g .shallow)
 
@@ -175,19 +170,14 @@ module _ (set bs after : List ℕ) (n : ℕ) (bytes : Bytes bs) (erased : Erased
   pub left-stands : Stands set (decode bs) graphLeft
   left-stands = record {
     spares = spares;
-    compare = nodes-alike (before-legal .links) alike;
-    compare-siblings = siblings-alike (before-legal .links) alike;
-    fields = node-erased (stays set) (decode bs);
-    child-list = children-erased (stays set) (decode bs) (before-legal .lengths);
+    stand = erased-stand (stays set) (decode bs) spares (before-legal .links) (before-legal .lengths);
+    compare-siblings = siblings-alike (before-legal .links) (erase-looks-like (stays set) (decode bs) spares (before-legal .links));
     order = order-erased (stays set) (decode bs);
     marks = marks-erased (stays set) (decode bs);
   }
     where
       spares : Spares (decode bs) (stays set)
       spares = can-erase-iff (decode bs) set (before-legal .node-0 (ltb-true 0 (size (decode bs)) (asked 3)) .arc) .0 (asked 11) .1
-
-      alike : LooksLike (size (decode bs)) (stays set) (newNumber (stays set)) (viewOf (decode bs)) (viewOf graphLeft)
-      alike = erase-looks-like (stays set) (decode bs) spares (before-legal .links)
 
   -- of the arena, which holds what the call leaves, since that is encodable
 

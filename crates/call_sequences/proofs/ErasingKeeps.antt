@@ -78,6 +78,6 @@ spares-node-0 bytes g ok a =
 pub erasing-keeps : (bytes : List ℕ) (g : Graph) → Encodable g → Keeps g (eraseSet bytes g)
 unfolding eraseSet eraseBy canErase
 erasing-keeps bytes g ok =
-    decided-encodable (hasNodeZero g ∷ ask 11 (canErase g bytes) ∷ []) g (newNumber (stays bytes) (size g)) (erase bytes g) (λ old. old) refl
+    decided-encodable (hasNodeZero g ∷ ask 11 (canErase g bytes) ∷ []) g (newNumber (stays bytes) (size g)) (erase bytes g) refl
     (erasing-keeps-legal bytes (unordered g) (ok .legal))
     (λ a. erased-encodable (stays bytes) g ok (ltb-true 0 (size g) (a 3)) (spares-node-0 bytes g ok a)) ok

@@ -3,7 +3,7 @@
 -- what it makes of it is, and refused leaves the graph (`Keeps`, `decided-encodable`). Assumes
 -- nothing.
 use mathlib.Core.Path.{_≡_, refl, ap, subst}
-use mathlib.Core.Bool.{true, not}
+use mathlib.Core.Bool.{true}
 use mathlib.Core.List.{List, [], _∷_}
 use Prim.Native.Nat.{ℕ, zero, suc, _^_, _<_}
 use native.Mathlib.Omega.{arith}
@@ -89,24 +89,18 @@ legal-fits g legal numbers = fit-all (g .nodes) fits
 
 -- ---- A call that is put questions
 
--- Every call keeps that an ordered graph is finalized unless shallow, which question 2 does not
--- ask.
-abbrev pub FinalUnlessShallow : Graph → Type 0
-FinalUnlessShallow g = g .ordered ≡ true → g .finalized ≡ not (g .shallow)
-
 -- what a call that comes to o keeps of the graph g: refused, it leaves g
 pub record Keeps (g : Graph) (o : Outcome) : Type 0 where
   pub encodable : Encodable (o .graph)
-  pub final : FinalUnlessShallow g → FinalUnlessShallow (o .graph)
   pub refused : (o .refused ≡ 0 → ⊥) → o .graph ≡ g
 
-module _ (qs : List Question) (g : Graph) (value : ℕ) (result : Graph) (final : FinalUnlessShallow g → FinalUnlessShallow result) where
+module _ (qs : List Question) (g : Graph) (value : ℕ) (result : Graph) where
   pub decided-keeps : (refusal qs ≡ 0 → Encodable result) → Encodable g → Keeps g (decided qs g value result)
   decided-keeps new ok = go (refusal qs) refl
     where
       go : (r : ℕ) → refusal qs ≡ r → Keeps g (settled r g value result)
-      go zero e = record { encodable = new e; final = final; refused = λ h. absurd (h refl) }
-      go (suc r) e = record { encodable = ok; final = λ old. old; refused = λ h. refl }
+      go zero e = record { encodable = new e; refused = λ h. absurd (h refl) }
+      go (suc r) e = record { encodable = ok; refused = λ h. refl }
 
   -- The call keeps the graph without its order legal, and its questions do not look at the order:
   -- so what an accepted one makes, without its order, is legal.
@@ -121,11 +115,9 @@ module _ (qs : List Question) (g : Graph) (value : ℕ) (result : Graph) (final 
     decided-encodable ok = decided-keeps accepted-encodable ok
 
     -- where the result goes into a second arena, whatever that holds
-    pub decided-leaves : (into : Graph) → decided qs into value result .refused ≡ 0
-        → Encodable (decided qs into value result .graph) × (FinalUnlessShallow g → FinalUnlessShallow (decided qs into value result .graph))
+    pub decided-leaves : (into : Graph) → decided qs into value result .refused ≡ 0 → Encodable (decided qs into value result .graph)
     decided-leaves into = go (refusal qs) refl
       where
-        go : (r : ℕ) → refusal qs ≡ r → settled r into value result .refused ≡ 0
-            → Encodable (settled r into value result .graph) × (FinalUnlessShallow g → FinalUnlessShallow (settled r into value result .graph))
-        go zero e f = (accepted-encodable e, final)
+        go : (r : ℕ) → refusal qs ≡ r → settled r into value result .refused ≡ 0 → Encodable (settled r into value result .graph)
+        go zero e f = accepted-encodable e
         go (suc r) e f = absurd (omega arith)

@@ -12,7 +12,6 @@ pub mod KeepEncodable
 -- What the two calls on erase sets leave of an arena.
 pub mod ErasedArenas
 -- The arenas that lists of calls leave, and demand 3 of them.
-mod GrownGraphs
 mod StepGraphs
 mod ReachedArenas
 pub mod Demand3Proof

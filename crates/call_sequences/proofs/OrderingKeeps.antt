@@ -11,22 +11,15 @@ use Rattle.model.specs.Refusals.{ask}
 use Rattle.model.specs.Calls.{hasNodeZero, finalizeStrengthOrder}
 use Rattle.laws.proofs.AcceptedQuestions.{none-refused-accepted}
 use Rattle.arena.proofs.Encodable.{Encodable, ordered-encodable}
-use Rattle.call_sequences.proofs.KeptFits.{FinalUnlessShallow, Keeps, decided-keeps}
+use Rattle.call_sequences.proofs.KeptFits.{Keeps, decided-keeps}
 
 pub ordering-keeps : (g : Graph) → Encodable g → Keeps g (finalizeStrengthOrder g)
 unfolding finalizeStrengthOrder ordering
 ordering-keeps g ok =
-    decided-keeps (hasNodeZero g ∷ ask 9 (g .finalized || hasOrder g) ∷ []) g 0 (cond (g .finalized) g (ordering g)) final
+    decided-keeps (hasNodeZero g ∷ ask 9 (g .finalized || hasOrder g) ∷ []) g 0 (cond (g .finalized) g (ordering g))
     (λ e. let a = none-refused-accepted (hasNodeZero g ∷ ask 9 (g .finalized || hasOrder g) ∷ []) refl e in
     go (g .finalized) (ltb-true 0 (size g) (a 3)) (a 9)) ok
   where
-    final : FinalUnlessShallow g → FinalUnlessShallow (cond (g .finalized) g (ordering g))
-    final old = kept (g .finalized)
-      where
-        kept : (b : Bool) → FinalUnlessShallow (cond b g (ordering g))
-        kept true = old
-        kept false = λ e. refl
-
     go : (b : Bool) → 0 < size g → (b || hasOrder g) ≡ true → Encodable (cond b g (ordering g))
     go true some-node e = ok
     go false some-node e = ordered-encodable g ok some-node e

@@ -1,6 +1,6 @@
--- The arenas that lists of calls leave: each holds a graph, and one that calls of
--- model/specs/Calls.antt leave of a start (`Reached`). Every start is such (`start-reached`), and
--- every call leaves such (`steps-reached`). Assumes nothing.
+-- The arenas that lists of calls leave: each holds a graph, and a legal one (`Reached`). Every
+-- start is such (`start-reached`), and every list of calls leaves such (`steps-reached`). Assumes
+-- nothing.
 use mathlib.Core.Path.{_≡_, refl, sym, ap, subst, _∙_}
 use mathlib.Core.Bool.{Bool, true, false, cond, false≢true}
 use mathlib.Core.List.{List, [], _∷_}
@@ -11,49 +11,40 @@ use Rattle.model.specs.Graph.{Graph, emptyGraph}
 use Rattle.model.specs.Calls.{Outcome, call, readInto, seedChild}
 use Rattle.model.specs.Arena.{arenaBytes, countIn, tabulate, nodeIn, childrenIn, decode, encode}
 use Rattle.model.specs.ArenaCalls.{ValidArena, arenaAfter}
-use Rattle.laws.proofs.GraphDemand3 as model
+use Rattle.laws.proofs.LegalGraphs.{Legal, empty-legal}
+use Rattle.laws.proofs.LegalAlike.{seeding-legal}
+use Rattle.laws.proofs.CallsKeepLegal.{reading-legal, call-keeps-legal}
 use Rattle.arena.proofs.Encodable.{Encodable}
 use Rattle.deepening.specs.ChildNames.{seedFrom}
-use Rattle.call_sequences.proofs.KeptFits.{FinalUnlessShallow}
 use Rattle.call_sequences.proofs.DeepeningKeeps.{seeding-leaves}
-use Rattle.call_sequences.proofs.ReadingKeeps.{reading-encodable, reading-unordered}
-use Rattle.call_sequences.proofs.KeepEncodable.{call-keeps, Arena, arena-encodable, ArenaOf, encoded-arena}
+use Rattle.call_sequences.proofs.ReadingKeeps.{reading-encodable}
+use Rattle.call_sequences.proofs.KeepEncodable.{Arena, arena-encodable, ArenaOf, encoded-arena}
 use Rattle.call_sequences.specs.Demand3.{Slice, Write, reading, outcome, step, steps, Lent, seeding, Start, empty, read, seeded}
-use Rattle.call_sequences.proofs.StepGraphs.{callOf, isSized, graphStep, graphSteps, call-fits, left-accepted, into-whole, steps-arena}
-use Rattle.call_sequences.proofs.GrownGraphs.{Grown, grown-start, grown-call, grown-seeded}
+use Rattle.call_sequences.proofs.StepGraphs.{callOf, isSized, graphStep, graphSteps, left-accepted, into-whole, steps-arena}
 
 pub record Reached (bs : List ℕ) : Type 0 where
   pub arena : Arena bs
-  pub grown : Grown (decode bs)
-  pub final : FinalUnlessShallow (decode bs)
+  pub legal : Legal (decode bs)
 
--- an arena that holds a graph which is grown
-holds-reached : (g : Graph) (bs : List ℕ) → ArenaOf g bs → Grown g → FinalUnlessShallow g → Reached bs
-holds-reached g bs holds grown final = record {
-  arena = holds .arena;
-  grown = subst Grown (sym (holds .graph)) grown;
-  final = subst FinalUnlessShallow (sym (holds .graph)) final;
-}
+holds-reached : (g : Graph) (bs : List ℕ) → ArenaOf g bs → Legal g → Reached bs
+holds-reached g bs holds legal = record { arena = holds .arena; legal = subst Legal (sym (holds .graph)) legal }
 
 -- ---- A list of calls
 
-grown-step : (c : Write) (g : Graph) → Encodable g → Grown g × FinalUnlessShallow g
-    → Encodable (graphStep c g) × Grown (graphStep c g) × FinalUnlessShallow (graphStep c g)
-grown-step c g ok both = go (isSized c)
+legal-step : (c : Write) (g : Graph) → Legal g → Legal (graphStep c g)
+legal-step c g legal = go (isSized c)
   where
-    go : (t : Bool) → Encodable (cond t (call (callOf c) g .graph) g) × Grown (cond t (call (callOf c) g .graph) g)
-        × FinalUnlessShallow (cond t (call (callOf c) g .graph) g)
-    go true = let keeps = call-keeps (callOf c) g (call-fits c) ok in (keeps .encodable, grown-call (callOf c) g (both .0), keeps .final (both .1))
-    go false = (ok, both .0, both .1)
+    go : (t : Bool) → Legal (cond t (call (callOf c) g .graph) g)
+    go true = call-keeps-legal (callOf c) g legal
+    go false = legal
 
-grown-steps : (cs : List Write) (g : Graph) → Encodable g → Grown g × FinalUnlessShallow g → Grown (graphSteps cs g) × FinalUnlessShallow (graphSteps cs g)
-grown-steps [] g ok both = both
-grown-steps (c ∷ cs) g ok both = let next = grown-step c g ok both in grown-steps cs (graphStep c g) (next .0) (next .1, next .2)
+legal-steps : (cs : List Write) (g : Graph) → Legal g → Legal (graphSteps cs g)
+legal-steps [] g legal = legal
+legal-steps (c ∷ cs) g legal = legal-steps cs (graphStep c g) (legal-step c g legal)
 
 pub steps-reached : (cs : List Write) (bs : List ℕ) → Reached bs → Reached (steps cs bs)
 steps-reached cs bs r =
-    let after = grown-steps cs (decode bs) (arena-encodable bs (r .arena)) (r .grown, r .final) in
-    holds-reached (graphSteps cs (decode bs)) (steps cs bs) (steps-arena cs bs (r .arena)) (after .0) (after .1)
+    holds-reached (graphSteps cs (decode bs)) (steps cs bs) (steps-arena cs bs (r .arena)) (legal-steps cs (decode bs) (r .legal))
 
 -- ---- The starts
 
@@ -88,21 +79,17 @@ seed-whole child from into opened whole =
 
 -- an arena of any content that is filled with what an accepted call came to
 filled : (o met : Outcome) (into : List ℕ) → Lent into → o ≡ met → o .refused ≡ 0
-    → (met .refused ≡ 0 → Encodable (met .graph) × Grown (met .graph) × FinalUnlessShallow (met .graph)) → Reached (arenaAfter o into)
+    → (met .refused ≡ 0 → Encodable (met .graph) × Legal (met .graph)) → Reached (arenaAfter o into)
 filled o met into lent same accepted new =
     let passed : met .refused ≡ 0 = ap (λ (o : Outcome). o .refused) (sym same) ∙ accepted in
     let fine = new passed in
     rw (same, left-accepted met into passed)
-    (holds-reached (met .graph) (encode (met .graph) into) (encoded-arena (met .graph) into (fine .0) (lent .bytes) (lent .whole)) (fine .1) (fine .2))
+    (holds-reached (met .graph) (encode (met .graph) into) (encoded-arena (met .graph) into (fine .0) (lent .bytes) (lent .whole)) (fine .1))
 
 read-reached : (snapshot : Slice) (into : List ℕ) → Lent into → outcome (reading snapshot) into .refused ≡ 0 → Reached (step (reading snapshot) into)
 read-reached snapshot into lent accepted =
     filled (outcome (reading snapshot) into) o into lent (into-whole o into (lent .whole)) accepted
-    (λ z. (
-      reading-encodable (snapshot .bytes) (snapshot .each) emptyGraph z,
-      grown-start (o .graph) (model.read (snapshot .bytes) emptyGraph z refl),
-      reading-unordered (snapshot .bytes) (snapshot .each) emptyGraph z,
-    ))
+    (λ z. (reading-encodable (snapshot .bytes) (snapshot .each) emptyGraph z, reading-legal (snapshot .bytes) emptyGraph z))
   where
     o : Outcome
     o = readInto (snapshot .bytes) emptyGraph
@@ -112,12 +99,14 @@ seed-reached : (child : Slice) (from into : List ℕ) → Reached from → Lent 
 seed-reached child from into r lent accepted =
     filled (seeding child from into) (seedChild (child .bytes) (decode from) emptyGraph) into lent
     (seed-whole child from into (r .arena .opened) (lent .whole)) accepted
-    (λ z. let leaves = seeding-leaves (child .bytes) (child .each) (decode from) emptyGraph (arena-encodable from (r .arena)) z in
-    (leaves .0, grown-seeded (child .bytes) (decode from) emptyGraph (r .grown) z, leaves .1 (r .final)))
+    (λ z. (
+      seeding-leaves (child .bytes) (child .each) (decode from) emptyGraph (arena-encodable from (r .arena)) z,
+      seeding-legal (child .bytes) (decode from) emptyGraph (r .legal) z,
+    ))
 
 empty-reached : (bs : List ℕ) → Arena bs → countIn bs ≡ 0 → Reached bs
 empty-reached bs a none =
-    holds-reached emptyGraph bs (record { arena = a; graph = no-node bs a none }) (grown-start emptyGraph (model.empty refl)) (λ e. absurd (false≢true e))
+    holds-reached emptyGraph bs (record { arena = a; graph = no-node bs a none }) empty-legal
 
 pub start-reached : (bs : List ℕ) → Start bs → Reached bs
 start-reached bs (empty lent holds none) =

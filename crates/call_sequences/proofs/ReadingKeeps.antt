@@ -1,7 +1,6 @@
 -- Reading a snapshot leaves an encodable graph: that of the nodes read, or the old one where it is
 -- refused (`reading-keeps`). Assumes nothing.
-use mathlib.Core.Path.{_≡_, refl, sym, ap, subst, _∙_}
-use mathlib.Core.Bool.{false≢true}
+use mathlib.Core.Path.{_≡_, refl, sym, ap, subst}
 use mathlib.Core.List.{List}
 use Prim.Native.Nat.{ℕ, zero, suc}
 use native.Mathlib.Omega.{arith}
@@ -9,9 +8,9 @@ use Rattle.model.specs.Graph.{Graph}
 use Rattle.model.specs.Calls.{Outcome, readInto}
 use Rattle.laws.proofs.BigEndianLaws.{Bytes}
 use Rattle.laws.proofs.SnapshotLaws.{read-nodes-fit}
-use Rattle.laws.proofs.SnapshotReadLaws.{accepted-read, refused-read-keeps, accepted-read-fresh}
+use Rattle.laws.proofs.SnapshotReadLaws.{accepted-read, refused-read-keeps}
 use Rattle.arena.proofs.Encodable.{Encodable}
-use Rattle.call_sequences.proofs.KeptFits.{FinalUnlessShallow, Keeps}
+use Rattle.call_sequences.proofs.KeptFits.{Keeps}
 use Rattle.snapshot.proofs.ReadBack.{built-encodable}
 
 module _ (bytes : List ℕ) (fit : Bytes bytes) (old : Graph) where
@@ -22,9 +21,6 @@ module _ (bytes : List ℕ) (fit : Bytes bytes) (old : Graph) where
       subst Encodable (sym (ap (λ (o : Outcome). o .graph) (read .answer)))
       (built-encodable (read .nodes) (read-nodes-fit bytes (read .nodes) fit (read .read)) (read .grow))
 
-  pub reading-unordered : readInto bytes old .refused ≡ 0 → FinalUnlessShallow (readInto bytes old .graph)
-  reading-unordered e o = absurd (false≢true (sym (accepted-read-fresh bytes old e .not-ordered) ∙ o))
-
   pub reading-keeps : Encodable old → Keeps old (readInto bytes old)
   reading-keeps ok = go (readInto bytes old .refused) refl
     where
@@ -32,7 +28,5 @@ module _ (bytes : List ℕ) (fit : Bytes bytes) (old : Graph) where
       same h = ap (λ (o : Outcome). o .graph) (refused-read-keeps bytes old h)
 
       go : (r : ℕ) → readInto bytes old .refused ≡ r → Keeps old (readInto bytes old)
-      go zero e = record { encodable = reading-encodable e; final = λ old. reading-unordered e; refused = same }
-      go (suc r) e =
-          let stays = same (λ z. omega arith) in
-          record { encodable = rw stays ok; final = λ final. rw stays final; refused = same }
+      go zero e = record { encodable = reading-encodable e; refused = same }
+      go (suc r) e = record { encodable = rw (same (λ z. omega arith)) ok; refused = same }

@@ -1,24 +1,20 @@
 -- Demand 3 (document 00), of the bytes of an arena: the calls that write a graph, what a list of
--- them leaves, where it may begin, and the claim, its words beside each clause. Each call is the
--- one function that its contract cites (crates/call_sequences); what an arena holds is `decode`.
--- The theorem is `demand3` in proofs/Demand3Proof.antt.
+-- them leaves, where it may begin, and the claim. Its clauses about the graph, with the demand's
+-- words, are those of laws/specs/Demand3Clauses.antt. Each call is the one function that its
+-- contract cites (crates/call_sequences); what an arena holds is `decode`. The theorem is `demand3`
+-- in proofs/Demand3Proof.antt.
 use mathlib.Core.Path.{_≡_}
-use mathlib.Core.Bool.{Bool, true, false}
-use mathlib.Core.List.{List, [], _∷_, map}
+use mathlib.Core.Bool.{true}
+use mathlib.Core.List.{List, [], _∷_}
 use Prim.Native.Nat.{ℕ, _<_}
 use lib.ListN.{length}
-use Rattle.model.specs.declared.Ordering.{Ordering}
-use Rattle.model.specs.declared.Ordering.the-variants.{Less}
-use Rattle.model.specs.Lists.{All, Pairs, count, filter}
-use Rattle.model.specs.Node.{Node}
-use Rattle.model.specs.Graph.{emptyGraph, size, nodeAt, childrenOf}
-use Rattle.model.specs.Strength.{viewOf, compareNodeStrength}
-use Rattle.model.specs.Order as order
-use Rattle.model.specs.Culling.{isMarked}
-use Rattle.model.specs.Erasing.{stays, erasable, newNumber, renumbered}
+use Rattle.model.specs.Lists.{All}
+use Rattle.model.specs.Graph.{emptyGraph, size}
+use Rattle.model.specs.Erasing.{erasable}
 use Rattle.model.specs.Calls.{Outcome, initRoot, addChild, finalizeStrengthOrder, cull, appendChildName, readInto}
 use Rattle.model.specs.Arena.{arenaBytes, countIn, decode, holdsGraph}
 use Rattle.model.specs.ArenaCalls.{ValidArena, onArena, intoArena, arenaAfter}
+use Rattle.laws.specs.Demand3Clauses.{Listed, Erased, Deepened}
 use Rattle.nodes.specs.Describing.{descOf}
 use Rattle.nodes.specs.declared.description.NodeDesc.{NodeDesc}
 use Rattle.nodes.specs.declared.description.Depth.{Depth}
@@ -108,18 +104,7 @@ pub data Start : List ℕ → Type 0 where
   seeded : {bs : List ℕ} (from : List ℕ) (cs : List Write) (child : Slice) (into : List ℕ) → Start from → Lent into
       → seeding child (steps cs from) into .refused ≡ 0 → bs ≡ arenaAfter (seeding child (steps cs from) into) into → Start bs
 
--- ---- "If the graph is ordered, its list has each node once, and of any two the earlier is the stronger."
-
--- what comparing two nodes answers
-abbrev pub compares : List ℕ → ℕ → ℕ → Ordering
-compares bs a b = compareNodeStrength (viewOf (decode bs)) a b
-
-pub record Listed (bs : List ℕ) : Type 0 where
-  pub each-once : (n : ℕ) → n < size (decode bs) → count n (decode bs .order) ≡ 1
-  pub nothing-else : All (λ n. n < size (decode bs)) (decode bs .order)
-  pub earlier-stronger : Pairs (λ a b. compares bs a b ≡ Less) (decode bs .order)
-
--- ---- "If its erasable nodes are erased"
+-- ---- The calls that the clauses name
 
 -- the erasable set is given to erasing; the arena after it
 abbrev pub erasingAll : List ℕ → Outcome
@@ -128,70 +113,21 @@ erasingAll bs = eraseIn (erasable (decode bs)) bs
 abbrev pub rest : List ℕ → List ℕ
 rest bs = arenaAfter (erasingAll bs) bs
 
--- what stays, and its new number
-abbrev pub kept : List ℕ → ℕ → Bool
-kept bs = stays (erasable (decode bs))
-
-abbrev pub new : List ℕ → ℕ → ℕ
-new bs = newNumber (kept bs)
-
-abbrev pub node : List ℕ → ℕ → Node
-node bs n = nodeAt (decode bs .nodes) n
-
--- "a set of marked nodes that no node outside it had as parent or origin"
-pub record Free (bs : List ℕ) (goes : ℕ → Bool) : Type 0 where
-  pub marked : (n : ℕ) → n < size (decode bs) → goes n ≡ true → isMarked (decode bs .nodes) n ≡ true
-  pub no-parent : (n : ℕ) → 0 < n → n < size (decode bs) → goes n ≡ false → goes (node bs n .parent) ≡ false
-  pub no-origin : (n : ℕ) → 0 < n → n < size (decode bs) → goes n ≡ false → goes (node bs n .origin) ≡ false
-
--- "ordering afresh changes nothing": the call is accepted and leaves every byte; and "Ordering
--- afresh sorts and walks anew, a finalized graph too"
-pub record Afresh (bs : List ℕ) : Type 0 where
+-- of the bytes, that "ordering afresh changes nothing": the call is accepted and leaves every byte
+pub record AfreshBytes (bs : List ℕ) : Type 0 where
   pub accepted : outcome ordering bs .refused ≡ 0
   pub bytes : step ordering bs ≡ bs
-  pub has-order : order.hasOrder (decode bs) ≡ true
-  pub anew : order.ordering (decode bs) ≡ decode bs
-
-pub record Erased (bs : List ℕ) : Type 0 where
-  -- erasing them is accepted, and answers how many are kept: the erased graph's own count
-  pub accepted : erasingAll bs .refused ≡ 0
-  pub answered : erasingAll bs .value ≡ size (decode (rest bs))
-  -- "every node that went was marked"
-  pub went-marked : (n : ℕ) → n < size (decode bs) → kept bs n ≡ false → isMarked (decode bs .nodes) n ≡ true
-  -- "none was parent or origin of a kept one"
-  pub parents-kept : (n : ℕ) → 0 < n → n < size (decode bs) → kept bs n ≡ true → kept bs (node bs n .parent) ≡ true
-  pub origins-kept : (n : ℕ) → 0 < n → n < size (decode bs) → kept bs n ≡ true → kept bs (node bs n .origin) ≡ true
-  -- "and every set of marked nodes that no node outside it had as parent or origin lies within what
-  -- went"
-  pub largest : (goes : ℕ → Bool) → Free bs goes → (n : ℕ) → n < size (decode bs) → goes n ≡ true → kept bs n ≡ false
-  -- "the rest stand as before": the fields a snapshot holds are unchanged but for the renumbering
-  -- of parent and origin; chains lose only what went
-  pub fields-stand : (n : ℕ) → n < size (decode bs) → kept bs n ≡ true → node (rest bs) (new bs n) ≡ renumbered (kept bs) (size (decode bs)) (node bs n)
-  pub chains-stand : (n : ℕ) → n < size (decode bs) → kept bs n ≡ true
-      → childrenOf (decode (rest bs)) (new bs n) ≡ map (new bs) (filter (kept bs) (childrenOf (decode bs) n))
-  -- "any two of them compare as before"
-  pub compare-as-before : (a b : ℕ) → a < size (decode bs) → b < size (decode bs) → kept bs a ≡ true → kept bs b ≡ true
-      → compares (rest bs) (new bs a) (new bs b) ≡ compares bs a b
-  -- "and, where the graph was ordered, its list is the old one without what went"
-  pub list-stands : decode bs .ordered ≡ true
-      → (decode (rest bs) .ordered ≡ true) × (decode (rest bs) .order ≡ map (new bs) (filter (kept bs) (decode bs .order)))
-  -- "and ordering afresh changes nothing"
-  pub afresh : decode bs .ordered ≡ true → Afresh (rest bs)
-
--- ---- "If instead the graph is finalized and is deepened by a child name, every pair compares as before."
-
-pub record Deepened (bs : List ℕ) (child : Slice) : Type 0 where
-  pub pairs-as-before : (a b : ℕ) → a < size (decode bs) → b < size (decode bs) → compares (step (deepening child) bs) a b ≡ compares bs a b
 
 -- ---- The claim
 
 pub record Demand3 (bs : List ℕ) : Type 0 where
   -- questions 1 and 2 never refuse the arena
   pub opened : ValidArena bs
-  pub listed : decode bs .ordered ≡ true → Listed bs
+  pub listed : decode bs .ordered ≡ true → Listed (decode bs)
   -- without a node 0 erasing is refused 3, and there is nothing to erase
-  pub erased : 0 < size (decode bs) → Erased bs
-  pub deepened : decode bs .finalized ≡ true → (child : Slice) → Deepened bs child
+  pub erased : 0 < size (decode bs) → Erased (decode bs) (erasingAll bs .refused) (erasingAll bs .value) (decode (rest bs))
+  pub afresh : 0 < size (decode bs) → decode bs .ordered ≡ true → AfreshBytes (rest bs)
+  pub deepened : decode bs .finalized ≡ true → (child : Slice) → Deepened (decode bs) (decode (step (deepening child) bs))
 
 -- "For every list of the calls that write a graph ..., refused ones included, ... this holds after
 -- it."

@@ -1,6 +1,7 @@
 // The answers that every kind of line shares.
 use crate::output::put;
 use crate::output::put_number;
+use model::NodeId;
 use model::NumberResult;
 use model::Refusal;
 use model::UnitResult;
@@ -41,7 +42,7 @@ pub fn put_numbered(out: &mut [u8], used: usize, answer: NumberResult) -> usize 
 
 // A node's number, `-` for none.
 pub fn put_node(out: &mut [u8], used: usize, number: u32) -> usize {
-    if number == 4294967295 {
+    if number == NodeId::INVALID.0 {
         return put(out, used, b"-");
     }
     put_number(out, used, number as u64)

@@ -89,7 +89,7 @@ fn with_digit(value: u32, digit: u8) -> Number {
         return Number::Bad;
     }
     let next = value as u64 * 10 + (digit - b'0') as u64;
-    if 4294967295 < next {
+    if (u32::MAX as u64) < next {
         return Number::Bad;
     }
     Number::Value(next as u32)

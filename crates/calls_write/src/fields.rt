@@ -11,14 +11,14 @@ fn most(k: usize) -> u32 {
     match k {
         1 | 2 | 10 => 255,
         6..=9 => 65535,
-        _ => 4294967295,
+        _ => u32::MAX,
     }
 }
 
 // What `-` stands for in field k: no node, or a number that is no depth.
 fn missing(k: usize) -> Number {
     match k {
-        0 | 5 => Number::Value(4294967295),
+        0 | 5 => Number::Value(NodeId::INVALID.0),
         6 => Number::Value(65536),
         _ => Number::Bad,
     }

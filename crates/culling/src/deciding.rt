@@ -25,7 +25,7 @@ fn keeps_inherit(arena: &[u8], root: u32, n: u32) -> bool
     requires { ⌜ ValidNodeAndRoot (now arena) root n ⌝ }
     ensures { λ r. ⌜ r ≡ keepsInherit (decode (now (arena .entry)) .nodes) n ⌝ }
 {
-    if view::arc(arena, n) != 1 {
+    if view::arc(arena, n) != arena::arcs::INHERIT {
         return false;
     }
     if !view::in_local_stack(arena, root, n) {
@@ -41,7 +41,7 @@ fn is_kept(arena: &[u8], root: u32, n: u32) -> bool
     requires { ⌜ ValidNodeAndRoot (now arena) root n ⌝ }
     ensures { λ r. ⌜ r ≡ isKept (decode (now (arena .entry)) .nodes) n ⌝ }
 {
-    if view::arc(arena, n) == 0 {
+    if view::arc(arena, n) == arena::arcs::ROOT {
         return true;
     }
     if view::depth_below(arena, n) == 0 {

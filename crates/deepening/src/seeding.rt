@@ -28,7 +28,7 @@ fn seed_slot(from: &[u8], into: &mut [u8], n: u32, name: &[u8])
 {
     let mut path: [u8; 255] = [0; 255];
     let node = crate::sites::deepen_record(from, n, name, &mut path);
-    let end = (node.record_length as usize) - 27;
+    let end = (node.record_length as usize) - arena::offsets::PATH;
     arena::store_links(into, n, node);
     arena::store_record(into, n, node, &path[..end]);
 }

@@ -17,7 +17,7 @@ pub(crate) fn deepen_record(arena: &[u8], n: u32, name: &[u8], path: &mut [u8]) 
     path::join::put_joined(old, name, at, path);
     let mut node = arena::load_node(arena, n);
     node.prim_count += 1;
-    node.record_length = 27 + ((at + name.len()) as u16);
+    node.record_length = (arena::offsets::PATH + (at + name.len())) as u16;
     node
 }
 
@@ -28,7 +28,7 @@ fn deepen_site(arena: &mut [u8], n: u32, name: &[u8])
 {
     let mut path: [u8; 255] = [0; 255];
     let node = deepen_record(arena, n, name, &mut path);
-    let end = (node.record_length as usize) - 27;
+    let end = (node.record_length as usize) - arena::offsets::PATH;
     arena::store_record(arena, n, node, &path[..end]);
 }
 

@@ -43,9 +43,9 @@ fn mark_all(arena: &[u8], count: u32, set: &mut [u8])
     }
 }
 
-// Spares the parent and the origin of each node that stays: both are lower, so one pass from the
-// highest node down finds every one.
-fn spare(arena: &[u8], count: u32, set: &mut [u8])
+// Unmarks what a node that stays reaches by parents and origins: both are lower than the node, so
+// one pass from the highest down finds every one.
+fn unmark_reachable(arena: &[u8], count: u32, set: &mut [u8])
     requires { ⌜ ValidArena (now arena) × (count ≡ countIn (now arena)) ⌝ }
     requires { ⌜ MarkedBelow (decode (now arena)) 1024 (now set) ⌝ }
     ensures { λ _. ⌜ now (set .exit) ≡ erasable (decode (now (arena .entry))) ⌝ }
@@ -70,7 +70,7 @@ pub fn erasable(arena: &[u8], set: &mut [u8])
 {
     let count = arena::count(arena);
     mark_all(arena, count, set);
-    spare(arena, count, set);
+    unmark_reachable(arena, count, set);
 }
 
 // Whether the set's byte of node n is right: 0, and the node's parent and origin stay, or 1, and
@@ -95,7 +95,7 @@ fn spares_one(arena: &[u8], set: &[u8], n: u32) -> bool
     if byte > 1 {
         return false;
     }
-    view::arc(arena, n) != 0
+    view::arc(arena, n) != arena::arcs::ROOT
 }
 
 // Whether the set may be erased: question 11.

@@ -8,7 +8,7 @@ use Prim.Native.Nat.{ℕ}
 use native.Mathlib.Omega.{arith}
 use Rattle.model.specs.Graph.{Graph}
 use Rattle.model.specs.Calls.{Call, starting, adding, orders, culls, erasing, deepening, reading, call, calls, readInto}
-use Rattle.laws.proofs.GraphDemand3.{Start, empty, read, seeded}
+use Rattle.laws.specs.GraphDemand3.{Start, empty, read, seeded}
 use Rattle.laws.proofs.LegalGraphs.{Legal, empty-legal}
 use Rattle.laws.proofs.LegalAdded.{LegalOrRefused, starting-keeps-legal, adding-keeps-legal, reading-legal-or-refused}
 use Rattle.laws.proofs.LegalAlike.{ordering-keeps-legal, culling-keeps-legal, deepening-keeps-legal, seeding-legal}

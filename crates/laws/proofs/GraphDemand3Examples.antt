@@ -16,10 +16,11 @@ use Rattle.model.specs.Culling.{keepsInherit, canCull, cullSubtreesWithoutOpini
 use Rattle.model.specs.Erasing.{erasable, canErase, eraseBy}
 use Rattle.model.specs.Deepening.{deepen}
 use Rattle.model.specs.Snapshot.{recordBody, writeSnapshot, readRecord, readRecords, readSnapshot}
-use Rattle.model.specs.Calls.{Call, starting, adding, orders, culls, deepening, calls, initRoot, addChild, finalizeStrengthOrder, cull, eraseSet, appendChildName, seedChild, readInto}
+use Rattle.model.specs.Calls.{Call, starting, adding, orders, culls, deepening, call, calls, initRoot, addChild, finalizeStrengthOrder, cull, eraseSet, appendChildName, seedChild, readInto}
 use Rattle.model.proofs.Text.{bytes}
 use Rattle.model.proofs.ExampleGraphs.{sampleNode}
-use Rattle.laws.proofs.GraphDemand3.{Listed, kept, rest, Erased, Deepened, Demand3, empty, read, seeded}
+use Rattle.laws.specs.Demand3Clauses.{Listed, kept, Erased, Deepened}
+use Rattle.laws.specs.GraphDemand3.{erasingAll, rest, Demand3, empty, read, seeded}
 use Rattle.laws.proofs.GraphDemand3Proof.{demand3}
 
 -- a node of stack 0 without flags, with its parent for origin
@@ -68,13 +69,13 @@ example-demand = demand3 emptyGraph (empty refl) grown
 example-listed : Listed example
 example-listed = example-demand .listed (example-meets .ordered)
 
-example-erased : Erased example
+example-erased : Erased example (erasingAll example .refused) (erasingAll example .value) (rest example)
 example-erased = example-demand .erased (example-meets .some-node)
 
 example-afresh : ordering (rest example) .order ≡ 0 ∷ 1 ∷ 3 ∷ 2 ∷ []
-example-afresh = rw (example-erased .afresh (example-meets .ordered) .2) (example-meets .order-left)
+example-afresh = rw (example-erased .afresh (example-meets .ordered) .anew) (example-meets .order-left)
 
-example-deepened : Deepened example (bytes "/d")
+example-deepened : Deepened example (call (deepening (bytes "/d")) example .graph)
 example-deepened = example-demand .deepened (example-meets .finalized) (bytes "/d")
 
 -- ---- The other starts: a graph read back, which a list of calls then orders, and one seeded, still finalized

@@ -1,5 +1,5 @@
--- Demand 3 (GraphDemand3.antt): every list of calls leaves a legal graph (CallsKeepLegal.antt), and
--- each clause holds of every legal graph. Assumes nothing.
+-- Demand 3 (specs/GraphDemand3.antt): every list of calls leaves a legal graph
+-- (CallsKeepLegal.antt), and each clause holds of every legal graph. Assumes nothing.
 use mathlib.Core.Path.{_≡_, refl, sym, ap, _∙_}
 use mathlib.Core.Bool.{Bool, true, false, not}
 use mathlib.Core.List.{List}
@@ -8,25 +8,56 @@ use lib.ListN.{length}
 use borrow.Author.Tests.{lt-ltb, not-false}
 use Rattle.model.specs.Path.{lastName}
 use Rattle.model.specs.Graph.{Graph, size}
-use Rattle.model.specs.Strength.{viewOf, compareNodeStrength}
+use Rattle.model.specs.Strength.{view, viewOf, compareNodeStrength}
 use Rattle.model.specs.Order.{ordering}
 use Rattle.model.specs.Culling.{isErasable}
 use Rattle.model.specs.Erasing.{newNumber, eraseBy}
 use Rattle.model.specs.Deepening.{appendChildNameToAllSites}
-use Rattle.model.specs.Calls.{Outcome, calls, deepenQuestions, appendChildName, eraseSet}
-use Rattle.laws.proofs.GraphDemand3.{Listed, kept, erasingAll, rest, Free, Erased, Deepened, Demand3, Demand3AfterEveryList}
+use Rattle.model.specs.Calls.{Outcome, deepening, call, calls, deepenQuestions, appendChildName, eraseSet}
+use Rattle.laws.specs.Demand3Clauses.{Listed, kept, Free, Stand, Afresh, Erased, Deepened}
+use Rattle.laws.specs.GraphDemand3.{erasingAll, rest, Demand3, Demand3AfterEveryList}
+use Rattle.laws.proofs.Views.{LegalView}
 use Rattle.laws.proofs.StrengthCongruence.{nodes-alike}
-use Rattle.laws.proofs.OrderLaws.{InOrder, in-order-ordered, in-order-has-order, in-order-afresh, stronger-antisymmetric}
+use Rattle.laws.proofs.OrderLaws.{in-order-ordered, in-order-has-order, in-order-afresh, stronger-antisymmetric}
 use Rattle.laws.proofs.ErasableLaws.{Spared, erasable-spared, erasable-largest}
 use Rattle.laws.proofs.Spares.{Spares}
 use Rattle.laws.proofs.EraseSets.{erasable-stays, erasable-spares, erasable-accepted}
-use Rattle.laws.proofs.EraseLaws.{size-erased, node-erased, children-erased, children-length-erased, order-erased, marks-erased, erase-looks-like}
+use Rattle.laws.proofs.EraseLaws.{size-erased, node-erased, children-erased, order-erased, marks-erased, erase-looks-like}
 use Rattle.laws.proofs.DeepenLaws.{deepen-looks-like}
 use Rattle.laws.proofs.LegalGraphs.{Legal, legal-reached, roots-unculled}
 use Rattle.laws.proofs.LegalAlike.{deepens-by-name}
-use Rattle.laws.proofs.LegalErased.{erased-in-order}
+use Rattle.laws.proofs.LegalErased.{erased-legal}
 use Rattle.laws.proofs.AcceptedQuestions.{Accepted, decided-keeps}
 use Rattle.laws.proofs.CallsKeepLegal.{every-list-legal}
+
+-- ---- "The rest stand as before", whatever set went that spares what it must
+
+pub erased-stand : (kept : ℕ → Bool) (g : Graph) → Spares g kept → LegalView (size g) (view (g .nodes)) → length (g .children) ≡ size g
+    → Stand kept g (eraseBy kept g)
+erased-stand kept g spares links lengths = record {
+  fields = node-erased kept g;
+  chains = children-erased kept g lengths;
+  compare = nodes-alike links (erase-looks-like kept g spares links);
+}
+
+-- ---- "Ordering afresh changes nothing"
+
+legal-afresh : (g : Graph) → Legal g → g .ordered ≡ true → Afresh g
+unfolding ordering
+legal-afresh g legal e =
+    let antisymmetric = stronger-antisymmetric g in
+    let same = in-order-afresh g antisymmetric (legal .lengths) (legal .in-order e) in
+    record {
+      has-order = in-order-has-order g antisymmetric (legal .lengths) (legal .in-order e);
+      anew = λ i. record {
+        nodes = g .nodes;
+        children = same .0 i;
+        order = same .1 i;
+        ordered = sym e i;
+        finalized = sym (legal .ordered-final e) i;
+        shallow = g .shallow;
+      };
+    }
 
 module _ (g : Graph) (legal : Legal g) where
   -- ---- "If the graph is ordered"
@@ -55,7 +86,7 @@ module _ (g : Graph) (legal : Legal g) where
     gone-erasable : (n : ℕ) → n < size g → kept g n ≡ false → isErasable (g .nodes) n ≡ true
     gone-erasable n h k = not-false (isErasable (g .nodes) n) (sym (erasable-stays g (legal .few-nodes) n h) ∙ k)
 
-    legal-erased : Erased g
+    legal-erased : Erased g (erasingAll g .refused) (erasingAll g .value) (rest g)
     legal-erased = record {
       accepted = ap (λ (o : Outcome). o .refused) erasing-all;
       answered = ap (λ (o : Outcome). o .value) erasing-all ∙ sym (ap size rest-erased ∙ size-erased (kept g) g);
@@ -64,32 +95,18 @@ module _ (g : Graph) (legal : Legal g) where
       origins-kept = spares .origin;
       largest = λ goes free n h e.
           erasable-stays g (legal .few-nodes) n h ∙ ap not (erasable-largest (g .nodes) (legal .links) some-node goes (spared goes free) n h e);
-      fields-stand = λ n h k. rw rest-erased (node-erased (kept g) g n h k);
-      chains-stand = λ n h k. rw rest-erased (children-erased (kept g) g (legal .lengths) n h k);
-      compare-as-before = λ a b h l k j.
-          rw rest-erased (nodes-alike (legal .links) (erase-looks-like (kept g) g spares (legal .links)) a b h l k j);
+      rest-stands = rw rest-erased (erased-stand (kept g) g spares (legal .links) (legal .lengths));
       list-stands = λ e. rw rest-erased (marks-erased (kept g) g .0 ∙ e, order-erased (kept g) g);
-      afresh = λ e. rw rest-erased (in-order-has-order after (stronger-antisymmetric after) lengths (again e), changes e .0, changes e .1);
+      afresh = λ e.
+          rw rest-erased (legal-afresh (eraseBy (kept g) g) (erased-legal (kept g) g legal spares some-node) (marks-erased (kept g) g .0 ∙ e));
     }
       where
         spared : (goes : ℕ → Bool) → Free g goes → Spared (g .nodes) goes
         spared goes free = record { all-marked = free .marked; no-parent = free .no-parent; no-origin = free .no-origin }
 
-        after : Graph
-        after = eraseBy (kept g) g
-
-        lengths : length (after .children) ≡ size after
-        lengths = children-length-erased (kept g) g (legal .lengths)
-
-        again : g .ordered ≡ true → InOrder after
-        again e = erased-in-order (kept g) g legal spares (legal .in-order e)
-
-        changes : g .ordered ≡ true → (ordering after .children ≡ after .children) × (ordering after .order ≡ after .order)
-        changes e = in-order-afresh after (stronger-antisymmetric after) lengths (again e)
-
   -- ---- "If instead the graph is finalized and is deepened by a child name"
 
-  legal-deepened : g .finalized ≡ true → (child : List ℕ) → Deepened g child
+  legal-deepened : g .finalized ≡ true → (child : List ℕ) → Deepened g (call (deepening child) g .graph)
   unfolding appendChildName
   legal-deepened e child = record {
     pairs-as-before = λ a b h l.
@@ -103,7 +120,7 @@ module _ (g : Graph) (legal : Legal g) where
           nodes-alike (legal .links) (deepen-looks-like (lastName child) (deepens-by-name child g q) g (legal .links)
           (legal-reached g legal (legal .final e .1))) a b h l refl refl
 
-  legal-meets-demand : Demand3 g
+  pub legal-meets-demand : Demand3 g
   legal-meets-demand = record { listed = legal-listed; erased = legal-erased; deepened = legal-deepened }
 
 -- "For every list of the calls that write a graph ..., refused ones included, ... this holds after

@@ -137,6 +137,7 @@ module _ (g : Graph) (x : Node) (legal : Legal g) (new : Addable g x) where
     final = λ e. absurd (false≢true (sym (unordered-added g x .1) ∙ e));
     no-order = λ e. unordered-added g x .2;
     in-order = λ e. absurd (false≢true (sym (unordered-added g x .0) ∙ e));
+    ordered-final = λ e. absurd (false≢true (sym (unordered-added g x .0) ∙ e));
   }
     where
       under-0 : (n : ℕ) → n < size (withNode g x) → 0 < n → nodeAt (withNode g x .nodes) n .arc ≡ rootArc → nodeAt (withNode g x .nodes) n .parent ≡ 0

@@ -1,7 +1,7 @@
 -- Ordering, culling and deepening leave a graph legal: they keep the nodes, and of each node what a
 -- comparison sees. Assumes nothing.
 use mathlib.Core.Path.{_≡_, refl, sym, ap, _∙_}
-use mathlib.Core.Bool.{Bool, true, false, _||_, _&&_, cond, true≢false, and-eq-true-iff}
+use mathlib.Core.Bool.{Bool, true, false, not, _||_, _&&_, cond, true≢false, and-eq-true-iff}
 use mathlib.Core.List.{List, [], _∷_}
 use Prim.Native.Nat.{ℕ, zero, suc, _≤_, _<_}
 use native.Mathlib.Omega.{arith}
@@ -70,6 +70,7 @@ ordered-legal g some-node e legal = record {
   final = λ f. (refl, not-true (g .shallow) f);
   no-order = λ f. absurd (true≢false f);
   in-order = λ f. ordering-in-order g some-node e;
+  ordered-final = λ f. refl;
 }
 
 pub ordering-keeps-legal : (g : Graph) → Legal g → Legal (finalizeStrengthOrder g .graph)
@@ -128,6 +129,7 @@ module _ (g : Graph) (legal : Legal g) where
     no-order = λ e. rest-stays .1 ∙ legal .no-order (sym (rest-stays .2) ∙ e);
     in-order = λ e.
         in-order-alike g after legal same-size (rest-stays .0) (rest-stays .1) (culled-looks-like g) (legal .in-order (sym (rest-stays .2) ∙ e));
+    ordered-final = λ e. rest-stays .3 ∙ legal .ordered-final (sym (rest-stays .2) ∙ e) ∙ ap not (sym (rest-stays .4));
   }
     where
       node : (n : ℕ) → LegalNode (nodeAt (g .nodes) n) → LegalNode (nodeAt (after .nodes) n)
@@ -204,9 +206,13 @@ module _ (name : List ℕ) (is-name : Name name) (g : Graph) (legal : Legal g) (
         let both = legal .final f in
         (marks-deepened name g .2 ∙ (rw (both .0, f)), marks-deepened name g .1 ∙ both .1);
     no-order = λ e. marks-deepened name g .3 ∙ no-order (g .finalized) refl (sym (marks-deepened name g .2) ∙ e);
-    in-order = λ e. in-order (and-eq-true-iff (g .ordered) (g .finalized) .0 (sym (marks-deepened name g .2) ∙ e));
+    in-order = λ e. in-order (still-ordered e);
+    ordered-final = λ e. marks-deepened name g .0 ∙ legal .ordered-final (still-ordered e .0) ∙ ap not (sym (marks-deepened name g .1));
   }
     where
+      still-ordered : deepen name g .ordered ≡ true → (g .ordered ≡ true) × (g .finalized ≡ true)
+      still-ordered e = and-eq-true-iff (g .ordered) (g .finalized) .0 (sym (marks-deepened name g .2) ∙ e)
+
       no-order : (b : Bool) → g .finalized ≡ b → (g .ordered && b) ≡ false → cond b (g .order) [] ≡ []
       no-order true f e = absurd (true≢false (rw (legal .final f .0) at e))
       no-order false f e = refl

@@ -3,7 +3,7 @@
 -- siblings compare as before.
 -- Assumes nothing.
 use mathlib.Core.Path.{_≡_, refl, sym, ap, _∙_, subst}
-use mathlib.Core.Bool.{Bool, true, false, cond}
+use mathlib.Core.Bool.{Bool, true, false, not, cond}
 use mathlib.Core.List.{List, [], _∷_, map}
 use Prim.Native.Nat.{ℕ, suc, _≤_, _<_}
 use native.Mathlib.Omega.{arith}
@@ -160,6 +160,8 @@ module _ (kept : ℕ → Bool) (g : Graph) (legal : Legal g) (s : Spares g kept)
     no-order = λ e.
         order-erased kept g ∙ ap (λ (l : List ℕ). map (newNumber kept) (filter kept l)) (legal .no-order (sym (marks-erased kept g .0) ∙ e));
     in-order = λ e. erased-in-order (legal .in-order (sym (marks-erased kept g .0) ∙ e));
+    ordered-final = λ e.
+        marks-erased kept g .1 ∙ legal .ordered-final (sym (marks-erased kept g .0) ∙ e) ∙ ap not (sym (marks-erased kept g .2));
   }
 
 pub erasing-keeps-legal : (bytes : List ℕ) (g : Graph) → Legal g → Legal (eraseSet bytes g .graph)

@@ -1,9 +1,9 @@
 -- What every list of calls keeps of a graph: `Legal`. Question 2 asks all of it but `in-order`, in
 -- whose place it asks that a marked order has each node once ("A room may pass with an order never
--- computed"). That each call keeps it is in LegalAdded, LegalAlike, LegalErased and CallsKeepLegal;
+-- computed"), and `ordered-final`. That each call keeps it is in LegalAdded, LegalAlike, LegalErased and CallsKeepLegal;
 -- here is what follows from it at once. Assumes nothing.
 use mathlib.Core.Path.{_≡_, refl}
-use mathlib.Core.Bool.{true, false, false≢true}
+use mathlib.Core.Bool.{true, false, not, false≢true}
 use mathlib.Core.List.{[]}
 use Prim.Native.Nat.{ℕ, _≤_, _<_}
 use native.Mathlib.Omega.{arith}
@@ -61,6 +61,8 @@ pub record Legal (g : Graph) : Type 0 where
   -- a marked order is the walk of child lists that are sorted
   pub no-order : g .ordered ≡ false → g .order ≡ []
   pub in-order : g .ordered ≡ true → InOrder g
+  -- "Acceptance sets ordered, and finalized unless shallow"
+  pub ordered-final : g .ordered ≡ true → g .finalized ≡ not (g .shallow)
 
 pub empty-legal : Legal emptyGraph
 empty-legal = record {
@@ -77,6 +79,7 @@ empty-legal = record {
   final = λ e. absurd (false≢true e);
   no-order = λ e. refl;
   in-order = λ e. absurd (false≢true e);
+  ordered-final = λ e. absurd (false≢true e);
 }
 
 -- ---- What follows

@@ -51,6 +51,5 @@ pub mod LegalErased
 pub mod CallsKeepLegal
 pub mod PlacesExamples
 pub mod LegalGrows
-pub mod GraphDemand3
 pub mod GraphDemand3Proof
 pub mod GraphDemand3Examples

@@ -96,7 +96,7 @@ fn skipped_depth(arena: &[u8], root: u32, n: u32, table: &[u16]) -> u32
     requires { ⌜ Filling (now arena) (now table) root n 12 ⌝ }
     ensures { λ r. ⌜ Cell (skippedDepth (viewIn (now (arena .entry))) n) r ⌝ }
 {
-    if view::arc(arena, n) != 3 {
+    if view::arc(arena, n) != arena::arcs::RELOCATE {
         return cell(table, n, 1);
     }
     cell(table, view::parent(arena, n), 13)

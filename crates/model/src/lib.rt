@@ -25,7 +25,7 @@ impl NodeId {
     pub fn is_valid(self) -> bool
         ensures { λ r. ⌜ r ≡ not (eqb (self .0) invalid) ⌝ }
     {
-        self.0 != 4294967295
+        self.0 != NodeId::INVALID.0
     }
 }
 

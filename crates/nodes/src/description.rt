@@ -66,7 +66,7 @@ fn path_bytes(arena: &[u8], count: u32) -> usize
     let mut sum: usize = 0;
     let mut n: u32 = 0;
     while n < count {
-        sum += (arena::record_length(arena, n) as usize) - 27;
+        sum += (arena::record_length(arena, n) as usize) - arena::offsets::PATH;
         n += 1;
     }
     sum
@@ -122,7 +122,7 @@ pub fn added_record(arena: &[u8], desc: NodeDesc, prims: u8, path_length: usize)
         last_child: NodeId::INVALID,
         next_sibling: NodeId::INVALID,
         prim_count: prims,
-        record_length: 27 + (path_length as u16),
+        record_length: (arena::offsets::PATH + path_length) as u16,
         arc: desc.arc,
         flags: desc.flags,
         stack: desc.stack,

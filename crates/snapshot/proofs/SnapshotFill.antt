@@ -31,8 +31,8 @@ use Rattle.child_lists.proofs.EncodeOver.{header-covered, absorbed, added-unord
 use Rattle.snapshot.specs.SnapshotReading.{nodesOr, nodesRead, Exact}
 use Rattle.snapshot.proofs.SnapshotRecords.{recordPart, Reached, reached-none, node-lent, piece-long, reached-more}
 use Rattle.snapshot.proofs.CheckLaws.{built-more, built-sized}
-use Rattle.snapshot.specs.declared.fill.Ids.the-variants as Ids
-use Rattle.snapshot.specs.declared.fill.Tail.the-variants as Tail
+use Rattle.snapshot.specs.declared.record.Ids.the-variants as Ids
+use Rattle.snapshot.specs.declared.record.Tail.the-variants as Tail
 use Rattle.snapshot.specs.Filling.{idsOf, tailOf, NodeRead, CanAppendRecord}
 
 -- ---- A record's node

@@ -1,5 +1,5 @@
--- What the reader's last pass asks of its parts: the node of a record by value, a record that may
--- be appended, and an arena that may be filled.
+-- The node of a record by value, and what the reader's last pass asks: a record that may be
+-- appended, and an arena that may be filled.
 use mathlib.Core.Path.{_≡_}
 use mathlib.Core.List.{List}
 use Prim.Native.Nat.{ℕ, _≤_}
@@ -13,12 +13,12 @@ use Rattle.model.specs.ArenaCalls.{ValidArena}
 use Rattle.model.specs.Arena.{arenaBytes, countIn, decode}
 use Rattle.arena.specs.declared.Node.{Node}
 use Rattle.snapshot.specs.SnapshotReading.{nodesRead, Exact, Named}
-use Rattle.snapshot.specs.declared.fill.Ids.{Ids}
-use Rattle.snapshot.specs.declared.fill.Ids.the-variants as Ids
-use Rattle.snapshot.specs.declared.fill.Tail.{Tail}
-use Rattle.snapshot.specs.declared.fill.Tail.the-variants as Tail
-use Rattle.snapshot.specs.declared.fill.Taken.{Taken}
-use Rattle.snapshot.specs.declared.fill.Taken.the-variants as Taken
+use Rattle.snapshot.specs.declared.record.Ids.{Ids}
+use Rattle.snapshot.specs.declared.record.Ids.the-variants as Ids
+use Rattle.snapshot.specs.declared.record.Tail.{Tail}
+use Rattle.snapshot.specs.declared.record.Tail.the-variants as Tail
+use Rattle.snapshot.specs.declared.record.Taken.{Taken}
+use Rattle.snapshot.specs.declared.record.Taken.the-variants as Taken
 
 -- the numbers between the flags and the path, all of them there
 abbrev pub idsOf : List ℕ → Ids

@@ -4,6 +4,8 @@ use crate::fields;
 use crate::fields::Byte;
 use crate::fields::Field;
 use crate::fields::Short;
+use crate::record;
+use crate::record::Taken;
 use arena::offsets;
 use model::NumberResult;
 use model::Refusal;
@@ -13,13 +15,13 @@ use validate::Checked;
 use validate::RecordNumbers;
 ghost use mathlib.Core.Path.{_≡_};
 ghost use mathlib.Core.Bool.{_||_, _&&_};
-ghost use Prim.Native.Nat.{_+_, _≤_};
+ghost use Prim.Native.Nat.{_≤_};
 ghost use lib.Dec.{eqb, ltb};
-ghost use lib.ListN.{length, take, drop};
-ghost use Rattle.model.specs.Snapshot.{field, readRecord, readRecords, readSnapshot};
+ghost use lib.ListN.{length, drop};
+ghost use Rattle.model.specs.Snapshot.{readRecord, readRecords, readSnapshot};
 ghost use Rattle.path.specs.Tables.{Tables};
 ghost use Rattle.validate.specs.RecordCheck.{RecordChecked};
-ghost use Rattle.snapshot.specs.SnapshotReading.{countedAs, Exact, RecordAt, questionsOf, RecordsChecked};
+ghost use Rattle.snapshot.specs.SnapshotReading.{countedAs, Exact, questionsOf, RecordsChecked};
 
 // The rest of question 12: whether `count` records stand from byte 7 on, each as long as it says,
 // and nothing behind them.
@@ -64,16 +66,6 @@ pub fn check_lengths(bytes: &[u8]) -> NumberResult
     check_record_lengths(bytes, count as u32)
 }
 
-// The record at `at`, behind its length.
-pub fn record_at(bytes: &[u8], at: usize) -> &[u8]
-    requires { ⌜ RecordAt (now bytes) at ⌝ }
-    ensures { λ r. ⌜ now r ≡ take (field at 2 (now (bytes .entry))) (drop (at + 2) (now (bytes .entry))) ⌝ }
-{
-    let start = at + 2;
-    let end = start + (big_endian::read_u16(bytes, at) as usize);
-    &bytes[start..end]
-}
-
 // Whether there is a local root, with a node n of this arc more.
 fn with_root(has_root: bool, n: u32, arc: u8) -> bool
     ensures { λ r. ⌜ r ≡ (ltb 0 n && eqb arc 0) || «has_root» ⌝ }
@@ -87,33 +79,22 @@ fn with_root(has_root: bool, n: u32, arc: u8) -> bool
     has_root
 }
 
-// Questions 4 to 7 of a record. A field that is missing, which none is, refuses 12.
+// Questions 4 to 7 of a record. A field that is missing, which none is, refuses 12. The node's prim
+// count is not asked for.
 fn check_one(kinds: &[u8], pairs: &[u64], body: &[u8], before: Before) -> Checked
     requires { ⌜ Tables (now kinds) (now pairs) ⌝ }
-    requires { ⌜ (28 ≤ length (now body)) × (before .«path_bytes» ≤ 32768) ⌝ }
+    requires { ⌜ (28 ≤ length (now body)) × (length (now body) ≤ 282) × (before .«path_bytes» ≤ 32768) ⌝ }
     ensures { λ r. ⌜ RecordChecked (questionsOf before (readRecord (now (body .entry)))) (readRecord (now (body .entry)) .path) r ⌝ }
 {
-    let Byte::Value(arc) = fields::take_u8(body, offsets::ARC) else {
-        return Checked::Refused(Refusal::Snapshot);
-    };
-    let Byte::Value(flags) = fields::take_u8(body, offsets::FLAGS) else {
-        return Checked::Refused(Refusal::Snapshot);
-    };
-    let Field::Value(parent) = fields::take_u32(body, offsets::PARENT) else {
-        return Checked::Refused(Refusal::Snapshot);
-    };
-    let Field::Value(origin) = fields::take_u32(body, offsets::ORIGIN) else {
-        return Checked::Refused(Refusal::Snapshot);
-    };
-    let Byte::Value(has_specs) = fields::take_u8(body, offsets::HAS_SPECS) else {
+    let Taken::Node(node) = record::read_node(body, 0) else {
         return Checked::Refused(Refusal::Snapshot);
     };
     let numbers = RecordNumbers {
-        arc: arc,
-        flags: flags,
-        parent: parent,
-        origin: origin,
-        has_specs: has_specs,
+        arc: node.arc,
+        flags: node.flags,
+        parent: node.parent.0,
+        origin: node.origin.0,
+        has_specs: node.has_specs,
     };
     let path = &body[offsets::PATH..];
     validate::check_record(
@@ -137,7 +118,7 @@ pub fn check_records(bytes: &[u8], count: u32, prims: &mut [u8]) -> UnitResult
     let mut has_root = false;
     let mut n: u32 = 0;
     while n < count {
-        let record = record_at(bytes, at);
+        let record = record::record_at(bytes, at);
         let before = Before {
             count: n,
             path_bytes: path_bytes,

@@ -171,7 +171,7 @@ fn records_valid(arena: &[u8], count: u32) -> bool
         if !record_valid(&kinds, &pairs, arena, before, length) {
             return false;
         }
-        path_bytes += length - 27;
+        path_bytes += length - arena::offsets::PATH;
         root = root_with(n, arena::arc(arena, n), root);
         n += 1;
     }

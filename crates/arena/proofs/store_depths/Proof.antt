@@ -53,8 +53,9 @@ returns c =
     let second = third .before .before .before .before in
     let first = second .before .before .before .before in
     let a = first .before .before .before .args in
-    run-stored (a .at) 37 (bigEndian 2 (a .depth) ∷ bigEndian 2 (a .sibling) ∷ bigEndian 2 (a .restriction) ∷ [])
-    (bigEndian 2 (a .spec-from)) (a .arena .now) _ (omega (arith, first .before .before .before .pre))
+    let x = a .node in
+    run-stored (a .at) 37 (bigEndian 2 (x .depth) ∷ bigEndian 2 (x .sibling) ∷ bigEndian 2 (x .restriction) ∷ [])
+    (bigEndian 2 (x .«spec_from»)) (a .arena .now) _ (omega (arith, first .before .before .before .pre))
     (_, first .write-u16 .ensures, (_, second .write-u162 .ensures, (_, third .write-u163 .ensures, fourth .write-u164 .ensures)))
 
 pub store-depths-spec : {M : Type 1} → statement M

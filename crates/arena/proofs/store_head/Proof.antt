@@ -52,8 +52,8 @@ returns c =
     let first = second .before .before .before .before in
     let a = first .before .before .before .args in
     let count = ap (λ (p : List ℕ). stored (a .at + 16) p (a .arena .now)) (one-byte (a .prim-count) (omega arith)) in
-    run-stored (a .at) 16 ((a .prim-count ∷ []) ∷ bigEndian 2 (a .record-length) ∷ bigEndian 1 (a .arc) ∷ [])
-    (bigEndian 1 (a .flags)) (a .arena .now) _ (omega (arith, first .before .before .before .pre))
+    run-stored (a .at) 16 ((a .prim-count ∷ []) ∷ bigEndian 2 (a .node .«record_length») ∷ bigEndian 1 (a .node .arc) ∷ [])
+    (bigEndian 1 (a .node .flags)) (a .arena .now) _ (omega (arith, first .before .before .before .pre))
     (_, first .write-u8 .ensures ∙ count, (_, second .write-u16 .ensures, (_, third .write-u82 .ensures, fourth .write-u83 .ensures)))
 
 pub store-head-spec : {M : Type 1} → statement M

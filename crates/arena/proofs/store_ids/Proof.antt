@@ -53,8 +53,9 @@ returns c =
     let second = third .before .before .before .before in
     let first = second .before .before .before .before in
     let a = first .before .before .before .args in
-    run-stored (a .at) 21 (bigEndian 4 (a .stack) ∷ bigEndian 4 (a .layer) ∷ bigEndian 4 (a .parent) ∷ [])
-    (bigEndian 4 (a .origin)) (a .arena .now) _ (omega (arith, first .before .before .before .pre))
+    let x = a .node in
+    run-stored (a .at) 21 (bigEndian 4 (x .stack) ∷ bigEndian 4 (x .layer) ∷ bigEndian 4 (x .parent .0) ∷ [])
+    (bigEndian 4 (x .origin .0)) (a .arena .now) _ (omega (arith, first .before .before .before .pre))
     (_, first .write-u32 .ensures, (_, second .write-u322 .ensures, (_, third .write-u323 .ensures, fourth .write-u324 .ensures)))
 
 pub store-ids-spec : {M : Type 1} → statement M

@@ -10,7 +10,7 @@ use Rattle.model.specs.Arena.{slotAt}
 use Rattle.model.specs.Bytes.{stored}
 use Rattle.model.specs.Snapshot.{bigEndian, recordBody}
 use Rattle.laws.proofs.SnapshotLaws.{record-length}
-use Rattle.arena.specs.Slot.{nodeOf, headBytes, fourNumbers}
+use Rattle.arena.specs.Slot.{nodeOf, headBytes, idBytes, depthBytes}
 use Rattle.arena.proofs.StoreLaws.{run-stored}
 use Rattle.arena.proofs.store_record.Statement.{statement}
 use Rattle.arena.proofs.store_record.Tie as tie
@@ -65,9 +65,7 @@ returns c =
     let model = nodeOf x (a .path .now) in
     let length-right : x .«record_length» ≡ length (recordBody model) = s .pre .1 .0 ∙ sym (record-length model) in
     run-stored (slotAt (a .n)) 16
-    (headBytes (x .«prim_count») (x .«record_length») (x .arc) (x .flags) ∷ fourNumbers 4 (x .stack) (x .layer) (x .parent .0) (x .origin .0)
-    ∷ fourNumbers 2 (x .depth) (x .sibling) (x .restriction) (x .«spec_from») ∷ bigEndian 1 (x .«has_specs») ∷ [])
-    (a .path .now) (a .arena .now) _ (omega (arith, s .pre)) (
+    (headBytes (x .«prim_count») x ∷ idBytes x ∷ depthBytes x ∷ bigEndian 1 (x .«has_specs») ∷ []) (a .path .now) (a .arena .now) _ (omega (arith, s .pre)) (
       _,
       first .store-head .ensures,
       (

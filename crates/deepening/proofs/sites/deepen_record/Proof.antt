@@ -52,13 +52,13 @@ add-node-2 c =
     let s = c .before .before .before .before .before .before .before .before .before .before .before in
     omega (arith, ends (c .before .before .before .before .before .before), s .pre .0 .fits)
 
-cast-node : tie.Need-cast-node
-cast-node c =
+add-node-3 : tie.Need-add-node-3
+add-node-3 c =
     let s = c .before .before .before .before .before .before .before .before .before .before .before in
     omega (arith, ends (c .before .before .before .before .before .before), s .pre .0 .fits)
 
-add-node-3 : tie.Need-add-node-3
-add-node-3 c =
+cast-node : tie.Need-cast-node
+cast-node c =
     let s = c .before .before .before .before .before .before .before .before .before .before .before in
     omega (arith, ends (c .before .before .before .before .before .before), s .pre .0 .fits)
 
@@ -99,7 +99,7 @@ deepen-record-spec =
     load-node-requires
     add-node
     add-node-2
-    cast-node
     add-node-3
+    cast-node
     same-length
     returns)

@@ -11,11 +11,11 @@ number-or-requires c κs = search needs
 default-depth-requires : tie.Need-default-depth-requires
 default-depth-requires c κs = search needs
 
-cast-t11 : tie.Need-cast-t11
-cast-t11 c = search needs
+add-t11 : tie.Need-add-t11
+add-t11 c = search needs
 
-add-t12 : tie.Need-add-t12
-add-t12 c = search needs
+cast-t12 : tie.Need-cast-t12
+cast-t12 c = search needs
 
 number-or-requires-2 : tie.Need-number-or-requires-2
 number-or-requires-2 c κs = search needs
@@ -55,8 +55,8 @@ added-record-spec =
     (tie.spec
     number-or-requires
     default-depth-requires
-    cast-t11
-    add-t12
+    add-t11
+    cast-t12
     number-or-requires-2
     depth-or-requires
     returns)

@@ -1,5 +1,5 @@
--- `spare` meets its contract. The invariant of its loop: the nodes from `n` on have spared their
--- links. The measure is `n`. Assumes nothing.
+-- `unmark_reachable` meets its contract. The invariant of its loop: the nodes from `n` on have
+-- spared their links. The measure is `n`. Assumes nothing.
 use native.Mathlib.Omega.{arith}
 use mathlib.Core.Path.{_≡_, sym, _∙_}
 use Prim.Native.Nat.{_-_, _≤_, _<_}
@@ -11,8 +11,8 @@ use Rattle.arena.proofs.HeldArenas.{held}
 use Rattle.arena.proofs.ReadNodes.{sizes, has-slot}
 use Rattle.view.proofs.ViewLaws.{readable-parent, readable-origin}
 use Rattle.erasing.proofs.SpareLaws.{Sparing, sparing-start, sparing-kept, sparing-gone, sparing-ends}
-use Rattle.erasing.proofs.sets.spare.Statement.{statement}
-use Rattle.erasing.proofs.sets.spare.Tie as tie
+use Rattle.erasing.proofs.sets.unmark_reachable.Statement.{statement}
+use Rattle.erasing.proofs.sets.unmark_reachable.Tie as tie
 
 abbrev Inv-loop : tie.InvT-loop
 Inv-loop arena count set₀ n₀ set n = (n ≤ count) × Sparing (decode arena .nodes) n set
@@ -102,8 +102,8 @@ returns c =
     let l = c .before .loop in
     sparing-ends _ (fits (c .before .before .before .before)) (l .n) (l .set) (l .inv .1) (c .loop-test .left)
 
-pub spare-spec : {M : Type 1} → statement M
-spare-spec =
+pub unmark-reachable-spec : {M : Type 1} → statement M
+unmark-reachable-spec =
     tie.close
     (tie.spec
     Inv-loop

@@ -6,8 +6,8 @@ use borrow.Author.Needs.{needs}
 use native.Mathlib.Omega.{arith}
 use lib.ListN.{take, drop}
 use Rattle.model.specs.Snapshot.{field}
-use Rattle.snapshot.proofs.checks.record_at.Statement.{statement}
-use Rattle.snapshot.proofs.checks.record_at.Tie as tie
+use Rattle.snapshot.proofs.record.record_at.Statement.{statement}
+use Rattle.snapshot.proofs.record.record_at.Tie as tie
 
 add-start : tie.Need-add-start
 add-start c = search needs

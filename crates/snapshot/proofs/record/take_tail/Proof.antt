@@ -4,9 +4,9 @@ use borrow.Author.Needs.{needs}
 use native.Mathlib.Omega.{arith}
 use Rattle.snapshot.specs.SnapshotReading.{byteValue, shortValue}
 use Rattle.snapshot.proofs.FieldLaws.{taken, never-missing}
-use Rattle.snapshot.specs.declared.fill.Tail.the-variants.{Values}
-use Rattle.snapshot.proofs.fill.take_tail.Statement.{statement}
-use Rattle.snapshot.proofs.fill.take_tail.Tie as tie
+use Rattle.snapshot.specs.declared.record.Tail.the-variants.{Values}
+use Rattle.snapshot.proofs.record.take_tail.Statement.{statement}
+use Rattle.snapshot.proofs.record.take_tail.Tie as tie
 
 -- the function's entry, from each field on
 abbrev entry : tie.After-known-told → tie.Start

@@ -6,8 +6,8 @@ use native.Mathlib.Omega.{arith}
 use Rattle.snapshot.specs.SnapshotReading.{byteValue}
 use Rattle.snapshot.proofs.FieldLaws.{taken, never-missing}
 use Rattle.snapshot.proofs.SnapshotFill.{ids-there, tail-there, numbers-read}
-use Rattle.snapshot.proofs.fill.read_node.Statement.{statement}
-use Rattle.snapshot.proofs.fill.read_node.Tie as tie
+use Rattle.snapshot.proofs.record.read_node.Statement.{statement}
+use Rattle.snapshot.proofs.record.read_node.Tie as tie
 
 -- the function's entry, from each part on
 abbrev entry : tie.After-known-told → tie.Start

@@ -4,9 +4,9 @@ use borrow.Author.Needs.{needs}
 use native.Mathlib.Omega.{arith}
 use Rattle.snapshot.specs.SnapshotReading.{fieldValue}
 use Rattle.snapshot.proofs.FieldLaws.{taken, never-missing}
-use Rattle.snapshot.specs.declared.fill.Ids.the-variants.{Values}
-use Rattle.snapshot.proofs.fill.take_ids.Statement.{statement}
-use Rattle.snapshot.proofs.fill.take_ids.Tie as tie
+use Rattle.snapshot.specs.declared.record.Ids.the-variants.{Values}
+use Rattle.snapshot.proofs.record.take_ids.Statement.{statement}
+use Rattle.snapshot.proofs.record.take_ids.Tie as tie
 
 -- the function's entry, from each field on
 abbrev entry : tie.After-known-told → tie.Start
