@@ -8,7 +8,6 @@ mod CountLaws
 pub mod AppendEncodable
 pub mod EmptyArena
 pub mod EncodeOver
-pub mod EncodeStages
 pub mod AppendLinks
 pub mod AppendStores
 pub mod EncodeAppend
