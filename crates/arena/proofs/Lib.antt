@@ -1,6 +1,6 @@
 -- The laws of the layout: what each part and field is after `encode`, that `encode` and `decode`
--- undo each other, and what question 2 means. Then what the functions' proofs cite, and for callers
--- the fields of a slot.
+-- undo each other, how stores come to be an encoding, and what question 2 means. Then what the
+-- functions' proofs cite, and for callers an order stored and the fields of a slot.
 pub mod TabulateLaws
 pub mod ChainLaws
 pub mod Encodable
@@ -11,8 +11,10 @@ pub mod ArenaHolds
 pub mod HeldArenas
 pub mod ArenaBack
 pub mod HeldEncodable
+pub mod EncodeSteps
 pub mod ArenaExact
 pub mod ArenaExamples
 mod StoreLaws
+pub mod StoredEntries
 pub mod SlotLaws
 pub mod ReadNodes

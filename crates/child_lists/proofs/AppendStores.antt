@@ -2,7 +2,7 @@
 -- the header, the local root where the arc is Root, the links of the parent and of its old last
 -- child, and the new slot (`append-stores`). Assumes nothing.
 use mathlib.Core.Path.{_≡_, refl, sym, ap, subst, _∙_}
-use mathlib.Core.Logic.{inl, inr}
+use mathlib.Core.Logic.{inr}
 use mathlib.Core.Bool.{Bool, true, false, cond, _||_, _&&_, and-false}
 use mathlib.Core.List.{List, [], _∷_, _++_}
 use Prim.Native.Nat.{ℕ, zero, suc, _+_, _≤_, _<_}
@@ -13,19 +13,19 @@ use borrow.Author.Tests.{eqb-true, eqb-false, eq-eqb, ne-eqb, lt-ltb}
 use Rattle.model.specs.Bytes.{stored}
 use Rattle.model.specs.Lists.{bit}
 use Rattle.model.specs.Node.{invalid, rootArc, Node}
-use Rattle.model.specs.Graph.{Graph, size, nodeAt, withNode, isLocalRoot}
+use Rattle.model.specs.Graph.{Graph, size, nodeAt, childrenOf, withNode, isLocalRoot}
 use Rattle.model.specs.Path.{primCount}
 use Rattle.model.specs.Snapshot.{bigEndian, value, recordBytes}
-use Rattle.model.specs.Arena.{arenaBytes, slotAt, shallowIn, firstOf, lastOf, firstChildIn, lastChildIn, nextSiblingIn, primCountIn, linkBytes, siteBytes, headerBytes, localRootBelow, localRootOf, encode}
-use Rattle.laws.proofs.StoredLaws.{part-of-stored, stored-next, field-after-stored, length-stored}
+use Rattle.model.specs.Arena.{arenaBytes, slotAt, shallowIn, firstOf, lastOf, firstChildIn, lastChildIn, nextSiblingIn, primCountIn, linkBytes, siteBytes, slotStored, slotsStored, headerBytes, rootStored, localRootBelow, localRootOf, encode}
+use Rattle.laws.proofs.StoredLaws.{stored-next, stored-there, field-after-stored, length-stored}
 use Rattle.laws.proofs.Trees.{size-with-node, node-old, node-new, children-else}
 use Rattle.laws.proofs.LegalAdded.{Addable}
 use Rattle.arena.proofs.Encodable.{Encodable}
-use Rattle.arena.proofs.ArenaParts.{apart-kept, root-part}
+use Rattle.arena.proofs.ArenaParts.{apart-kept}
+use Rattle.arena.proofs.EncodeSteps.{HasParts, encoded-parts, site-whole, SlotStands, slots-stand}
 use Rattle.arena.proofs.ArenaFields.{shallow-encode, first-child-encode, last-child-encode, next-sibling-encode, prim-count-encode}
 use Rattle.child_lists.specs.Append.{CanLink, shallowWith, headerStored, threeLinks, siblingLinked, childLinked}
-use Rattle.child_lists.proofs.EncodeOver.{header-covered, root-covered, links-encoded, site-encoded, Lost, stored-lost, added-unordered, same-site}
-use Rattle.child_lists.proofs.EncodeStages.{Stage, fewer-links, stages-end, links-stage, site-stage}
+use Rattle.child_lists.proofs.EncodeOver.{added-unordered, unordered-encode, same-site}
 use Rattle.child_lists.proofs.AppendLinks.{firstChildOf, lastChildOf, nextSiblingOf, new-childless, new-next, parent-last, last-child, first-only, first-still, next-last, next-else}
 
 -- ---- The local root
@@ -67,53 +67,47 @@ module _ (g : Graph) (x : Node) (bs : List ℕ) (ok : Encodable g) (more : Encod
   larger : size h ≡ suc n
   larger = size-with-node g x
 
+  parts : HasParts g bs
+  parts = subst (HasParts g) back (encoded-parts g bs ok whole)
+
   -- ---- The header
 
   abbrev headed : List ℕ
   headed = stored 0 (headerBytes h) bs
 
+  abbrev root : List ℕ
+  root = bigEndian 4 (localRootOf (h .nodes))
+
   abbrev opened : List ℕ
-  opened = cond (eqb (x .arc) rootArc) (stored 8 (bigEndian 4 n) headed) headed
+  opened = stored 8 root headed
 
   headed-length : length headed ≡ arenaBytes
   headed-length = length-stored 0 (headerBytes h) bs (omega arith) ∙ whole
 
-  opened-kept : (a w : ℕ) → 12 ≤ a → take w (drop a opened) ≡ take w (drop a bs)
-  opened-kept a w l = go (eqb (x .arc) rootArc) ∙ apart-kept 0 (headerBytes h) bs a w (omega arith) (inr (omega arith))
-    where
-      go : (t : Bool) → take w (drop a (cond t (stored 8 (bigEndian 4 n) headed) headed)) ≡ take w (drop a headed)
-      go true = apart-kept 8 (bigEndian 4 n) headed a w (omega (arith, headed-length)) (inr (omega arith))
-      go false = refl
-
-  opened-lost : Lost h opened bs
-  opened-lost = go (eqb (x .arc) rootArc)
-    where
-      first : Lost h headed bs
-      first = stored-lost h more 0 (headerBytes h) bs bs (omega arith) (header-covered h more 0 7 (omega arith)) (record { kept = whole; lost = refl })
-
-      go : (t : Bool) → Lost h (cond t (stored 8 (bigEndian 4 n) headed) headed) bs
-      go true = stored-lost h more 8 (bigEndian 4 n) headed bs (omega arith) (root-covered h more (omega (arith, larger))) first
-      go false = first
-
-  opened-header : take 7 (drop 0 opened) ≡ headerBytes h
-  opened-header = go (eqb (x .arc) rootArc) ∙ part-of-stored 0 (headerBytes h) bs (omega arith)
-    where
-      go : (t : Bool) → take 7 (drop 0 (cond t (stored 8 (bigEndian 4 n) headed) headed)) ≡ take 7 (drop 0 headed)
-      go true = apart-kept 8 (bigEndian 4 n) headed 0 7 (omega (arith, headed-length)) (inl (omega arith))
-      go false = refl
-
-  opened-root : take 4 (drop 8 opened) ≡ bigEndian 4 (localRootOf (h .nodes))
-  opened-root = go (eqb (x .arc) rootArc) refl n refl
+  -- the local root is stored where it is new
+  root-written : cond (eqb (x .arc) rootArc) (stored 8 (bigEndian 4 n) headed) headed ≡ opened
+  root-written = go (eqb (x .arc) rootArc) refl n refl
     where
       go : (t : Bool) → eqb (x .arc) rootArc ≡ t → (k : ℕ) → n ≡ k
-          → take 4 (drop 8 (cond t (stored 8 (bigEndian 4 n) headed) headed)) ≡ bigEndian 4 (localRootOf (h .nodes))
-      go true e k z =
-          part-of-stored 8 (bigEndian 4 n) headed (omega (arith, headed-length)) ∙ ap (bigEndian 4) (sym (root-new g x (eqb-true (x .arc) rootArc e)))
+          → cond t (stored 8 (bigEndian 4 n) headed) headed ≡ opened
+      go true e k z = ap (λ (r : ℕ). stored 8 (bigEndian 4 r) headed) (sym (root-new g x (eqb-true (x .arc) rootArc e)))
       go false e zero z = absurd (eqb-false (x .arc) rootArc e (new .first z .arc))
       go false e (suc k) z =
-          apart-kept 0 (headerBytes h) bs 8 4 (omega arith) (inr (omega arith))
-          ∙ ap (λ (s : List ℕ). take 4 (drop 8 s)) (sym back) ∙ root-part g bs ok whole (omega arith)
-          ∙ ap (bigEndian 4) (sym (root-old g x (eqb-false (x .arc) rootArc e)))
+          sym (stored-there 8 4 root headed
+          (apart-kept 0 (headerBytes h) bs 8 4 (omega arith) (inr (omega arith)) ∙ parts .root (omega arith)
+          ∙ ap (bigEndian 4) (sym (root-old g x (eqb-false (x .arc) rootArc e)))))
+
+  -- t is as the arena was from the place b on
+  record Rest (b : ℕ) (t : List ℕ) : Type 0 where
+    pub long : length t ≡ arenaBytes
+    pub same : (a w : ℕ) → b ≤ a → take w (drop a t) ≡ take w (drop a bs)
+
+  opened-rest : Rest 12 opened
+  opened-rest = record {
+    long = length-stored 8 root headed (omega (arith, headed-length)) ∙ headed-length;
+    same = λ a w l. apart-kept 8 root headed a w (omega (arith, headed-length)) (inr (omega arith))
+        ∙ apart-kept 0 (headerBytes h) bs a w (omega arith) (inr (omega arith));
+  }
 
   -- ---- The links of the nodes before
 
@@ -123,35 +117,61 @@ module _ (g : Graph) (x : Node) (bs : List ℕ) (ok : Encodable g) (more : Encod
 
   -- a node that is not the parent, nor its last child
   abbrev Else : ℕ → Type 0
-  Else k = (k < n) × (k ≡ p → ⊥) × (k ≡ lastChildOf g p → ⊥)
+  Else k = (k ≡ p → ⊥) × (k ≡ lastChildOf g p → ⊥)
 
-  opened-stage : Stage h bs Else (λ k. k < n) opened
-  opened-stage = record {
-    lost = opened-lost;
-    header = opened-header;
-    root = opened-root;
-    links = λ k l q.
-        opened-kept (slotAt k) 12 (omega arith) ∙ ap (λ (s : List ℕ). take 12 (drop (slotAt k) s)) (sym back) ∙ links-encoded g ok k (q .0) bs whole
-        ∙ sym (same-links k (ap firstOf (children-else g x k (q .1))) (ap lastOf (children-else g x k (q .1)))
-        (next-else g x ok (new .parent-lower (omega (arith, q .0))) k (q .0) (q .2)));
-    site = λ k l old. subst (λ (b : List ℕ). take (length b) (drop (slotAt k + 16) opened) ≡ b) (sym (same-site g x k old))
-        (opened-kept (slotAt k + 16) (length (siteBytes g k)) (omega arith)
-        ∙ ap (λ (s : List ℕ). take (length (siteBytes g k)) (drop (slotAt k + 16) s)) (sym back) ∙ site-encoded g ok k old bs whole);
-  }
+  module _ (b : ℕ) (t : List ℕ) (rest : Rest b t) (k : ℕ) (old : k < n) where
+    site-stands : b ≤ slotAt k + 16 → take (length (siteBytes h k)) (drop (slotAt k + 16) t) ≡ siteBytes h k
+    site-stands l = subst (λ (q : List ℕ). take (length q) (drop (slotAt k + 16) t) ≡ q) (sym (same-site g x k old))
+        (rest .same (slotAt k + 16) (length (siteBytes g k)) l ∙ site-whole g bs parts k old)
+
+    else-stands : b ≤ slotAt k → Else k → SlotStands h k t
+    else-stands l else = record {
+      links = rest .same (slotAt k) 12 l ∙ parts .links k old
+          ∙ sym (same-links k (ap firstOf (children-else g x k (else .0))) (ap lastOf (children-else g x k (else .0)))
+          (next-else g x ok (new .parent-lower (omega arith)) k old (else .1)));
+      site = site-stands (omega arith);
+    }
+
+    linked-rest : b ≤ slotAt k → Rest (slotAt k + 12) (stored (slotAt k) (linkBytes h k) t)
+    linked-rest l =
+        let fits : slotAt k + 12 ≤ length t = omega (arith, few, larger, rest .long) in
+        record {
+          long = length-stored (slotAt k) (linkBytes h k) t fits ∙ rest .long;
+          same = λ a w q. apart-kept (slotAt k) (linkBytes h k) t a w fits (inr (omega arith))
+              ∙ rest .same a w (omega arith);
+        }
+
+  -- of the slots j to k - 1 only c has other links
+  slots-pass : (b j c k : ℕ) (t : List ℕ) → Rest b t → slotsStored h j opened ≡ t → b ≤ slotAt j → j ≤ c → c < k → k ≤ n
+      → ((m : ℕ) → j ≤ m → m < k → (m ≡ c → ⊥) → Else m) → slotsStored h k opened ≡ stored (slotAt c) (linkBytes h c) t
+  slots-pass b j c k t rest e low l r q else =
+      let after = stored (slotAt c) (linkBytes h c) t in
+      let old : c < n = omega arith in
+      let later = linked-rest b t rest c old (omega arith) in
+      slots-stand h (suc c) k opened after (omega arith)
+      (ap (slotStored h c)
+      (slots-stand h j c opened t l e
+      (λ m a d. else-stands b t rest m (omega arith) (omega arith) (else m a (omega arith) (λ z. omega arith))))
+      ∙ stored-there (slotAt c + 16) (length (siteBytes h c)) (siteBytes h c) after
+      (site-stands (slotAt c + 12) after later c old (omega arith)))
+      (λ m a d. else-stands (slotAt c + 12) after later m (omega arith) (omega arith)
+      (else m (omega arith) d (λ z. omega arith)))
 
   -- what is read in the arena with the new header
   module _ (k : ℕ) (old : k < n) where
     first-read : firstChildIn opened k ≡ firstChildOf g k
     first-read =
-        ap value (opened-kept (slotAt k) 4 (omega arith)) ∙ ap (λ (s : List ℕ). firstChildIn s k) (sym back) ∙ first-child-encode g bs ok whole k old
+        ap value (opened-rest .same (slotAt k) 4 (omega arith)) ∙ ap (λ (s : List ℕ). firstChildIn s k) (sym back)
+        ∙ first-child-encode g bs ok whole k old
 
-    pub last-read : lastChildIn opened k ≡ lastChildOf g k
+    last-read : lastChildIn opened k ≡ lastChildOf g k
     last-read =
-        ap value (opened-kept (slotAt k + 4) 4 (omega arith)) ∙ ap (λ (s : List ℕ). lastChildIn s k) (sym back) ∙ last-child-encode g bs ok whole k old
+        ap value (opened-rest .same (slotAt k + 4) 4 (omega arith)) ∙ ap (λ (s : List ℕ). lastChildIn s k) (sym back)
+        ∙ last-child-encode g bs ok whole k old
 
     next-read : nextSiblingIn opened k ≡ nextSiblingOf g k
     next-read =
-        ap value (opened-kept (slotAt k + 8) 4 (omega arith)) ∙ ap (λ (s : List ℕ). nextSiblingIn s k) (sym back)
+        ap value (opened-rest .same (slotAt k + 8) 4 (omega arith)) ∙ ap (λ (s : List ℕ). nextSiblingIn s k) (sym back)
         ∙ next-sibling-encode g bs ok whole k old
 
   three-links : (k first last next : ℕ) (s : List ℕ) → first ≡ firstChildOf h k → last ≡ lastChildOf h k → next ≡ nextSiblingOf h k
@@ -161,9 +181,6 @@ module _ (g : Graph) (x : Node) (bs : List ℕ) (ok : Encodable g) (more : Encod
   module _ (lower : p < n) where
     abbrev after-parent : List ℕ
     after-parent = stored (slotAt p) (linkBytes h p) opened
-
-    parent-stage : Stage h bs (λ k. (k ≡ p → ⊥) → Else k) (λ k. k < n) after-parent
-    parent-stage = links-stage h bs Else (λ k. k < n) opened opened-stage more p (omega (arith, larger))
 
     higher : (lastChildOf g p ≡ invalid → ⊥) → (p < lastChildOf g p) × (lastChildOf g p < n)
     higher some =
@@ -181,39 +198,43 @@ module _ (g : Graph) (x : Node) (bs : List ℕ) (ok : Encodable g) (more : Encod
     later-child some =
         let above = higher some in
         let last = lastChildOf g p in
+        let same : childrenOf h last ≡ childrenOf g last = children-else g x last (λ e. omega (arith, above)) in
         let parent : threeLinks p (firstChildIn opened p) n (nextSiblingIn opened p) opened ≡ after-parent =
         three-links p (firstChildIn opened p) n (nextSiblingIn opened p) opened (first-read p lower ∙ sym (first-still g x ok lower some))
         (sym (parent-last g x ok lower)) (next-read p lower ∙ sym (next-else g x ok lower p lower (λ e. omega (arith, above)))) in
-        let fits : slotAt p + 12 ≤ length opened = omega (arith, few, larger, opened-lost .kept) in
-        let apart : last ≡ p → ⊥ = λ e. omega (arith, above) in
+        let fits : slotAt p + 12 ≤ length opened = omega (arith, few, larger, opened-rest .long) in
+        let kept = field-after-stored (slotAt p) (linkBytes h p) opened fits in
         (λ i. siblingLinked (last-read p lower i) n (parent i))
         ∙ three-links last (firstChildIn after-parent last) (lastChildIn after-parent last) n after-parent
-        (field-after-stored (slotAt p) (linkBytes h p) opened fits (slotAt last) 4 (omega (arith, above)) ∙ first-read last (above .1)
-        ∙ sym (ap firstOf (children-else g x last apart)))
-        (field-after-stored (slotAt p) (linkBytes h p) opened fits (slotAt last + 4) 4 (omega (arith, above)) ∙ last-read last (above .1)
-        ∙ sym (ap lastOf (children-else g x last apart)))
+        (kept (slotAt last) 4 (omega (arith, above)) ∙ first-read last (above .1) ∙ sym (ap firstOf same))
+        (kept (slotAt last + 4) 4 (omega (arith, above)) ∙ last-read last (above .1) ∙ sym (ap lastOf same))
         (sym (next-last g x ok lower some))
 
-  linked-stage : Stage h bs (λ k. k < n) (λ k. k < n) (childLinked p n opened)
-  linked-stage = go (eqb n 0) refl (eqb (lastChildIn opened p) invalid) refl
+  slots-linked : slotsStored h n opened ≡ childLinked p n opened
+  slots-linked = go (eqb n 0) refl (eqb (lastChildIn opened p) invalid) refl
     where
       go : (t : Bool) → eqb n 0 ≡ t → (none : Bool) → eqb (lastChildIn opened p) invalid ≡ none
-          → Stage h bs (λ k. k < n) (λ k. k < n) (cond t opened (cond none (threeLinks p n n (nextSiblingIn opened p) opened)
-          (siblingLinked (lastChildIn opened p) n (threeLinks p (firstChildIn opened p) n (nextSiblingIn opened p) opened))))
-      go true e none f = fewer-links h bs Else (λ k. k < n) opened opened-stage (λ k. k < n) (λ k q. absurd (omega (arith, eqb-true n 0 e)))
+          → slotsStored h n opened ≡ cond t opened (cond none (threeLinks p n n (nextSiblingIn opened p) opened)
+          (siblingLinked (lastChildIn opened p) n
+          (threeLinks p (firstChildIn opened p) n (nextSiblingIn opened p) opened)))
+      go true e none f = ap (λ (k : ℕ). slotsStored h k opened) (eqb-true n 0 e)
       go false e true f =
           let lower = new .parent-lower (omega (arith, eqb-false n 0 e)) in
           let no-last : lastChildOf g p ≡ invalid = sym (last-read p lower) ∙ eqb-true (lastChildIn opened p) invalid f in
-          subst (Stage h bs (λ k. k < n) (λ k. k < n)) (sym (only-child lower no-last))
-          (fewer-links h bs _ _ (after-parent lower) (parent-stage lower) (λ k. k < n) (λ k q np. (q, np, λ s. omega (arith, few))))
+          slots-pass 12 0 p n opened opened-rest refl (omega arith) (omega arith) lower (omega arith)
+          (λ m a b np. (np, λ s. omega (arith, few, larger)))
+          ∙ sym (only-child lower no-last)
       go false e false f =
           let lower = new .parent-lower (omega (arith, eqb-false n 0 e)) in
           let last = lastChildOf g p in
           let some : last ≡ invalid → ⊥ = λ s. eqb-false (lastChildIn opened p) invalid f (last-read p lower ∙ s) in
-          subst (Stage h bs (λ k. k < n) (λ k. k < n)) (sym (later-child lower some))
-          (fewer-links h bs _ _ (stored (slotAt last) (linkBytes h last) (after-parent lower))
-          (links-stage h bs _ _ (after-parent lower) (parent-stage lower) more last (omega (arith, larger, higher lower some)))
-          (λ k. k < n) (λ k q nl np. (q, np, nl)))
+          let above = higher lower some in
+          slots-pass (slotAt p + 12) last last n (after-parent lower)
+          (linked-rest 12 opened opened-rest p lower (omega arith))
+          (slots-pass 12 0 p last opened opened-rest refl (omega arith) (omega arith) (above .0) (omega (arith, above))
+          (λ m a b np. (np, λ s. omega arith)))
+          (omega (arith, above)) (omega arith) (above .1) (omega arith) (λ m a b nl. (λ s. omega (arith, above), nl))
+          ∙ sym (later-child lower some)
 
   -- ---- The header as it is written
 
@@ -250,10 +271,11 @@ module _ (g : Graph) (x : Node) (bs : List ℕ) (ok : Encodable g) (more : Encod
   header-stored =
       ap (λ (s : List ℕ). cond (eqb (x .arc) rootArc) (stored 8 (bigEndian 4 n) s) s)
       (stored-next 0 (bigEndian 4 (n + 1)) (0 ∷ 0 ∷ bit shallow ∷ []) bs (omega arith) ∙ ap (λ (b : List ℕ). stored 0 b bs) header-written)
+      ∙ root-written
 
   pub linkable : CanLink (headerStored n (x .arc) shallow bs) p n
   linkable = subst (λ (s : List ℕ). CanLink s p n) (sym header-stored) (record {
-    whole = opened-lost .kept;
+    whole = opened-rest .long;
     parent-within = λ some-node. omega (arith, few, larger, new .parent-lower some-node);
     last-within = λ some-node some.
         let lower = new .parent-lower some-node in
@@ -280,12 +302,11 @@ module _ (g : Graph) (x : Node) (bs : List ℕ) (ok : Encodable g) (more : Encod
 
   pub append-stores : encode h bs ≡ stored (slotAt n + 16) (primCount (x .path) ∷ recordBytes x) (threeLinks n invalid invalid invalid linked)
   append-stores =
-      let before = childLinked p n opened in
-      let after = stored (slotAt n) (linkBytes h n) before in
-      let here : n < size h = omega (arith, larger) in
-      stages-end h bs _ _ (stored (slotAt n + 16) (siteBytes h n) after)
-      (site-stage h bs _ _ after (links-stage h bs _ _ before linked-stage more n here) more n here) (added-unordered g x)
-      (λ k l. (λ ne. omega (arith, larger), λ ne. omega (arith, larger)))
-      ∙ ap (λ (b : List ℕ). stored (slotAt n + 16) b after) site-right
+      unordered-encode h bs (added-unordered g x) ∙ ap (λ (k : ℕ). slotsStored h k (rootStored h headed)) larger
+      ∙ ap (λ (t : Bool). slotStored h n (slotsStored h n (cond t headed opened)))
+      (ne-eqb (size h) 0 (λ e. omega (arith, larger)))
+      ∙ ap (slotStored h n) slots-linked
+      ∙ ap
+      (λ (b : List ℕ). stored (slotAt n + 16) b (stored (slotAt n) (linkBytes h n) (childLinked p n opened))) site-right
       ∙ ap (stored (slotAt n + 16) (primCount (x .path) ∷ recordBytes x))
       (sym (ap (threeLinks n invalid invalid invalid) linked-right ∙ new-stored))

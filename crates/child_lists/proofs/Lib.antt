@@ -8,15 +8,13 @@ mod CountLaws
 pub mod AppendEncodable
 pub mod EmptyArena
 pub mod EncodeOver
-pub mod EncodeStages
 pub mod AppendLinks
 pub mod AppendStores
 pub mod EncodeAppend
--- Links of lists in arrays; the lists of all parents; storing an order; what storing the links
--- leaves; and storing them list by list.
+-- Links of lists in arrays; the lists of all parents; what storing the links leaves; and storing
+-- them list by list.
 pub mod LinkLaws
 pub mod SegmentLaws
-mod StoredEntries
 pub mod LinkStores
 mod SlotStores
 pub mod ListStores

@@ -1,19 +1,17 @@
 -- The links that `link_lists` makes of a graph's child lists, stored, are the graph's links:
 -- `links-right`. Assumes nothing.
 use mathlib.Core.Path.{_≡_, refl, sym, ap, _∙_}
-use mathlib.Core.Logic.{inr}
 use mathlib.Core.List.{List, [], _++_}
-use Prim.Native.Nat.{ℕ, zero, suc, _+_, _≤_, _<_}
+use Prim.Native.Nat.{ℕ, zero, suc, _≤_, _<_}
 use native.Mathlib.Omega.{arith}
-use lib.ListN.{length, take, drop, getD}
+use lib.ListN.{length, getD}
 use Rattle.model.specs.Bytes.{stored}
 use Rattle.model.specs.Graph.{Graph, size, childrenOf}
 use Rattle.model.specs.Snapshot.{bigEndian}
 use Rattle.model.specs.Strength.{view}
 use Rattle.model.specs.Arena.{arenaBytes, slotAt, afterIn, linkBytes}
-use Rattle.laws.proofs.StoredLaws.{length-stored}
 use Rattle.laws.proofs.Trees.{TreeOf}
-use Rattle.arena.proofs.ArenaParts.{apart-kept, apart-slots}
+use Rattle.arena.proofs.EncodeSteps.{SlotRun, run-length}
 use Rattle.child_lists.specs.Links.{Segments, Linked, linksWritten}
 use Rattle.child_lists.proofs.SegmentLaws.{first-right, last-right, next-right, next-of-root}
 
@@ -22,22 +20,12 @@ abbrev pub linksOf : Graph → ℕ → List ℕ → List ℕ
 linksOf g zero s = s
 linksOf g (suc k) s = stored (slotAt k) (linkBytes g k) (linksOf g k s)
 
-module _ (g : Graph) where
-  pub links-length : (k : ℕ) (s : List ℕ) → k ≤ 1024 → length s ≡ arenaBytes → length (linksOf g k s) ≡ arenaBytes
-  links-length zero s few whole = whole
-  links-length (suc k) s few whole =
-      let before = links-length k s (omega arith) whole in
-      length-stored (slotAt k) (linkBytes g k) (linksOf g k s) (omega arith) ∙ before
+module _ (g : Graph) (n : ℕ) (s : List ℕ) (few : n ≤ 1024) (whole : length s ≡ arenaBytes) where
+  pub links-run : SlotRun (λ k. linksOf g k s) slotAt (linkBytes g) n
+  links-run = record { whole = whole; few = few; step = λ k. refl; low = λ k. omega arith; high = λ k h. omega arith }
 
-  -- the site of a slot stays
-  pub links-keep-site : (n w k : ℕ) (s : List ℕ) → w ≤ 285 → k ≤ 1024 → length s ≡ arenaBytes
-      → take w (drop (slotAt n + 16) (linksOf g k s)) ≡ take w (drop (slotAt n + 16) s)
-  links-keep-site n w zero s short few whole = refl
-  links-keep-site n w (suc k) s short few whole =
-      let before = links-length k s (omega arith) whole in
-      apart-kept (slotAt k) (linkBytes g k) (linksOf g k s) (slotAt n + 16) w (omega arith)
-      (apart-slots n (slotAt n + 16) w k (slotAt k) 12 (omega arith) (omega arith) (omega arith) (omega arith) (λ e. inr (omega arith)))
-      ∙ links-keep-site n w k s short (omega arith) whole
+  pub links-length : length (linksOf g n s) ≡ arenaBytes
+  links-length = run-length links-run n (omega arith)
 
 -- a tree whose node 0 stands in no list
 pub record Linkable (g : Graph) (sorted ends : List ℕ) : Type 0 where

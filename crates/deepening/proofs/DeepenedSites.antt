@@ -1,11 +1,10 @@
 -- One site with the name appended (`CanJoin`): its prim count, that the record loaded becomes the
 -- deepened node's, and that it is stored as such (`record-joined`). Then the sites of the first
--- nodes stored one after the other: what lies behind them is as it was (`sites-kept`), so the next
+-- nodes stored one after the other (`sites-run`): what lies behind them is as it was, so the next
 -- node can still be joined (`join-next`, `sites-next`). Assumes nothing.
 use mathlib.Core.Path.{_≡_, refl, sym, ap, subst, _∙_}
-use mathlib.Core.Logic.{inr}
 use mathlib.Core.List.{List, _∷_, _++_}
-use Prim.Native.Nat.{ℕ, zero, suc, _+_, _-_, _≤_, _<_}
+use Prim.Native.Nat.{ℕ, suc, _+_, _-_, _≤_, _<_}
 use native.Mathlib.Omega.{arith}
 use lib.ListN.{length, take, drop}
 use Rattle.model.specs.Arena.{arenaBytes, slotAt, primCountIn, recordLengthIn, nodeIn}
@@ -18,10 +17,9 @@ use Rattle.laws.proofs.PathGrammar.{Name, well-formed-may-end}
 use Rattle.laws.proofs.PathLaws.{append-prim-count, last-name-is-name, prim-count-half}
 use Rattle.laws.proofs.PathParts.{name-not-empty}
 use Rattle.laws.proofs.SnapshotLaws.{record-length}
-use Rattle.laws.proofs.StoredLaws.{length-stored}
 use Rattle.arena.specs.Slot.{Loaded, nodeOf, recordStored, linksStored}
 use Rattle.arena.specs.declared.Node.{Node}
-use Rattle.arena.proofs.ArenaParts.{Apart, apart-kept}
+use Rattle.arena.proofs.EncodeSteps.{SlotRun, run-length, run-behind}
 use Rattle.arena.proofs.SlotLaws.{loaded-node}
 use Rattle.deepening.specs.Deepened.{ChildName, CanJoin, AllJoin, Joined, siteStored, sitesDeepened, linksSeeded}
 
@@ -70,9 +68,6 @@ module _ (bs name : List ℕ) (n : ℕ) (x : Node) (written : List ℕ) (j : Joi
 
 -- ---- Sites
 
-site-long : (x : model.Node) → length (primCount (x .path) ∷ recordBytes x) ≡ 30 + length (x .path)
-site-long x = omega (arith, record-length x)
-
 -- what lies from slot n on is the same in both
 abbrev pub SameFrom : ℕ → List ℕ → List ℕ → Type 0
 SameFrom n s t = (a w : ℕ) → slotAt n ≤ a → take w (drop a s) ≡ take w (drop a t)
@@ -99,35 +94,27 @@ module _ (s t : List ℕ) (n : ℕ) (same : SameFrom n s t) where
     fits = rw same-node (can .fits);
   }
 
+-- the site of node k, deepened
+abbrev pub deepenedSite : List ℕ → List ℕ → ℕ → List ℕ
+deepenedSite bs name k = let x = deepened name (nodeIn bs k) in primCount (x .path) ∷ recordBytes x
+
 module _ (bs name : List ℕ) (count : ℕ) (all : AllJoin bs name count) where
-  -- a site fits its slot
-  site-short : (k : ℕ) → k < count → length (primCount (appendName (nodeIn bs k .path) name) ∷ recordBytes (deepened name (nodeIn bs k))) ≤ 285
-  site-short k h = omega (arith, site-long (deepened name (nodeIn bs k)), all .each k h .fits)
+  pub sites-run : SlotRun (λ k. sitesDeepened name k bs) (λ k. slotAt k + 16) (deepenedSite bs name) count
+  sites-run = record {
+    whole = all .whole;
+    few = all .few;
+    step = λ k. refl;
+    low = λ k. omega arith;
+    high = λ k h. omega (arith, record-length (deepened name (nodeIn bs k)), all .each k h .fits);
+  }
 
-  pub sites-length : (k : ℕ) → k ≤ count → length (sitesDeepened name k bs) ≡ arenaBytes
-  sites-length zero l = all .whole
-  sites-length (suc k) l =
-      let before = sites-length k (omega arith) in
-      let x = deepened name (nodeIn bs k) in
-      length-stored (slotAt k + 16) (primCount (x .path) ∷ recordBytes x) (sitesDeepened name k bs)
-      (omega (arith, site-short k (omega arith), all .few)) ∙ before
-
-  pub sites-kept : (a w k : ℕ) → k ≤ count → ((m : ℕ) → m < k → (v : ℕ) → v ≤ 285 → Apart a w (slotAt m + 16) v)
-      → take w (drop a (sitesDeepened name k bs)) ≡ take w (drop a bs)
-  sites-kept a w zero l apart = refl
-  sites-kept a w (suc k) l apart =
-      let before = sites-length k (omega arith) in
-      let x = deepened name (nodeIn bs k) in
-      let short = site-short k (omega arith) in
-      apart-kept (slotAt k + 16) (primCount (x .path) ∷ recordBytes x) (sitesDeepened name k bs) a w
-      (omega (arith, all .few)) (apart k (omega arith) _ short)
-      ∙ sites-kept a w k (omega arith) (λ m h. apart m (omega arith))
-
-  pub same-behind : (n : ℕ) → n ≤ count → SameFrom n (sitesDeepened name n bs) bs
-  same-behind n l a w h = sites-kept a w n l (λ m q v short. inr (omega arith))
+  same-behind : (n : ℕ) → n ≤ count → SameFrom n (sitesDeepened name n bs) bs
+  same-behind n l a w h = ap (take w) (run-behind sites-run n a l h)
 
   pub join-next : (n : ℕ) → n < count → CanJoin (sitesDeepened name n bs) name n
-  join-next n h = same-join (sitesDeepened name n bs) bs n (same-behind n (omega arith)) name (sites-length n (omega arith)) (all .each n h)
+  join-next n h =
+      same-join (sitesDeepened name n bs) bs n (same-behind n (omega arith)) name (run-length sites-run n (omega arith))
+      (all .each n h)
 
   pub sites-next : (n : ℕ) → n < count
       → siteStored n (deepened name (nodeIn (sitesDeepened name n bs) n)) (sitesDeepened name n bs) ≡ sitesDeepened name (n + 1) bs

@@ -1,10 +1,9 @@
 -- The stores that seeding makes are those of `encode` in its order: the header, the slots and,
--- where the graph is finalized, the order (`encode-seeded`). And the loop that copies an order
--- (`Copying`). Assumes nothing.
+-- where the graph is finalized, the order (`encode-seeded`). Assumes nothing.
 use mathlib.Core.Path.{_≡_, refl, sym, ap, _∙_}
 use mathlib.Core.Bool.{Bool, cond}
 use mathlib.Core.List.{List, [], _∷_, _++_}
-use Prim.Native.Nat.{ℕ, zero, suc, _+_, _-_, _≤_, _<_}
+use Prim.Native.Nat.{ℕ, zero, suc, _+_, _≤_, _<_}
 use native.Mathlib.Omega.{arith}
 use lib.Dec.{eqb}
 use lib.ListN.{length}
@@ -19,7 +18,6 @@ use Rattle.model.specs.Snapshot.{bigEndian, recordBytes}
 use Rattle.model.specs.Arena.{arenaBytes, slotAt, countIn, orderedIn, finalizedIn, shallowIn, firstChildIn, lastChildIn, nextSiblingIn, orderEntryIn, tabulate, firstOf, lastOf, localRootOf, linkBytes, slotStored, slotsStored, orderStored, headerBytes, rootStored, decode, encode}
 use Rattle.laws.proofs.BigEndianLaws.{Bytes}
 use Rattle.laws.proofs.StoredLaws.{stored-next}
-use Rattle.arena.specs.Slot.{orderEntryStored}
 use Rattle.arena.proofs.ArenaBack.{children-decode, next-decode}
 use Rattle.arena.proofs.HeldArenas.{Held, held, held-chain}
 use Rattle.arena.proofs.ReadNodes.{root-held}
@@ -85,36 +83,3 @@ module _ (bs name : List ℕ) (bytes : Bytes bs) (can : CanDeepen bs name) (s : 
     where
       none : h .order ≡ []
       none = rw (ne-eqb (finalizedIn bs) 1 other)
-
--- ---- Copying an order
-
--- with the entries from n on the arena is what all of them make of the arena before
-pub record Copying (bs before : List ℕ) (count : ℕ) (arena : List ℕ) (n : ℕ) : Type 0 where
-  pub high : n ≤ count
-  pub long : length arena ≡ length before
-  pub same : orderStored (tabulate (orderEntryIn bs) n (count - n)) n arena ≡ orderStored (tabulate (orderEntryIn bs) 0 count) 0 before
-
-module _ (bs before : List ℕ) (count : ℕ) where
-  pub copying-start : Copying bs before count before 0
-  copying-start = record {
-    high = omega arith;
-    long = refl;
-    same = ap (λ (k : ℕ). orderStored (tabulate (orderEntryIn bs) 0 k) 0 before) (let e : count - 0 ≡ count = omega arith in e);
-  }
-
-  module _ (arena : List ℕ) (n : ℕ) (copying : Copying bs before count arena n) where
-    pub copying-step : (after : List ℕ) → n < count → length after ≡ length arena → after ≡ orderEntryStored n (orderEntryIn bs n) arena
-        → Copying bs before count after (n + 1)
-    copying-step after more kept e =
-        let next : n + 1 ≡ suc n = omega arith in
-        let rest : suc (count - (n + 1)) ≡ count - n = omega arith in
-        record {
-          high = omega arith;
-          long = kept ∙ copying .long;
-          same = (λ i. orderStored (tabulate (orderEntryIn bs) (next i) (count - (n + 1))) (next i) (e i))
-              ∙ ap (λ (k : ℕ). orderStored (tabulate (orderEntryIn bs) n k) n arena) rest ∙ copying .same;
-        }
-
-    pub copying-end : count ≤ n → arena ≡ orderStored (tabulate (orderEntryIn bs) 0 count) 0 before
-    copying-end done =
-        ap (λ (k : ℕ). orderStored (tabulate (orderEntryIn bs) n k) n arena) (let e : 0 ≡ count - n = omega arith in e) ∙ copying .same

@@ -6,7 +6,7 @@ use mathlib.Core.Logic.{inl, inr}
 use mathlib.Core.List.{List, [], _∷_}
 use Prim.Native.Nat.{ℕ, zero, suc, _+_, _≤_, _<_}
 use native.Mathlib.Omega.{arith}
-use lib.ListN.{length, take, drop}
+use lib.ListN.{length}
 use lib.Seq.{slice, length-take-le}
 use borrow.Author.Tests.{ne-eqb}
 use Rattle.model.specs.Bytes.{stored}
@@ -18,12 +18,12 @@ use Rattle.model.specs.Erasing.{stays, newNumber, eraseBy, erase}
 use Rattle.laws.proofs.BigEndianLaws.{Bytes}
 use Rattle.laws.proofs.StoredLaws.{length-stored, part-after-stored, stored-there, stored-apart, stored-next}
 use Rattle.arena.specs.Header.{countStored, localRootStored}
-use Rattle.arena.proofs.ArenaParts.{Apart, header-part}
-use Rattle.arena.proofs.ArenaBack.{encode-decode}
+use Rattle.arena.proofs.ArenaParts.{Apart}
+use Rattle.arena.proofs.EncodeSteps.{held-parts}
 use Rattle.child_lists.specs.Links.{Segments, Linked, linksWritten}
 use Rattle.child_lists.proofs.LinkStores.{linksOf, links-length, links-right}
 use Rattle.erasing.specs.EraseRecords.{NumberResult, newLinkIn, sitesStored}
-use Rattle.erasing.proofs.ErasedRecords.{ok, size-kept, few, site-short}
+use Rattle.erasing.proofs.ErasedRecords.{size-kept, few, site-short}
 use Rattle.erasing.proofs.MoveLaws.{sites-length}
 use Rattle.erasing.specs.EraseNodes.{LinksFound}
 use Rattle.erasing.proofs.ErasedGraphs.{some-kept, linkable, root-erased}
@@ -109,8 +109,7 @@ module _ (bs set : List ℕ) (count : ℕ) (numbers : List ℕ) (bytes : Bytes b
       sym (stored-next 0 counted marks bs (omega (arith, whole)))
       ∙ stored-there 4 3 marks (countStored (size h) bs)
       (part-after-stored 0 counted bs (omega (arith, whole)) 4 3 (omega arith)
-      ∙ ap (λ (s : List ℕ). take 3 (drop 4 s)) (sym (encode-decode bs bytes whole (ready .opened .holds)))
-      ∙ header-part g bs (ok bs set count numbers bytes ready) whole 4 3 (omega arith))
+      ∙ held-parts bs bytes (ready .opened) .header 4 3 (omega arith))
 
   root-there : (s : List ℕ) → rootStored h s ≡ localRootStored (newLinkIn numbers count (localRootIn bs)) s
   root-there s =

@@ -3,16 +3,18 @@
 -- links are those stored of the lists in arrays (`lists-stored`), or stand there already
 -- (`links-stand`). Assumes nothing.
 use mathlib.Core.Path.{_≡_, refl, sym, ap, subst, _∙_}
-use mathlib.Core.Bool.{true}
+use mathlib.Core.Bool.{true, not}
 use mathlib.Core.List.{List, []}
-use Prim.Native.Nat.{ℕ, _≤_, _<_}
+use Prim.Native.Nat.{ℕ, _+_, _≤_, _<_}
 use native.Mathlib.Omega.{arith}
+use lib.Dec.{eqb}
 use lib.ListN.{length, List·getD-eq-default}
 use Rattle.model.specs.Node.{invalid, Node}
 use Rattle.model.specs.Graph.{Graph, size, childrenOf}
 use Rattle.model.specs.Order.{sort, walk, isStronger, sortedChildren, hasOrder, ordering}
 use Rattle.model.specs.Strength.{view, viewOf}
-use Rattle.model.specs.Arena.{arenaBytes, countIn, firstChildIn, nextSiblingIn, firstOf, afterIn, orderStored, decode, encode}
+use Rattle.model.specs.Snapshot.{value}
+use Rattle.model.specs.Arena.{arenaBytes, slotAt, countIn, shallowIn, firstChildIn, nextSiblingIn, firstOf, afterIn, orderStored, decode, encode}
 use Rattle.model.specs.ArenaCalls.{ValidArena, ValidNode}
 use Rattle.laws.proofs.BigEndianLaws.{Bytes}
 use Rattle.laws.proofs.Trees.{Tree, tree-sorted}
@@ -22,6 +24,7 @@ use Rattle.arena.specs.Slot.{parentIn}
 use Rattle.arena.proofs.ArenaFields.{count-encode, first-child-encode, next-sibling-encode, node-encode}
 use Rattle.arena.proofs.ArenaHolds.{holds-encoded}
 use Rattle.arena.proofs.ArenaParts.{length-encode}
+use Rattle.arena.proofs.EncodeSteps.{marked-length, marked-behind}
 use Rattle.arena.proofs.Encodable.{Encodable, ordered-encodable, order-below}
 use Rattle.arena.proofs.HeldArenas.{held}
 use Rattle.arena.proofs.HeldEncodable.{held-encodable}
@@ -35,7 +38,7 @@ use Rattle.sorting.specs.Standing.{Stands}
 use Rattle.ordering.specs.Ordering.{wayIn, Walkable, walkStored, marksWritten}
 use Rattle.ordering.proofs.StepLaws.{walk-length, step-node, step-walk}
 use Rattle.ordering.proofs.WayLaws.{SameLinks, order-same-links}
-use Rattle.ordering.proofs.EncodeOrdered.{marked-length, marked-sibling, encode-same-nodes, links-there}
+use Rattle.ordering.proofs.EncodeOrdered.{encode-same-nodes, links-there}
 
 -- an arena of n nodes whose graph has an order
 pub record Orderable (bs : List ℕ) (n : ℕ) : Type 0 where
@@ -89,7 +92,7 @@ module _ (bs : List ℕ) (n : ℕ) (ready : Orderable bs n) where
   same-nodes = refl
 
   pub marks-whole : length (marksWritten bs) ≡ arenaBytes
-  marks-whole = ap length state-valid ∙ marked-length bs (ready .bytes) (ready .opened) h same-nodes (omega (arith, sized, ready .some-node))
+  marks-whole = marked-length bs (ready .opened .whole) true (not (eqb (shallowIn bs) 1)) (eqb (shallowIn bs) 1)
 
   -- the arena when these are written
   abbrev pub linked : List ℕ
@@ -100,7 +103,7 @@ module _ (bs : List ℕ) (n : ℕ) (ready : Orderable bs n) where
 
   written : encode h bs ≡ orderStored (h .order) 0 linked
   written =
-      encode-same-nodes bs (ready .bytes) (ready .opened) h same-nodes (omega (arith, sized, ready .some-node))
+      encode-same-nodes bs (ready .bytes) (ready .opened) h same-nodes
       ∙ ap (λ (s : List ℕ). orderStored (h .order) 0 (linksOf h (size g) s)) (sym state-valid)
 
   -- ---- The walk of these links
@@ -167,7 +170,7 @@ module _ (bs : List ℕ) (n : ℕ) (ready : Orderable bs n) where
   pub links-stand : Stands g true → marksWritten bs ≡ linked
   links-stand stands =
       sym (ap (linksOf h (size g)) state-valid
-      ∙ links-there bs (ready .bytes) (ready .opened) h same-nodes (omega (arith, sized, ready .some-node)) stay (size g) (omega arith) ∙ sym state-valid)
+      ∙ links-there bs (ready .bytes) (ready .opened) h same-nodes stay (size g) (omega arith) ∙ sym state-valid)
     where
       stay : (v : ℕ) → childrenOf h v ≡ childrenOf g v
       stay v = children-ordering g v ∙ children-stay g (stronger-antisymmetric g) (ok .legal .lengths) (stands .sorted refl) v
@@ -200,10 +203,8 @@ module _ (bs : List ℕ) (n : ℕ) (ready : Orderable bs n) where
     lists-stored marked-bytes =
         ap (λ (k : ℕ). listsStored sorted ends k (marksWritten bs)) sized
         ∙ lists-right h sorted ends linkable (marksWritten bs) marked-bytes marks-whole
-        (ap (λ (s : List ℕ). nextSiblingIn s 0) state-valid ∙ marked-sibling bs (ready .bytes) (ready .opened) h same-nodes some 0 ∙ alone)
+        (ap value (marked-behind bs (ready .opened .whole) true (not (eqb (shallowIn bs) 1)) (eqb (shallowIn bs) 1)
+        (slotAt 0 + 8) 4 (omega arith)) ∙ alone)
       where
-        some : 0 < size g
-        some = omega (arith, sized, ready .some-node)
-
         alone : nextSiblingIn bs 0 ≡ invalid
         alone = held bs (ready .opened .holds) .node 0 (omega (arith, ready .counted, ready .some-node)) .next-of-0 refl

@@ -10,12 +10,13 @@ use lib.ListN.{length, take, drop, length-drop}
 use lib.Seq.{take-all}
 use Rattle.model.specs.Path.{primCount}
 use Rattle.model.specs.Node as model
-use Rattle.model.specs.Graph.{Graph, emptyGraph, nodeAt, withNode}
+use Rattle.model.specs.Graph.{Graph, emptyGraph, size, nodeAt, withNode}
 use Rattle.model.specs.Snapshot.{field, readRecord}
 use Rattle.model.specs.Refusals.{refusal, recordQuestions}
 use Rattle.model.specs.Calls.{Outcome, readInto}
-use Rattle.model.specs.Arena.{arenaBytes, countIn, headerBytes, decode, encode, holdsGraph}
+use Rattle.model.specs.Arena.{arenaBytes, countIn, slotsStored, orderStored, headerBytes, rootStored, decode, encode, holdsGraph}
 use Rattle.laws.proofs.BigEndianLaws.{Bytes}
+use Rattle.laws.proofs.StoredLaws.{stored-again}
 use Rattle.laws.proofs.SnapshotLaws.{NodesFit, read-nodes-fit}
 use Rattle.laws.proofs.SnapshotReadLaws.{built, GrowsFrom, Grows, accepted, accepted-read, grown-read}
 use Rattle.arena.specs.declared.Node.{Node}
@@ -27,7 +28,7 @@ use Rattle.arena.proofs.ArenaLaws.{decode-encode}
 use Rattle.arena.proofs.ArenaHolds.{holds-encoded}
 use Rattle.child_lists.specs.Append.{CanAppend}
 use Rattle.child_lists.proofs.AppendEncodable.{append-encodable}
-use Rattle.child_lists.proofs.EncodeOver.{header-covered, absorbed, added-unordered, encode-next}
+use Rattle.child_lists.proofs.EncodeOver.{added-unordered, encode-next}
 use Rattle.snapshot.specs.SnapshotReading.{nodesOr, nodesRead, Exact}
 use Rattle.snapshot.proofs.SnapshotRecords.{recordPart, Reached, reached-none, node-lent, piece-long, reached-more}
 use Rattle.snapshot.proofs.CheckLaws.{built-more, built-sized}
@@ -121,9 +122,11 @@ accepted-at g (x ∷ xs) (suc n) grow h = accepted-at (withNode g x) xs n (grow 
 -- ---- The empty graph
 
 -- its bytes are lost under those of any graph
-over-empty : (g : Graph) (bs : List ℕ) → Encodable g → length bs ≡ arenaBytes → encode g (encode emptyGraph bs) ≡ encode g bs
+over-empty : (g : Graph) (bs : List ℕ) → length bs ≡ arenaBytes → encode g (encode emptyGraph bs) ≡ encode g bs
 unfolding encode
-over-empty g bs ok whole = absorbed g ok 0 (headerBytes emptyGraph) bs whole (omega arith) (header-covered g ok 0 7 (omega arith))
+over-empty g bs whole =
+    ap (λ (s : List ℕ). orderStored (g .order) 0 (slotsStored g (size g) (rootStored g s)))
+    (stored-again 0 (headerBytes emptyGraph) (headerBytes g) bs (omega arith) (omega arith))
 
 -- ---- The loop's state
 
@@ -140,7 +143,7 @@ filled-none entry cleared bytes count exact whole e = record {
   reached = reached-none bytes count exact;
   encodable = empty-encodable;
   unordered = refl;
-  arena-is = e ∙ sym (over-empty emptyGraph entry empty-encodable whole) ∙ ap (encode emptyGraph) (sym e);
+  arena-is = e ∙ sym (over-empty emptyGraph entry whole) ∙ ap (encode emptyGraph) (sym e);
   whole = ap length e ∙ length-encode emptyGraph entry empty-encodable whole ∙ whole;
 }
 
@@ -163,7 +166,7 @@ module _ (cleared bytes arena : List ℕ) (at n : ℕ) (filled : Filled cleared 
   filled-all entry whole e count exact passed end =
       let all : graph ≡ readInto bytes emptyGraph .graph =
       ap built (take-all n nodes end) ∙ ap (λ (o : Outcome). o .graph) (sym (graph-read bytes count exact passed)) in
-      filled .arena-is ∙ ap (encode graph) e ∙ over-empty graph entry (filled .encodable) whole ∙ ap (λ (g : Graph). encode g entry) all
+      filled .arena-is ∙ ap (encode graph) e ∙ over-empty graph entry whole ∙ ap (λ (g : Graph). encode g entry) all
 
   -- the next record, lent as `piece`
   module _ (grown : Grows nodes) (h : n < length nodes) (piece : List ℕ) (e : piece ≡ recordPart at bytes) where

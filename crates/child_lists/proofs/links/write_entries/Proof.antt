@@ -1,21 +1,36 @@
 -- `write_entries` meets its contract. The invariant of its loop: storing the entries from n on
 -- leaves what storing all leaves. The measure is how many are left. Assumes nothing.
-use mathlib.Core.Path.{refl, _∙_}
-use Prim.Native.Nat.{_-_}
+use mathlib.Core.Path.{_≡_, sym, ap, _∙_}
+use mathlib.Core.List.{List}
+use Prim.Native.Nat.{ℕ, _-_, _≤_}
 use native.Mathlib.Omega.{arith}
+use lib.ListN.{length, getD}
+use lib.Seq.{slice, length-take-le, getD-take}
 use borrow.Author.Needs.{needs}
-use Rattle.child_lists.proofs.StoredEntries.{Storing, storing-step, storing-end}
+use Rattle.model.specs.Arena.{tabulate, orderStored}
+use Rattle.arena.proofs.StoredEntries.{Storing, storing-start, storing-step, storing-end}
+use Rattle.arena.proofs.TabulateLaws.{tabulate-same}
 use Rattle.child_lists.proofs.links.write_entries.Statement.{statement}
 use Rattle.child_lists.proofs.links.write_entries.Tie as tie
 
+-- the entries, by place
+abbrev entryOf : List ℕ → ℕ → ℕ
+entryOf order n = getD order n 0
+
+all-entries : (count : ℕ) (order : List ℕ) → count ≤ length order
+    → tabulate (entryOf order) 0 count ≡ slice 0 count order
+all-entries count order h =
+    tabulate-same (entryOf order) 0 count (slice 0 count order) (sym (length-take-le count order h))
+    (λ i l. sym (getD-take count order i 0 l))
+
 abbrev Inv-loop : tie.InvT-loop
-Inv-loop arena₀ count order n₀ arena n = Storing arena₀ count order arena n
+Inv-loop arena₀ count order n₀ arena n = Storing (entryOf order) arena₀ count arena n
 
 abbrev μ-loop : tie.MeasureT-loop
 μ-loop arena₀ count order n₀ arena n = count - n
 
 loop-holds : tie.Need-loop-holds Inv-loop μ-loop
-loop-holds c = record { high = omega arith; long = refl; same = refl }
+loop-holds c = storing-start _ _ _
 
 cast-write-order-entry : tie.Need-cast-write-order-entry Inv-loop μ-loop
 cast-write-order-entry c = search needs
@@ -43,15 +58,18 @@ loop-less c = omega (arith, c .before .before .before .before .before .loop-test
 loop-again : tie.Need-loop-again Inv-loop μ-loop
 loop-again c =
     let stored = c .before .before .write-order-entry in
-    let s = c .before .before .before .before .before .before .before .before .before in
-    storing-step _ _ _ _ _ _ (c .before .before .before .before .before .before .loop .inv) (c .before .before .before .before .before .loop-test .taken)
-    (omega (arith, s .pre)) (stored .kept .0) (stored .ensures)
+    storing-step (c .before .before .before .before .before .before .loop .inv) _
+    (c .before .before .before .before .before .loop-test .taken) (stored .kept .0) (stored .ensures)
 
 same-length : tie.Need-same-length Inv-loop μ-loop
 same-length c = c .before .loop .inv .long
 
 returns : tie.Need-returns Inv-loop μ-loop
-returns c = storing-end _ _ _ _ _ (c .before .loop .inv) (c .loop-test .left)
+returns c =
+    let s = c .before .before .before .before in
+    storing-end (c .before .loop .inv) (c .loop-test .left)
+    ∙ ap (λ (l : List ℕ). orderStored l 0 (s .args .arena .now))
+    (all-entries (s .args .count) (s .args .order .now) (omega (arith, s .pre)))
 
 pub write-entries-spec : {M : Type 1} → statement M
 write-entries-spec =

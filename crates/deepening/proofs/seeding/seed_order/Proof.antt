@@ -1,21 +1,22 @@
--- `seeding::seed_order` meets its contract. The invariant of its loop is `Copying`, the measure how
+-- `seeding::seed_order` meets its contract. The invariant of its loop is `Storing`, the measure how
 -- many entries are left. Assumes nothing.
 use mathlib.Core.Path.{ap, _∙_}
 use Prim.Native.Nat.{ℕ, _-_}
 use native.Mathlib.Omega.{arith}
+use Rattle.model.specs.Arena.{orderEntryIn}
 use Rattle.arena.specs.Slot.{orderEntryStored}
-use Rattle.deepening.proofs.EncodeSeeded.{Copying, copying-start, copying-step, copying-end}
+use Rattle.arena.proofs.StoredEntries.{Storing, storing-start, storing-step, storing-end}
 use Rattle.deepening.proofs.seeding.seed_order.Statement.{statement}
 use Rattle.deepening.proofs.seeding.seed_order.Tie as tie
 
 abbrev Inv-loop : tie.InvT-loop
-Inv-loop from into₀ count n₀ into n = Copying from into₀ count into n
+Inv-loop from into₀ count n₀ into n = Storing (orderEntryIn from) into₀ count into n
 
 abbrev μ-loop : tie.MeasureT-loop
 μ-loop from into₀ count n₀ into n = count - n
 
 loop-holds : tie.Need-loop-holds Inv-loop μ-loop
-loop-holds c = let a = c .before .before .args in copying-start (a .from .now) (a .into .now) (a .count)
+loop-holds c = let a = c .before .before .args in storing-start (orderEntryIn (a .from .now)) (a .into .now) (a .count)
 
 order-entry-requires : tie.Need-order-entry-requires Inv-loop μ-loop
 order-entry-requires c κs =
@@ -38,18 +39,14 @@ loop-again c =
     let store = c .before .before .write-order-entry in
     let entry = c .before .before .before in
     let l = entry .before .before .before .loop in
-    let a = entry .before .before .before .before .before .before .args in
-    copying-step (a .from .now) (a .into .now) (a .count) (l .into) (l .n) (l .inv) _ (entry .before .before .loop-test .taken) (store .kept .0)
+    storing-step (l .inv) _ (entry .before .before .loop-test .taken) (store .kept .0)
     (store .ensures ∙ ap (λ (k : ℕ). orderEntryStored (l .n) k (l .into)) (entry .order-entry .ensures))
 
 same-length : tie.Need-same-length Inv-loop μ-loop
 same-length c = c .before .loop .inv .long
 
 returns : tie.Need-returns Inv-loop μ-loop
-returns c =
-    let l = c .before .loop in
-    let a = c .before .before .before .before .args in
-    copying-end (a .from .now) (a .into .now) (a .count) (l .into) (l .n) (l .inv) (c .loop-test .left)
+returns c = storing-end (c .before .loop .inv) (c .loop-test .left)
 
 pub seed-order-spec : {M : Type 1} → statement M
 seed-order-spec =
