@@ -1,7 +1,8 @@
 -- How stores one after the other come to be the encoding of a graph. The parts of a graph that
 -- stand in an arena (`HasParts`); slots that stand already (`slots-stand`); a run of stores, one in
--- each slot (`SlotRun`); and in an arena that holds a graph, such a run from the new marks on is the
--- encoding of another graph of as many nodes (`encode-run`, `encode-run-kept`). Assumes nothing.
+-- each slot (`SlotRun`); and in an arena that holds a graph, such a run from the new marks on is
+-- the encoding of another graph of as many nodes (`encode-run`, `encode-run-kept`). Assumes
+-- nothing.
 use mathlib.Core.Path.{_≡_, refl, sym, ap, subst, _∙_}
 use mathlib.Core.Logic.{_⊎_, inl, inr}
 use mathlib.Core.Bool.{Bool, true, false, cond}

@@ -49,7 +49,8 @@ ghost use mathlib.Core.Path.{_≡_};
 ghost use Prim.Native.Nat.{_+_, _≤_};
 ghost use lib.ListN.{length};
 ghost use Rattle.model.specs.Bytes.{stored};
-ghost use Rattle.arena.specs.Slot.{HasSlot, Loaded, withFirstChild, withLastChild, withNextSibling, linksStored, recordStored, headBytes, idBytes, depthBytes};
+ghost use Rattle.arena.specs.Slot.{HasSlot, Loaded, withFirstChild, withLastChild, withNextSibling, linksStored};
+ghost use Rattle.arena.specs.Slot.{recordStored, headBytes, idBytes, depthBytes};
 
 // A node's record by value: its links, the prim count of its path, the record's length and the
 // record's numbers. Its path stays in the arena (`path`).

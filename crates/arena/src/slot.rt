@@ -4,9 +4,12 @@ use crate::offsets;
 ghost use mathlib.Core.Path.{_≡_};
 ghost use Prim.Native.Nat.{_+_, _≤_};
 ghost use lib.ListN.{take, drop};
-ghost use Rattle.model.specs.Arena.{slotAt, firstChildIn, lastChildIn, nextSiblingIn, orderEntryIn, primCountIn, recordLengthIn, nodeIn};
+ghost use Rattle.model.specs.Arena.{slotAt, firstChildIn, lastChildIn, nextSiblingIn, orderEntryIn, primCountIn};
+ghost use Rattle.model.specs.Arena.{recordLengthIn, nodeIn};
 ghost use Rattle.model.specs.Snapshot.{field};
-ghost use Rattle.arena.specs.Slot.{HasSlot, HasPath, arcIn, flagsIn, stackIn, layerIn, parentIn, originIn, depthIn, siblingIn, restrictionIn, specFromIn, hasSpecsIn, orderEntryStored, flagsStored};
+ghost use Rattle.arena.specs.Slot.{HasSlot, HasPath, arcIn, flagsIn, stackIn, layerIn, parentIn, originIn};
+ghost use Rattle.arena.specs.Slot.{depthIn, siblingIn, restrictionIn, specFromIn, hasSpecsIn, orderEntryStored};
+ghost use Rattle.arena.specs.Slot.{flagsStored};
 
 // How many bytes the header has.
 pub(crate) const HEADER: usize = 64;
@@ -188,7 +191,8 @@ pub fn path(arena: &[u8], n: u32) -> &[u8]
 // The record of node n as a snapshot has it, its length first: a part of the arena.
 pub fn record(arena: &[u8], n: u32) -> &[u8]
     requires { ⌜ HasPath (now arena) n ⌝ }
-    ensures { λ r. ⌜ now r ≡ take (2 + recordLengthIn (now (arena .entry)) n) (drop (slotAt n + 17) (now (arena .entry))) ⌝ }
+    ensures { λ r. ⌜ now r ≡ take (2 + recordLengthIn (now (arena .entry)) n)
+        (drop (slotAt n + 17) (now (arena .entry))) ⌝ }
 {
     let start = HEADER + (n as usize) * SLOT + 17;
     let end = start + 2 + (record_length(arena, n) as usize);

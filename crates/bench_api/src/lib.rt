@@ -48,8 +48,8 @@ pub extern "C" fn bench_is_graph(arena: &[u8]) -> u32
     validate::is_graph(arena) as u32
 }
 
-// 1 where the bytes are an arena that holds a graph, and this has an order, else 0. It is decided by
-// all pairs of siblings: ordering comes to that only where nothing quicker shows the order.
+// 1 where the bytes are an arena that holds a graph, and this has an order, else 0. It is decided
+// by all pairs of siblings: ordering comes to that only where nothing quicker shows the order.
 #[no_mangle]
 pub extern "C" fn bench_has_order(arena: &[u8]) -> u32
     ensures { λ r. ⌜ r ≡ orderNumber (now (arena .entry)) ⌝ }

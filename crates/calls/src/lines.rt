@@ -31,6 +31,13 @@ fn overwrite(to: &mut [u8], from: &[u8]) {
     }
 }
 
+// Makes three arenas hold the empty graph.
+fn empty(first: &mut [u8], second: &mut [u8], saved: &mut [u8]) {
+    fill(first, 0);
+    fill(second, 0);
+    fill(saved, 0);
+}
+
 // Puts the answer to a line, without a newline.
 pub(crate) fn answer(
     line: &[u8],
@@ -42,9 +49,7 @@ pub(crate) fn answer(
     used: usize,
 ) -> State {
     if is_call(line, b"new", 1) {
-        fill(first, 0);
-        fill(second, 0);
-        fill(saved, 0);
+        empty(first, second, saved);
         return State {
             used: put(out, used, b"ok"),
             swapped: false,

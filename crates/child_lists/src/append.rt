@@ -11,7 +11,8 @@ ghost use Rattle.model.specs.Arena.{arenaBytes, decode, encode};
 ghost use Rattle.model.specs.Graph.{withNode};
 ghost use Rattle.model.specs.Node.{invalid};
 ghost use Rattle.arena.specs.Slot.{HasSlot, nodeOf, recordStored};
-ghost use Rattle.child_lists.specs.Append.{CanAppend, shallowWith, headerStored, threeLinks, CanLink, childLinked};
+ghost use Rattle.child_lists.specs.Append.{CanAppend, shallowWith, headerStored, threeLinks, CanLink};
+ghost use Rattle.child_lists.specs.Append.{childLinked};
 
 // Whether the graph is shallow with this node as number n: where it was, or where the node's depth
 // passes its parent's prim count.
@@ -67,7 +68,8 @@ fn link_child(arena: &mut [u8], parent: u32, n: u32)
 fn store_node(arena: &mut [u8], n: u32, node: Node, path: &[u8])
     requires { ⌜ HasSlot (now arena) n ⌝ }
     requires { ⌜ (node .«record_length» ≡ 27 + length (now path)) × (length (now path) ≤ 255) ⌝ }
-    ensures { λ _. ⌜ now (arena .exit) ≡ recordStored n node (now (path .entry)) (threeLinks n invalid invalid invalid (now (arena .entry))) ⌝ }
+    ensures { λ _. ⌜ now (arena .exit) ≡ recordStored n node (now (path .entry))
+        (threeLinks n invalid invalid invalid (now (arena .entry))) ⌝ }
 {
     let childless = node.with_first_child(NodeId::INVALID)
         .with_last_child(NodeId::INVALID);
@@ -79,7 +81,8 @@ fn store_node(arena: &mut [u8], n: u32, node: Node, path: &[u8])
 // Appends the node as number `count`, the last child of its parent; its links are ignored.
 pub fn append_node(arena: &mut [u8], count: u32, node: Node, path: &[u8])
     requires { ⌜ CanAppend (now arena) count node (now path) ⌝ }
-    ensures { λ _. ⌜ now (arena .exit) ≡ encode (withNode (decode (now (arena .entry))) (nodeOf node (now (path .entry)))) (now (arena .entry)) ⌝ }
+    ensures { λ _. ⌜ now (arena .exit) ≡ encode
+        (withNode (decode (now (arena .entry))) (nodeOf node (now (path .entry)))) (now (arena .entry)) ⌝ }
 {
     let shallow = is_shallow(arena, count, node.parent.0, node.depth);
     store_header(arena, count, node.arc, shallow);

@@ -25,7 +25,8 @@ pub(crate) fn last_of(sorted: &[u32], start: usize, end: usize) -> u32
 fn link_list(sorted: &[u32], start: usize, end: usize, next: &mut [u32]) -> u32
     requires { ⌜ (start ≤ end) × (end ≤ length (now sorted)) × (length (now next) ≡ 1024) ⌝ }
     requires { ⌜ ((k : ℕ) → k < end → getD (now sorted) k 0 < 1024) ⌝ }
-    ensures { λ r. ⌜ (r ≡ firstOf (slice start end (now (sorted .entry)))) × (now (next .exit) ≡ nextsSet (slice start end (now (sorted .entry))) (now (next .entry))) ⌝ }
+    ensures { λ r. ⌜ (r ≡ firstOf (slice start end (now (sorted .entry))))
+        × (now (next .exit) ≡ nextsSet (slice start end (now (sorted .entry))) (now (next .entry))) ⌝ }
 {
     let mut head: u32 = arena::NO_NODE;
     let mut at = end;
@@ -50,7 +51,8 @@ pub fn link_lists(
 )
     requires { ⌜ Parted (now sorted) (now ends) count × (count ≤ 1024) ⌝ }
     requires { ⌜ (length (now first) ≡ 1024) × (length (now last) ≡ 1024) × (length (now next) ≡ 1024) ⌝ }
-    ensures { λ _. ⌜ Linked (now (sorted .entry)) (now (ends .entry)) count (now (first .exit)) (now (last .exit)) (now (next .entry)) (now (next .exit)) ⌝ }
+    ensures { λ _. ⌜ Linked (now (sorted .entry)) (now (ends .entry)) count (now (first .exit)) (now (last .exit))
+        (now (next .entry)) (now (next .exit)) ⌝ }
 {
     next[0] = arena::NO_NODE;
     let mut start: usize = 0;
@@ -69,7 +71,8 @@ pub fn link_lists(
 pub fn write_links(arena: &mut [u8], count: u32, first: &[u32], last: &[u32], next: &[u32])
     requires { ⌜ (length (now arena) ≡ arenaBytes) × (count ≤ 1024) ⌝ }
     requires { ⌜ (length (now first) ≡ 1024) × (length (now last) ≡ 1024) × (length (now next) ≡ 1024) ⌝ }
-    ensures { λ _. ⌜ now (arena .exit) ≡ linksWritten (now (first .entry)) (now (last .entry)) (now (next .entry)) count (now (arena .entry)) ⌝ }
+    ensures { λ _. ⌜ now (arena .exit) ≡ linksWritten (now (first .entry)) (now (last .entry)) (now (next .entry)) count
+        (now (arena .entry)) ⌝ }
 {
     let mut n: u32 = 0;
     while n < count {

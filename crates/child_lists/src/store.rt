@@ -35,7 +35,8 @@ fn store_ends(arena: &mut [u8], n: u32, first: u32, last: u32)
 fn store_nexts(arena: &mut [u8], sorted: &[u32], start: usize, end: usize) -> u32
     requires { ⌜ (length (now arena) ≡ arenaBytes) × (start ≤ end) × (end ≤ length (now sorted)) ⌝ }
     requires { ⌜ ((k : ℕ) → k < end → getD (now sorted) k 0 < 1024) ⌝ }
-    ensures { λ r. ⌜ (r ≡ firstOf (slice start end (now (sorted .entry)))) × (now (arena .exit) ≡ nextsStored (slice start end (now (sorted .entry))) (now (arena .entry))) ⌝ }
+    ensures { λ r. ⌜ (r ≡ firstOf (slice start end (now (sorted .entry))))
+        × (now (arena .exit) ≡ nextsStored (slice start end (now (sorted .entry))) (now (arena .entry))) ⌝ }
 {
     let mut head: u32 = arena::NO_NODE;
     let mut at = end;
@@ -51,7 +52,8 @@ fn store_nexts(arena: &mut [u8], sorted: &[u32], start: usize, end: usize) -> u3
 // Stores the links of the lists of `count` nodes.
 pub fn store_lists(arena: &mut [u8], count: u32, sorted: &[u32], ends: &[u32])
     requires { ⌜ (length (now arena) ≡ arenaBytes) × (count ≤ 1024) × Parted (now sorted) (now ends) count ⌝ }
-    ensures { λ _. ⌜ now (arena .exit) ≡ listsStored (now (sorted .entry)) (now (ends .entry)) count (now (arena .entry)) ⌝ }
+    ensures { λ _. ⌜ now (arena .exit) ≡ listsStored (now (sorted .entry)) (now (ends .entry)) count
+        (now (arena .entry)) ⌝ }
 {
     let mut start: usize = 0;
     let mut parent: u32 = 0;

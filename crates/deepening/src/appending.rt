@@ -43,7 +43,8 @@ pub(crate) fn keeps_order(arena: &[u8]) -> bool
 // "ordered" is cleared.
 pub fn append_name_to_all_sites(arena: &mut [u8], name: &[u8])
     requires { ⌜ CanDeepen (now arena) (now name) ⌝ }
-    ensures { λ _. ⌜ now (arena .exit) ≡ encode (deepen (now (name .entry)) (decode (now (arena .entry)))) (now (arena .entry)) ⌝ }
+    ensures { λ _. ⌜ now (arena .exit) ≡ encode (deepen (now (name .entry)) (decode (now (arena .entry))))
+        (now (arena .entry)) ⌝ }
 {
     let count = arena::count(arena);
     let ordered = keeps_order(arena);
@@ -57,7 +58,8 @@ pub fn append_name_to_all_sites(arena: &mut [u8], name: &[u8])
 // the bytes there that the graph does not use stay.
 pub fn seed(from: &[u8], into: &mut [u8], name: &[u8])
     requires { ⌜ CanDeepen (now from) (now name) × (length (now into) ≡ arenaBytes) ⌝ }
-    ensures { λ _. ⌜ now (into .exit) ≡ encode (deepen (now (name .entry)) (decode (now (from .entry)))) (now (into .entry)) ⌝ }
+    ensures { λ _. ⌜ now (into .exit) ≡ encode (deepen (now (name .entry)) (decode (now (from .entry))))
+        (now (into .entry)) ⌝ }
 {
     let count = arena::count(from);
     crate::seeding::seed_header(from, into, count);

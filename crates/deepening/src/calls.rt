@@ -14,7 +14,8 @@ ghost use Rattle.deepening.specs.ChildNames.{Deepened, Seeded};
 
 // Questions 1, 2, 3, 5 and 7 of the arena that is read.
 fn ask(arena: &[u8], child: &[u8]) -> UnitResult
-    ensures { λ r. ⌜ unitRefusal r ≡ refusal (askArena (now (arena .entry)) (deepenQuestions (now (child .entry)) (decode (now (arena .entry))))) ⌝ }
+    ensures { λ r. ⌜ unitRefusal r ≡ refusal
+        (askArena (now (arena .entry)) (deepenQuestions (now (child .entry)) (decode (now (arena .entry))))) ⌝ }
 {
     let asked = validate::ask_node_zero(arena);
     match asked {

@@ -36,7 +36,8 @@ fn seed_slot(from: &[u8], into: &mut [u8], n: u32, name: &[u8])
 // Stores the slots of `count` nodes.
 pub(crate) fn seed_slots(from: &[u8], into: &mut [u8], count: u32, name: &[u8])
     requires { ⌜ AllJoin (now from) (now name) count × (length (now into) ≡ arenaBytes) ⌝ }
-    ensures { λ _. ⌜ now (into .exit) ≡ slotsSeeded (now (from .entry)) (now (name .entry)) count (now (into .entry)) ⌝ }
+    ensures { λ _. ⌜ now (into .exit) ≡ slotsSeeded (now (from .entry)) (now (name .entry)) count
+        (now (into .entry)) ⌝ }
 {
     let mut n: u32 = 0;
     while n < count {
@@ -48,7 +49,8 @@ pub(crate) fn seed_slots(from: &[u8], into: &mut [u8], count: u32, name: &[u8])
 // Stores the entries of the order.
 pub(crate) fn seed_order(from: &[u8], into: &mut [u8], count: u32)
     requires { ⌜ (length (now from) ≡ arenaBytes) × (length (now into) ≡ arenaBytes) × (count ≤ 1024) ⌝ }
-    ensures { λ _. ⌜ now (into .exit) ≡ orderStored (tabulate (orderEntryIn (now (from .entry))) 0 count) 0 (now (into .entry)) ⌝ }
+    ensures { λ _. ⌜ now (into .exit) ≡ orderStored (tabulate (orderEntryIn (now (from .entry))) 0 count) 0
+        (now (into .entry)) ⌝ }
 {
     let mut n: u32 = 0;
     while n < count {

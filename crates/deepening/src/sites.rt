@@ -24,7 +24,8 @@ pub(crate) fn deepen_record(arena: &[u8], n: u32, name: &[u8], path: &mut [u8]) 
 // Appends the name to the site of node n.
 fn deepen_site(arena: &mut [u8], n: u32, name: &[u8])
     requires { ⌜ CanJoin (now arena) (now name) n ⌝ }
-    ensures { λ _. ⌜ now (arena .exit) ≡ siteStored n (deepened (now (name .entry)) (nodeIn (now (arena .entry)) n)) (now (arena .entry)) ⌝ }
+    ensures { λ _. ⌜ now (arena .exit) ≡ siteStored n (deepened (now (name .entry)) (nodeIn (now (arena .entry)) n))
+        (now (arena .entry)) ⌝ }
 {
     let mut path: [u8; 255] = [0; 255];
     let node = deepen_record(arena, n, name, &mut path);

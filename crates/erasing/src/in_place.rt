@@ -27,7 +27,8 @@ fn find_links(
 )
     requires { ⌜ NumberResult (now arena) (now set) count (now numbers) × (kept ≡ newNumber (stays (now set)) count) ⌝ }
     requires { ⌜ (length (now first) ≡ 1024) × (length (now last) ≡ 1024) × (length (now next) ≡ 1024) ⌝ }
-    ensures { λ _. ⌜ LinksFound (erased (now (set .entry)) (decode (now (arena .entry)))) kept (now (first .exit)) (now (last .exit)) (now (next .entry)) (now (next .exit)) ⌝ }
+    ensures { λ _. ⌜ LinksFound (erased (now (set .entry)) (decode (now (arena .entry)))) kept (now (first .exit))
+        (now (last .exit)) (now (next .entry)) (now (next .exit)) ⌝ }
 {
     let mut lists: [u32; 1024] = [0; 1024];
     let mut ends: [u32; 1024] = [0; 1024];
@@ -47,7 +48,8 @@ fn write_header(arena: &mut [u8], kept: u32, root: u32)
 // Erases by new numbers: links and order are found, then all is stored.
 fn write_erased(arena: &mut [u8], set: &[u8], numbers: &[u32], count: u32, kept: u32)
     requires { ⌜ NumberResult (now arena) (now set) count (now numbers) × (kept ≡ newNumber (stays (now set)) count) ⌝ }
-    ensures { λ _. ⌜ now (arena .exit) ≡ encode (erased (now (set .entry)) (decode (now (arena .entry)))) (now (arena .entry)) ⌝ }
+    ensures { λ _. ⌜ now (arena .exit) ≡ encode (erased (now (set .entry)) (decode (now (arena .entry))))
+        (now (arena .entry)) ⌝ }
 {
     let mut first: [u32; 1024] = [0; 1024];
     let mut last: [u32; 1024] = [0; 1024];

@@ -16,7 +16,8 @@ ghost use Rattle.erasing.specs.KeptLists.{Numbers, keptList, Gathered};
 // The new number of each node: how many are kept below it. Answers how many are kept in all.
 pub fn number(set: &[u8], count: u32, numbers: &mut [u32]) -> u32
     requires { ⌜ (length (now set) ≡ 1024) × (length (now numbers) ≡ 1024) × (count ≤ 1024) ⌝ }
-    ensures { λ r. ⌜ (r ≡ newNumber (stays (now (set .entry))) count) × Numbers (now (set .entry)) count (now (numbers .exit)) ⌝ }
+    ensures { λ r. ⌜ (r ≡ newNumber (stays (now (set .entry))) count)
+        × Numbers (now (set .entry)) count (now (numbers .exit)) ⌝ }
 {
     let mut kept: u32 = 0;
     let mut n: u32 = 0;
@@ -41,9 +42,12 @@ fn gather_list(
     lists: &mut [u32],
     start: usize,
 ) -> usize
-    requires { ⌜ ValidArena (now arena) × (parent < countIn (now arena)) × Numbers (now set) (countIn (now arena)) (now numbers) ⌝ }
-    requires { ⌜ (length (now set) ≡ 1024) × (length (now lists) ≡ 1024) × (start + length (childrenOf (decode (now arena)) parent) ≤ 1024) ⌝ }
-    ensures { λ r. ⌜ Gathered (keptList (now (set .entry)) (childrenOf (decode (now (arena .entry))) parent)) start r (now (lists .entry)) (now (lists .exit)) ⌝ }
+    requires { ⌜ ValidArena (now arena) × (parent < countIn (now arena))
+        × Numbers (now set) (countIn (now arena)) (now numbers) ⌝ }
+    requires { ⌜ (length (now set) ≡ 1024) × (length (now lists) ≡ 1024)
+        × (start + length (childrenOf (decode (now arena)) parent) ≤ 1024) ⌝ }
+    ensures { λ r. ⌜ Gathered (keptList (now (set .entry)) (childrenOf (decode (now (arena .entry))) parent)) start r
+        (now (lists .entry)) (now (lists .exit)) ⌝ }
 {
     let mut end = start;
     let mut child = arena::first_child(arena, parent);
@@ -70,7 +74,8 @@ pub fn gather_lists(
 )
     requires { ⌜ ValidArena (now arena) × (count ≡ countIn (now arena)) × Numbers (now set) count (now numbers) ⌝ }
     requires { ⌜ (length (now set) ≡ 1024) × (length (now lists) ≡ 1024) × (length (now ends) ≡ 1024) ⌝ }
-    ensures { λ _. ⌜ Segments (childrenOf (erase (now (set .entry)) (decode (now (arena .entry))))) (newNumber (stays (now (set .entry))) count) (now (lists .exit)) (now (ends .exit)) ⌝ }
+    ensures { λ _. ⌜ Segments (childrenOf (erase (now (set .entry)) (decode (now (arena .entry)))))
+        (newNumber (stays (now (set .entry))) count) (now (lists .exit)) (now (ends .exit)) ⌝ }
 {
     let mut start: usize = 0;
     let mut n: u32 = 0;
@@ -90,7 +95,8 @@ pub fn gather_lists(
 pub fn filter_order(arena: &[u8], set: &[u8], numbers: &[u32], count: u32, order: &mut [u32]) -> u32
     requires { ⌜ ValidArena (now arena) × (count ≡ countIn (now arena)) × Numbers (now set) count (now numbers) ⌝ }
     requires { ⌜ (length (now set) ≡ 1024) × (length (now order) ≡ 1024) ⌝ }
-    ensures { λ r. ⌜ (r ≤ 1024) × (slice 0 r (now (order .exit)) ≡ erase (now (set .entry)) (decode (now (arena .entry))) .order) ⌝ }
+    ensures { λ r. ⌜ (r ≤ 1024)
+        × (slice 0 r (now (order .exit)) ≡ erase (now (set .entry)) (decode (now (arena .entry))) .order) ⌝ }
 {
     if arena::ordered(arena) != 1 {
         return 0;

@@ -52,7 +52,8 @@ fn move_record(arena: &mut [u8], numbers: &[u32], count: u32, from: u32, to: u32
 // Moves the record of each kept node to its new slot, which is not higher.
 pub fn move_records(arena: &mut [u8], set: &[u8], numbers: &[u32], count: u32)
     requires { ⌜ NumberResult (now arena) (now set) count (now numbers) ⌝ }
-    ensures { λ _. ⌜ now (arena .exit) ≡ sitesStored (erased (now (set .entry)) (decode (now (arena .entry)))) (newNumber (stays (now (set .entry))) count) (now (arena .entry)) ⌝ }
+    ensures { λ _. ⌜ now (arena .exit) ≡ sitesStored (erased (now (set .entry)) (decode (now (arena .entry))))
+        (newNumber (stays (now (set .entry))) count) (now (arena .entry)) ⌝ }
 {
     let mut path: [u8; 255] = [0; 255];
     let mut n: u32 = 0;

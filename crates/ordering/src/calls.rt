@@ -78,7 +78,8 @@ fn write_entries(arena: &[u8], count: u32, out: &mut [u8])
 // The node at a place of the order. Refused 1, 2, 3, 4 where the place is not below the count, and
 // 10.
 pub fn order_entry(arena: &[u8], place: u32) -> NumberResult
-    ensures { λ r. ⌜ Answered (askArena (now (arena .entry)) (readsEntry (decode (now (arena .entry))) place)) (getD (decode (now (arena .entry)) .order) place 0) r ⌝ }
+    ensures { λ r. ⌜ Answered (askArena (now (arena .entry)) (readsEntry (decode (now (arena .entry))) place))
+        (getD (decode (now (arena .entry)) .order) place 0) r ⌝ }
 {
     let asked = validate::ask_node(arena, place);
     match asked {

@@ -25,7 +25,8 @@ fn write_state(arena: &mut [u8])
 
 // Orders the graph whose lists stand in order: marks and walk.
 fn write_standing(arena: &mut [u8], count: u32)
-    requires { ⌜ ValidArena (now arena) × (count ≡ countIn (now arena)) × (0 < count) × Stands (decode (now arena)) true ⌝ }
+    requires { ⌜ ValidArena (now arena) × (count ≡ countIn (now arena)) × (0 < count)
+        × Stands (decode (now arena)) true ⌝ }
     ensures { λ _. ⌜ now (arena .exit) ≡ encode (ordering (decode (now (arena .entry)))) (now (arena .entry)) ⌝ }
 {
     write_state(arena);
@@ -34,7 +35,8 @@ fn write_standing(arena: &mut [u8], count: u32)
 
 // Orders the graph whose sorted lists these are: marks, links and walk.
 fn write_sorted(arena: &mut [u8], count: u32, sorted: &[u32], ends: &[u32])
-    requires { ⌜ ValidArena (now arena) × (count ≡ countIn (now arena)) × (0 < count) × (hasOrder (decode (now arena)) ≡ true) ⌝ }
+    requires { ⌜ ValidArena (now arena) × (count ≡ countIn (now arena)) × (0 < count)
+        × (hasOrder (decode (now arena)) ≡ true) ⌝ }
     requires { ⌜ Segments (sortedChildren (decode (now arena))) count (now sorted) (now ends) ⌝ }
     ensures { λ _. ⌜ now (arena .exit) ≡ encode (ordering (decode (now (arena .entry)))) (now (arena .entry)) ⌝ }
 {

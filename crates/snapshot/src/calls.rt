@@ -14,7 +14,8 @@ ghost use Rattle.snapshot.specs.Snapshots.{SnapshotWritten};
 // Reads a snapshot into the arena, whatever it held, and answers how many nodes it has: child lists
 // in node order, not ordered, shallow found anew. Refused 1, 12, then 4 to 7 record by record.
 pub fn read_snapshot(arena: &mut [u8], bytes: &[u8]) -> NumberResult
-    ensures { λ r. ⌜ Wrote (intoArena (readInto (now (bytes .entry)) emptyGraph) (now (arena .entry))) (now (arena .entry)) r (now (arena .exit)) ⌝ }
+    ensures { λ r. ⌜ Wrote (intoArena (readInto (now (bytes .entry)) emptyGraph) (now (arena .entry)))
+        (now (arena .entry)) r (now (arena .exit)) ⌝ }
 {
     if arena.len() != arena::ARENA_BYTES {
         return NumberResult::Refused(Refusal::Size);

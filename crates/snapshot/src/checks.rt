@@ -84,7 +84,8 @@ fn with_root(has_root: bool, n: u32, arc: u8) -> bool
 fn check_one(kinds: &[u8], pairs: &[u64], body: &[u8], before: Before) -> Checked
     requires { ⌜ Tables (now kinds) (now pairs) ⌝ }
     requires { ⌜ (28 ≤ length (now body)) × (length (now body) ≤ 282) × (before .«path_bytes» ≤ 32768) ⌝ }
-    ensures { λ r. ⌜ RecordChecked (questionsOf before (readRecord (now (body .entry)))) (readRecord (now (body .entry)) .path) r ⌝ }
+    ensures { λ r. ⌜ RecordChecked (questionsOf before (readRecord (now (body .entry))))
+        (readRecord (now (body .entry)) .path) r ⌝ }
 {
     let Taken::Node(node) = record::read_node(body, 0) else {
         return Checked::Refused(Refusal::Snapshot);

@@ -14,7 +14,8 @@ ghost use Rattle.snapshot.specs.Filling.{CanAppendRecord, CanFill};
 // Appends the node of a record, which misses no field, as number n.
 fn append_record(arena: &mut [u8], n: u32, body: &[u8], prim_count: u8)
     requires { ⌜ CanAppendRecord (now arena) n (now body) «prim_count» ⌝ }
-    ensures { λ _. ⌜ now (arena .exit) ≡ encode (withNode (decode (now (arena .entry))) (readRecord (now (body .entry)))) (now (arena .entry)) ⌝ }
+    ensures { λ _. ⌜ now (arena .exit) ≡ encode
+        (withNode (decode (now (arena .entry))) (readRecord (now (body .entry)))) (now (arena .entry)) ⌝ }
 {
     let Taken::Node(node) = record::read_node(body, prim_count) else {
         return;
@@ -34,7 +35,8 @@ fn clear(arena: &mut [u8])
 // Fills the arena with the nodes of the snapshot, whose prim counts are in `prims`.
 pub(crate) fn fill(arena: &mut [u8], bytes: &[u8], count: u32, prims: &[u8])
     requires { ⌜ CanFill (now arena) (now bytes) count (now prims) ⌝ }
-    ensures { λ _. ⌜ now (arena .exit) ≡ encode (readInto (now (bytes .entry)) emptyGraph .graph) (now (arena .entry)) ⌝ }
+    ensures { λ _. ⌜ now (arena .exit) ≡ encode (readInto (now (bytes .entry)) emptyGraph .graph)
+        (now (arena .entry)) ⌝ }
 {
     clear(arena);
     let mut at: usize = 7;

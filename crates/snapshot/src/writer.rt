@@ -13,7 +13,8 @@ ghost use Rattle.snapshot.specs.Writing.{CanWrite, frontBytes};
 fn write_records(arena: &[u8], out: &mut [u8]) -> usize
     requires { ⌜ CanWrite (now arena) (now out) ⌝ }
     ensures { λ r. ⌜ r ≡ 7 + length (recordsBytes (decode (now (arena .entry)) .nodes)) ⌝ }
-    ensures { λ _. ⌜ now (out .exit) ≡ stored 7 (recordsBytes (decode (now (arena .entry)) .nodes)) (now (out .entry)) ⌝ }
+    ensures { λ _. ⌜ now (out .exit) ≡ stored 7 (recordsBytes (decode (now (arena .entry)) .nodes))
+        (now (out .entry)) ⌝ }
 {
     let count = arena::count(arena);
     let mut at: usize = 7;
