@@ -5,7 +5,6 @@ use crate::fields::Byte;
 use crate::fields::Field;
 use crate::fields::Short;
 use crate::record;
-use crate::record::Taken;
 use arena::offsets;
 use model::NumberResult;
 use model::Refusal;
@@ -79,23 +78,35 @@ fn with_root(has_root: bool, n: u32, arc: u8) -> bool
     has_root
 }
 
-// Questions 4 to 7 of a record. A field that is missing, which none is, refuses 12. The node's prim
-// count is not asked for.
+// Questions 4 to 7 of a record, which take only the numbers that they ask of. A field that is
+// missing, which none is, refuses 12.
 fn check_one(kinds: &[u8], pairs: &[u64], body: &[u8], before: Before) -> Checked
     requires { ⌜ Tables (now kinds) (now pairs) ⌝ }
-    requires { ⌜ (28 ≤ length (now body)) × (length (now body) ≤ 282) × (before .«path_bytes» ≤ 32768) ⌝ }
+    requires { ⌜ (28 ≤ length (now body)) × (before .«path_bytes» ≤ 32768) ⌝ }
     ensures { λ r. ⌜ RecordChecked (questionsOf before (readRecord (now (body .entry))))
         (readRecord (now (body .entry)) .path) r ⌝ }
 {
-    let Taken::Node(node) = record::read_node(body, 0) else {
+    let Byte::Value(arc) = fields::take_u8(body, offsets::ARC) else {
+        return Checked::Refused(Refusal::Snapshot);
+    };
+    let Byte::Value(flags) = fields::take_u8(body, offsets::FLAGS) else {
+        return Checked::Refused(Refusal::Snapshot);
+    };
+    let Field::Value(parent) = fields::take_u32(body, offsets::PARENT) else {
+        return Checked::Refused(Refusal::Snapshot);
+    };
+    let Field::Value(origin) = fields::take_u32(body, offsets::ORIGIN) else {
+        return Checked::Refused(Refusal::Snapshot);
+    };
+    let Byte::Value(has_specs) = fields::take_u8(body, offsets::HAS_SPECS) else {
         return Checked::Refused(Refusal::Snapshot);
     };
     let numbers = RecordNumbers {
-        arc: node.arc,
-        flags: node.flags,
-        parent: node.parent.0,
-        origin: node.origin.0,
-        has_specs: node.has_specs,
+        arc: arc,
+        flags: flags,
+        parent: parent,
+        origin: origin,
+        has_specs: has_specs,
     };
     let path = &body[offsets::PATH..];
     validate::check_record(

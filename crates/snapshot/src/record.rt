@@ -1,5 +1,5 @@
-// A record of a snapshot: where it stands, and its node, which both passes over the records read
-// here. A record that is long enough misses no field.
+// A record of a snapshot: where it stands, and its node. A record that is long enough misses no
+// field.
 use crate::fields;
 use crate::fields::Byte;
 use crate::fields::Field;

@@ -54,7 +54,7 @@ slice-aggregate-check-one-2 c = search needs
 check-one-requires : tie.Need-check-one-requires Inv-loop μ-loop
 check-one-requires c κs = (
   record { kinds-right = c .before .before .before .before .before .before .kinds .ensures; pairs-right = c .before .before .before .before .before .pairs .ensures },
-  (long (c .before .before) .0, long (c .before .before) .1, c .before .before .before .before .loop .inv .few-bytes),
+  (long (c .before .before) .0, c .before .before .before .before .loop .inv .few-bytes),
 )
 
 enum-known-checked : tie.Need-enum-known-checked Inv-loop μ-loop
