@@ -12,7 +12,7 @@ ghost use Rattle.erasing.specs.Erasures.{ErasableWritten, Erased};
 pub fn erasable(arena: &[u8], set: &mut [u8]) -> UnitResult
     ensures { λ r. ⌜ ErasableWritten (now (arena .entry)) (now (set .entry)) r (now (set .exit)) ⌝ }
 {
-    if set.len() != 1024 {
+    if set.len() != arena::SET_BYTES {
         return UnitResult::Refused(Refusal::Size);
     }
     let asked = validate::ask_node_zero(arena);
@@ -31,7 +31,7 @@ pub fn erasable(arena: &[u8], set: &mut [u8]) -> UnitResult
 pub fn erase(arena: &mut [u8], set: &[u8]) -> NumberResult
     ensures { λ r. ⌜ Erased (now (set .entry)) (now (arena .entry)) r (now (arena .exit)) ⌝ }
 {
-    if set.len() != 1024 {
+    if set.len() != arena::SET_BYTES {
         return NumberResult::Refused(Refusal::Size);
     }
     let asked = validate::ask_node_zero(arena);

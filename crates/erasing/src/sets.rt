@@ -37,7 +37,7 @@ fn mark_all(arena: &[u8], count: u32, set: &mut [u8])
     ensures { λ _. ⌜ MarkedBelow (decode (now (arena .entry))) 1024 (now (set .exit)) ⌝ }
 {
     let mut n: u32 = 0;
-    while n < 1024 {
+    while n < arena::MAX_NODES {
         set[n as usize] = mark(arena, count, n);
         n += 1;
     }

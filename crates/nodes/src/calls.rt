@@ -39,7 +39,7 @@ fn start_record(stack: u32, layer: u32, prims: u16, path_length: usize) -> arena
         prim_count: prims as u8,
         record_length: (arena::offsets::PATH + path_length) as u16,
         arc: arena::arcs::ROOT,
-        flags: 1,
+        flags: arena::INERT,
         stack: stack,
         layer: layer,
         parent: NodeId::INVALID,

@@ -46,7 +46,7 @@ fn is_ordered(arena: &[u8]) -> bool
 pub fn strength_order(arena: &[u8], out: &mut [u8]) -> NumberResult
     ensures { λ r. ⌜ OrderWritten (now (arena .entry)) (now (out .entry)) r (now (out .exit)) ⌝ }
 {
-    if out.len() != 4096 {
+    if out.len() != arena::ORDER_BYTES {
         return NumberResult::Refused(Refusal::Size);
     }
     let asked = validate::ask_node_zero(arena);

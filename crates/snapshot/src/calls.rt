@@ -28,7 +28,7 @@ pub fn read_snapshot(arena: &mut [u8], bytes: &[u8]) -> NumberResult
 pub fn write_snapshot(arena: &[u8], out: &mut [u8]) -> NumberResult
     ensures { λ r. ⌜ SnapshotWritten (now (arena .entry)) (now (out .entry)) r (now (out .exit)) ⌝ }
 {
-    if out.len() != 65536 {
+    if out.len() != arena::SNAPSHOT_BYTES {
         return NumberResult::Refused(Refusal::Size);
     }
     let asked = validate::ask_graph(arena);

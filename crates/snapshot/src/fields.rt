@@ -56,7 +56,7 @@ pub fn take_u32(bytes: &[u8], at: usize) -> Field
     Field::Value(big_endian::read_u32(bytes, at))
 }
 
-// The length of the record at `at`, 28 to 282, with all of that record behind it.
+// The length of the record at `at`, with all of that record behind it.
 pub(crate) fn take_length(bytes: &[u8], at: usize) -> Short
     requires { ⌜ at ≤ length (now bytes) ⌝ }
     ensures { λ r. ⌜ shortValue r ≡ lengthAt at (now (bytes .entry)) ⌝ }
@@ -64,10 +64,10 @@ pub(crate) fn take_length(bytes: &[u8], at: usize) -> Short
     let Short::Value(length) = take_u16(bytes, at) else {
         return Short::Missing;
     };
-    if length < 28 {
+    if length < arena::LEAST_RECORD_BYTES {
         return Short::Missing;
     }
-    if 282 < length {
+    if arena::MOST_RECORD_BYTES < length {
         return Short::Missing;
     }
     if bytes.len() - at < 2 + (length as usize) {

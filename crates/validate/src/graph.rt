@@ -109,10 +109,10 @@ fn record_valid(kinds: &[u8], pairs: &[u64], arena: &[u8], before: Before, lengt
         × (before .«path_bytes» ≤ 32768) ⌝ }
     ensures { λ r. ⌜ r ≡ recordValidAfter (now (arena .entry)) before ⌝ }
 {
-    if length < 28 {
+    if length < arena::LEAST_RECORD_BYTES as usize {
         return false;
     }
-    if length > 282 {
+    if length > arena::MOST_RECORD_BYTES as usize {
         return false;
     }
     let n = before.count;

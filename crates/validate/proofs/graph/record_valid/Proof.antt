@@ -28,8 +28,14 @@ fits c =
 numbered : (c : tie.Else3) → let a = entry (c .before) .args in numbersValid (a .arena .now) (a .before) ≡ true
 numbered c = sym (c .before .numbers-valid .ensures) ∙ not-false _ (c .if3 .left)
 
+cast-if1 : tie.Need-cast-if1
+cast-if1 c = search needs
+
 returns : tie.Need-returns
 returns c = let s = c .before .before .before .before in sym (too-short _ _ (omega (arith, c .if1 .taken, s .pre .1 .1)))
+
+cast-if2 : tie.Need-cast-if2
+cast-if2 c = search needs
 
 returns-2 : tie.Need-returns-2
 returns-2 c =
@@ -88,7 +94,9 @@ pub record-valid-spec : {M : Type 1} → statement M
 record-valid-spec =
     tie.close
     (tie.spec
+    cast-if1
     returns
+    cast-if2
     returns-2
     parent-requires
     arc-requires
