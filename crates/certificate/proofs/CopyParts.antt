@@ -91,10 +91,8 @@ module _ {u : View} {a b : Entry} (left : EntryOf u a) (right : EntryOf u b) (pl
   abbrev Next : Type 0
   Next = Follows u (placeIn places) (a .node) (b .node)
 
-  pub root-follows : placeIn places (a .root) < placeIn places (b .root) → Next
-  root-follows h =
-      by-root u (placeIn places) (a .node) (b .node)
-      (rw (← left .root, ← right .root) (smaller-lt (placeIn places (a .root)) (placeIn places (b .root)) h))
+  pub root-follows : byPlace (placeIn places) (a .root) (b .root) ≡ Less → Next
+  root-follows less = by-root u (placeIn places) (a .node) (b .node) (rw (← left .root, ← right .root) less)
 
   pub class-follows : a .root ≡ b .root → a .«class_depth» < b .«class_depth» → Next
   class-follows e h =

@@ -1,10 +1,12 @@
 // Two entries by document 01's lines: before one another, and following one another as copies do.
 use line_table::Entry;
+use model::Ordering;
 use model::Verdict;
 ghost use mathlib.Core.Path.{_≡_};
 ghost use mathlib.Core.Bool.{true, not, _||_, cond};
 ghost use Prim.Native.Nat.{_≤_, _<_};
 ghost use lib.ListN.{length};
+ghost use Rattle.model.specs.Places.{byPlace};
 ghost use Rattle.certificate.specs.Certificate.{placeIn, Placed, IsBefore, SameStack};
 ghost use Rattle.certificate.specs.Certificate.{FollowsBy, NextBy, RisesOver};
 
@@ -15,19 +17,25 @@ pub(crate) fn wide(place: u16) -> u32
     place as u32
 }
 
-// Whether a is before b by the lines; of two nodes that they ask for the one with the lower place
-// is the stronger.
+// The strength of nodes x and y, read off their places: the one with the lower place is the
+// stronger.
+pub fn by_places(places: &[u16], x: u32, y: u32) -> Ordering
+    requires { ⌜ (x < length (now places)) × (y < length (now places)) × (length (now places) ≤ 1024) ⌝ }
+    ensures { λ r. ⌜ r ≡ byPlace (placeIn (now (places .entry))) x y ⌝ }
+{
+    let from = wide(places[x as usize]);
+    let to = wide(places[y as usize]);
+    strength::by_number(from, to)
+}
+
+// Whether a is before b by the lines, which ask the places for the strength of nodes.
 pub(crate) fn is_before(places: &[u16], a: Entry, b: Entry, nested: bool) -> bool
     requires { ⌜ Placed (now places) a × Placed (now places) b ⌝ }
     ensures { λ r. ⌜ IsBefore (now (places .entry)) a b nested r ⌝ }
 {
     match line_table::weigh(a, b, nested) {
         Verdict::Settled(o) => strength::is_less(o),
-        Verdict::Ask(x, y, o) => {
-            let from = wide(places[x as usize]);
-            let to = wide(places[y as usize]);
-            strength::is_less(strength::or_else(strength::by_number(from, to), o))
-        }
+        Verdict::Ask(x, y, o) => strength::is_less(strength::or_else(by_places(places, x, y), o)),
     }
 }
 
@@ -42,16 +50,6 @@ pub(crate) fn is_copy(e: Entry) -> bool
     !e.authored
 }
 
-// Whether the place of x is before that of y.
-fn is_earlier(places: &[u16], x: u32, y: u32) -> bool
-    requires { ⌜ (x < length (now places)) × (y < length (now places)) × (length (now places) ≤ 1024) ⌝ }
-    ensures { λ r. ⌜ (r ≡ true → placeIn (now (places .entry)) x < placeIn (now (places .entry)) y) ⌝ }
-{
-    let from = wide(places[x as usize]);
-    let to = wide(places[y as usize]);
-    from < to
-}
-
 // Whether b follows a, which has its R, class depth, hops and stack: by implied in the local root's
 // stack and then the origins; for one origin, by implied and then the node number.
 fn follows_in_stack(places: &[u16], a: Entry, b: Entry) -> bool
@@ -62,9 +60,7 @@ fn follows_in_stack(places: &[u16], a: Entry, b: Entry) -> bool
     if a.origin == b.origin {
         return strength::is_less(strength::or_else(implied, strength::by_number(a.node, b.node)));
     }
-    let from = wide(places[a.origin as usize]);
-    let to = wide(places[b.origin as usize]);
-    let origins = strength::by_number(from, to);
+    let origins = by_places(places, a.origin, b.origin);
     if a.local {
         return strength::is_less(strength::or_else(implied, origins));
     }
@@ -78,7 +74,7 @@ fn follows(places: &[u16], a: Entry, b: Entry) -> bool
     ensures { λ r. ⌜ FollowsBy (now (places .entry)) a b r ⌝ }
 {
     if a.root != b.root {
-        return is_earlier(places, a.root, b.root);
+        return strength::is_less(by_places(places, a.root, b.root));
     }
     if a.class_depth != b.class_depth {
         return a.class_depth < b.class_depth;

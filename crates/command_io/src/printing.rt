@@ -1,5 +1,7 @@
 // What a command prints. Where standard output cannot be written it says so on standard error,
-// after its own name: the kit's libraries set no exit status.
+// after its own name: the kit's libraries set no exit status. No function here has an `ensures`:
+// what they are lent they cannot change, they answer nothing, and of what comes out of a program
+// the kit's libraries say nothing to cite. examples/order tests it.
 use libc::STDERR_FILENO;
 use libc::STDOUT_FILENO;
 use model::Refusal;

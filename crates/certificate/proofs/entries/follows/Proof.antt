@@ -1,17 +1,24 @@
 -- `follows` meets its contract: the first line that differs says it.
 -- Assumes nothing.
 use mathlib.Core.Bool.{false≢true}
+use mathlib.Core.Path.{sym, _∙_}
 use borrow.Author.Needs.{needs}
 use borrow.Author.Tests.{ltb-true}
+use Rattle.laws.proofs.WalkLaws.{is-less}
 use Rattle.certificate.proofs.CopyParts.{root-follows, class-follows, hops-follows, tested-same}
 use Rattle.certificate.proofs.entries.follows.Statement.{statement}
 use Rattle.certificate.proofs.entries.follows.Tie as tie
 
-is-earlier-requires : tie.Need-is-earlier-requires
-is-earlier-requires c κs = search needs
+by-places-requires : tie.Need-by-places-requires
+by-places-requires c κs = search needs
+
+is-less-requires : tie.Need-is-less-requires
+is-less-requires c κs = search needs
 
 returns : tie.Need-returns
-returns c = λ e u p q. root-follows p q (c .before .before .before .before .before .args .places .now) (c .is-earlier .ensures e)
+returns c = λ e u p q.
+    root-follows p q (c .before .before .before .before .before .before .args .places .now)
+    (sym (c .before .by-places .ensures) ∙ is-less _ (sym (c .is-less .ensures) ∙ e))
 
 returns-2 : tie.Need-returns-2
 returns-2 c = λ e u p q.
@@ -45,7 +52,8 @@ pub follows-spec : {M : Type 1} → statement M
 follows-spec =
     tie.close
     (tie.spec
-    is-earlier-requires
+    by-places-requires
+    is-less-requires
     returns
     returns-2
     returns-3

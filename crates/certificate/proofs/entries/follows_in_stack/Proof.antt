@@ -3,7 +3,6 @@
 use mathlib.Core.Path.{sym, _∙_}
 use borrow.Author.Needs.{needs}
 use Rattle.laws.proofs.WalkLaws.{is-less}
-use Rattle.strength.proofs.VerdictNumbers.{read-smaller}
 use Rattle.certificate.proofs.CopyParts.{stack-follows, origin-follows, said-less}
 use Rattle.certificate.proofs.entries.follows_in_stack.Statement.{statement}
 use Rattle.certificate.proofs.entries.follows_in_stack.Tie as tie
@@ -27,32 +26,8 @@ returns c = λ e u p q.
     origin-follows p q (s .args .places .now) (s .pre .2) (c .before .before .before .if1 .taken)
     (said-less e (c .is-less .ensures) (c .before .or-else .ensures) (having .by-having .ensures) (c .before .before .by-number .ensures))
 
-cast-wide : tie.Need-cast-wide
-cast-wide c = search needs
-
-mul-wide : tie.Need-mul-wide
-mul-wide c = search needs
-
-shared-slice-read-wide : tie.Need-shared-slice-read-wide
-shared-slice-read-wide c = search needs
-
-wide-requires : tie.Need-wide-requires
-wide-requires c κs = search needs
-
-cast-wide-2 : tie.Need-cast-wide-2
-cast-wide-2 c = search needs
-
-mul-wide-2 : tie.Need-mul-wide-2
-mul-wide-2 c = search needs
-
-shared-slice-read-wide-2 : tie.Need-shared-slice-read-wide-2
-shared-slice-read-wide-2 c = search needs
-
-wide-requires-2 : tie.Need-wide-requires-2
-wide-requires-2 c κs = search needs
-
-by-number-requires-2 : tie.Need-by-number-requires-2
-by-number-requires-2 c κs = search needs
+by-places-requires : tie.Need-by-places-requires
+by-places-requires c κs = search needs
 
 or-else-requires-2 : tie.Need-or-else-requires-2
 or-else-requires-2 c κs = search needs
@@ -62,24 +37,22 @@ is-less-requires-2 c κs = search needs
 
 returns-2 : tie.Need-returns-2
 returns-2 c = λ e u p q.
-    let w = c .before .before .before .before in
-    let from = w .before .before .before in
-    let having = from .before .before .before .before .before .before in
+    let origins = c .before .before .before in
+    let having = origins .before .before .before .before in
     let s = having .before .before in
-    let origins = read-smaller (from .wide .ensures) (w .wide2 .ensures) (c .before .before .before .by-number2 .ensures) in
     stack-follows p q (s .args .places .now) (s .pre .2)
-    (rw (c .before .before .if2 .taken) (said-less e (c .is-less2 .ensures) (c .before .or-else2 .ensures) (having .by-having .ensures) origins))
+    (rw (c .before .before .if2 .taken)
+    (said-less e (c .is-less2 .ensures) (c .before .or-else2 .ensures) (having .by-having .ensures) (origins .by-places .ensures)))
 
 is-less-requires-3 : tie.Need-is-less-requires-3
 is-less-requires-3 c κs = search needs
 
 returns-3 : tie.Need-returns-3
 returns-3 c = λ e u p q.
-    let w = c .before .before .before in
-    let s = w .before .before .before .before .before .before .before .before .before .before .before in
-    let origins = read-smaller (w .before .before .before .wide .ensures) (w .wide2 .ensures) (c .before .before .by-number2 .ensures) in
+    let origins = c .before .before in
+    let s = origins .before .before .before .before .before .before in
     stack-follows p q (s .args .places .now) (s .pre .2)
-    (rw (c .before .if2 .left) (sym origins ∙ is-less _ (sym (c .is-less3 .ensures) ∙ e)))
+    (rw (c .before .if2 .left) (sym (origins .by-places .ensures) ∙ is-less _ (sym (c .is-less3 .ensures) ∙ e)))
 
 pub follows-in-stack-spec : {M : Type 1} → statement M
 follows-in-stack-spec =
@@ -90,15 +63,7 @@ follows-in-stack-spec =
     or-else-requires
     is-less-requires
     returns
-    cast-wide
-    mul-wide
-    shared-slice-read-wide
-    wide-requires
-    cast-wide-2
-    mul-wide-2
-    shared-slice-read-wide-2
-    wide-requires-2
-    by-number-requires-2
+    by-places-requires
     or-else-requires-2
     is-less-requires-2
     returns-2

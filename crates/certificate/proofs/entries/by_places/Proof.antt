@@ -1,10 +1,8 @@
--- `is_earlier` meets its contract.
--- Assumes nothing.
-use native.Mathlib.Omega.{arith}
+-- `by_places` meets its contract: the two places are read and compared. Assumes nothing.
 use borrow.Author.Needs.{needs}
-use borrow.Author.Tests.{ltb-true}
-use Rattle.certificate.proofs.entries.is_earlier.Statement.{statement}
-use Rattle.certificate.proofs.entries.is_earlier.Tie as tie
+use Rattle.strength.proofs.VerdictNumbers.{read-smaller}
+use Rattle.certificate.proofs.entries.by_places.Statement.{statement}
+use Rattle.certificate.proofs.entries.by_places.Tie as tie
 
 mul-wide : tie.Need-mul-wide
 mul-wide c = search needs
@@ -24,11 +22,14 @@ shared-slice-read-wide-2 c = search needs
 wide-requires-2 : tie.Need-wide-requires-2
 wide-requires-2 c κs = search needs
 
-returns : tie.Need-returns
-returns c = λ e. omega (arith, ltb-true (c .before .before .wide .result) (c .wide2 .result) e, c .before .before .wide .ensures, c .wide2 .ensures)
+by-number-requires : tie.Need-by-number-requires
+by-number-requires c κs = search needs
 
-pub is-earlier-spec : {M : Type 1} → statement M
-is-earlier-spec =
+returns : tie.Need-returns
+returns c = read-smaller (c .before .before .before .wide .ensures) (c .before .wide2 .ensures) (c .by-number .ensures)
+
+pub by-places-spec : {M : Type 1} → statement M
+by-places-spec =
     tie.close
     (tie.spec
     mul-wide
@@ -37,4 +38,5 @@ is-earlier-spec =
     mul-wide-2
     shared-slice-read-wide-2
     wide-requires-2
+    by-number-requires
     returns)
