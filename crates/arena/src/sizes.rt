@@ -1,4 +1,5 @@
-// How much a graph, a record and the lent buffers hold, and the number that no node has.
+// How much a graph, a record and the lent buffers hold, the flag INERT, and the number that no node
+// has.
 
 // How many bytes an arena has.
 pub const ARENA_BYTES: usize = 327744;

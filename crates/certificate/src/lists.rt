@@ -1,6 +1,5 @@
 // Whether a node's list is in order: its runs one after the other.
 use crate::runs::run_in_order;
-ghost use mathlib.Core.Path.{_≡_};
 ghost use mathlib.Core.Bool.{true};
 ghost use Prim.Native.Nat.{_≤_, _<_};
 ghost use lib.ListN.{length};

@@ -2,7 +2,6 @@
 -- without comparing through origins: if the child lists are in order by document 01's lines, node
 -- strength being read off the places, and the places are those of a walk of these lists, parent
 -- first, then each list is in its order by strength itself (laws/proofs/OrderPlaces.antt).
-use mathlib.Core.Path.{_≡_}
 use mathlib.Core.List.{List, [], _∷_}
 use Prim.Native.Nat.{ℕ, suc, _≤_, _<_}
 use Rattle.model.specs.declared.Ordering.{Ordering}

@@ -6,7 +6,6 @@ use borrow.Author.Tests.{not-false}
 use Rattle.laws.proofs.StoredLaws.{bytes-by-place}
 use Rattle.certificate.proofs.CertificateChildren.{tree-read}
 use Rattle.sorting.proofs.CycleRefutes.{siblings-pair, cycle-refutes}
-use Rattle.sorting.specs.Cycle.{Three}
 use Rattle.sorting.proofs.cycle.is_cycle.Statement.{statement}
 use Rattle.sorting.proofs.cycle.is_cycle.Tie as tie
 
