@@ -7,11 +7,12 @@ use mathlib.Core.List.{List, [], _∷_}
 use Prim.Native.Nat.{ℕ}
 use native.Mathlib.Omega.{arith}
 use Rattle.model.specs.Graph.{Graph}
-use Rattle.model.specs.Calls.{Call, starting, adding, orders, culls, erasing, deepening, reading, call, calls, readInto}
+use Rattle.model.specs.Calls.{Call, starting, adding, orders, culls, erasing, deepening, reading, marking, settingFirstSpec, settingHasSpecs, settingRestriction, call, calls, readInto}
 use Rattle.laws.specs.GraphDemand3.{Start, empty, read, seeded}
 use Rattle.laws.proofs.LegalGraphs.{Legal, empty-legal}
 use Rattle.laws.proofs.LegalAdded.{LegalOrRefused, starting-keeps-legal, adding-keeps-legal, reading-legal-or-refused}
 use Rattle.laws.proofs.LegalAlike.{ordering-keeps-legal, culling-keeps-legal, deepening-keeps-legal, seeding-legal}
+use Rattle.laws.proofs.LegalSet.{marking-keeps-legal, first-spec-keeps-legal, has-specs-keeps-legal, restriction-keeps-legal}
 use Rattle.laws.proofs.LegalErased.{erasing-keeps-legal}
 
 -- ---- Reading
@@ -40,6 +41,10 @@ call-keeps-legal culls g legal = culling-keeps-legal g legal
 call-keeps-legal (erasing bytes) g legal = erasing-keeps-legal bytes g legal
 call-keeps-legal (deepening child) g legal = deepening-keeps-legal child g legal
 call-keeps-legal (reading bytes) g legal = reading-keeps-legal bytes g legal
+call-keeps-legal (marking n flags) g legal = marking-keeps-legal n flags g legal
+call-keeps-legal (settingFirstSpec n first) g legal = first-spec-keeps-legal n first g legal
+call-keeps-legal (settingHasSpecs n authored) g legal = has-specs-keeps-legal n authored g legal
+call-keeps-legal (settingRestriction n depth) g legal = restriction-keeps-legal n depth g legal
 
 pub calls-keep-legal : (cs : List Call) (g : Graph) → Legal g → Legal (calls cs g)
 calls-keep-legal [] g legal = legal

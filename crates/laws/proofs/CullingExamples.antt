@@ -13,7 +13,7 @@ use lib.ListN.{getD, replicate, List·getD-eq-default}
 use borrow.Author.Tests.{eqb-true, eq-eqb, ne-eqb, ltb-true, ltb-false, not-true}
 use Rattle.model.specs.Lists.{bit, count, every, allBelow}
 use Rattle.model.specs.Path.{isNameStart, isWordByte, isSelectionByte, wellFormed, primCount, beforeName, pathAtIntroDepth}
-use Rattle.model.specs.Node.{invalid, rootArc, Node, isCulled}
+use Rattle.model.specs.Node.{invalid, optional, rootArc, Node, isCulled}
 use Rattle.model.specs.Graph.{Graph, emptyGraph, nodeAt, withNode, depthBelowIntroduction, pathAtIntroduction, isLocalRoot, inLocalStack}
 use Rattle.model.specs.Strength.{view, originRootNode}
 use Rattle.model.specs.Culling.{keepsInherit, canCull, cullDown, cullSubtreesWithoutOpinions, isMarked, isErasable}
@@ -45,9 +45,10 @@ sample f = record {
 }
 
 abbrev under : ℕ → ℕ → ℕ → ℕ → String → Call
-under parent arc origin hasSpecs path = adding (record { fields = node arc 0 parent origin 0 hasSpecs path; depth = some 1 })
+under parent arc origin hasSpecs path =
+    adding (record { fields = node arc 0 0 0 0 hasSpecs path; parent = some parent; origin = optional origin; depth = some 1 })
 
-grown : calls (starting 0 0 (bytes "/M/a") ∷ adding (record { fields = node 0 0 invalid invalid 0 1 "/M/a"; depth = none })
+grown : calls (starting 0 0 (bytes "/M/a") ∷ adding (record { fields = node 0 0 0 0 0 1 "/M/a"; parent = none; origin = none; depth = none })
     ∷ under 1 4 invalid 0 "/R/a" ∷ under 1 1 2 1 "/C/a" ∷ under 1 4 invalid 0 "/Q/a" ∷ under 4 1 invalid 0 "/K/a" ∷ []) emptyGraph ≡ sample 0
 unfolding initRoot addChild withNode wellFormed primCount isNameStart isWordByte isSelectionByte depthBelowIntroduction isLocalRoot
 grown = refl

@@ -17,8 +17,7 @@ use Rattle.model.specs.Node.{rootArc, inheritArc, culledFlag, Node, noNode, has
 use Rattle.model.specs.Graph.{Graph, size, nodeAt, childrenOf, depthBelowIntroduction, pathAtIntroduction, isLocalRoot, hasLocalRoot, inLocalStack}
 use Rattle.model.specs.Strength.{View, view, isAuthored, originRootNode}
 use Rattle.model.specs.Culling.{introducer, keepsInherit, canCull, culled, cullOne, cullDown, cullSubtreesWithoutOpinions}
-use Rattle.laws.proofs.Views.{LooksLike}
-use Rattle.laws.proofs.StrengthLaws.{looks-like-itself}
+use Rattle.laws.proofs.SeenLaws.{SeenAlike, node-set, depth-below-kept, path-at-introduction-kept, local-stack-kept, view-kept}
 
 -- ---- One node
 
@@ -121,52 +120,35 @@ then-culled ns ms ks p q = record {
   node = λ n. then-only-culled (nodeAt ns n) (nodeAt ms n) (nodeAt ks n) (p .node n) (q .node n);
 }
 
--- what the definitions read of the nodes besides the flag
+-- what the comparison sees stays
+seen-alike : (ns ms : List Node) → CulledFrom ns ms → SeenAlike ns ms
+seen-alike ns ms c = record {
+  same-length = c .same-length;
+  node = λ n. record {
+    arc = c .node n .arc;
+    special = c .node n .flags 3 (λ e. omega arith);
+    stack = c .node n .stack;
+    parent = c .node n .parent;
+    origin = c .node n .origin;
+    depth = c .node n .depth;
+    sibling = c .node n .sibling;
+    path = c .node n .path;
+  };
+}
+
 module _ (ns ms : List Node) (c : CulledFrom ns ms) where
-  depth-below-kept : (n : ℕ) → depthBelowIntroduction ms n ≡ depthBelowIntroduction ns n
-  unfolding depthBelowIntroduction
-  depth-below-kept n = λ t. cond (eqb n 0) 0 (primCount (parent-path t) - c .node n .depth t)
-    where
-      parent-path : nodeAt ms (nodeAt ms n .parent) .path ≡ nodeAt ns (nodeAt ns n .parent) .path
-      parent-path = c .node (nodeAt ms n .parent) .path ∙ ap (λ (p : ℕ). nodeAt ns p .path) (c .node n .parent)
-
-  path-at-introduction-kept : (n : ℕ) → pathAtIntroduction ms n ≡ pathAtIntroduction ns n
-  unfolding pathAtIntroduction
-  path-at-introduction-kept n = λ t. pathAtIntroDepth (depth-below-kept n t) (c .node n .path t)
-
-  local-root-kept : (n : ℕ) → isLocalRoot ms n ≡ isLocalRoot ns n
-  unfolding isLocalRoot
-  local-root-kept n = λ t. ltb 0 n && eqb (c .node n .arc t) rootArc
-
-  local-stack-kept : (n : ℕ) → inLocalStack ms n ≡ inLocalStack ns n
-  unfolding inLocalStack
-  local-stack-kept n = λ t. anyBelow (λ i. local-root-kept i t && eqb (c .node i .stack t) (c .node n .stack t)) (c .same-length t)
-
-  view-kept : view ms ≡ view ns
-  unfolding sameSite
-  view-kept = λ t. record {
-    parent = λ n. c .node n .parent t;
-    origin = λ n. c .node n .origin t;
-    rank = λ n. c .node n .arc t;
-    arc = λ n. c .node n .arc t;
-    special = λ n. c .node n .flags 3 (λ e. omega arith) t;
-    depth = λ n. c .node n .depth t;
-    sibling = λ n. c .node n .sibling t;
-    sameSite = λ a b. eqb (c .node a .stack t) (c .node b .stack t) && samePath (c .node a .path t) (c .node b .path t);
-    sameDepthBelow = λ a b. ltb 0 a && (ltb 0 b && eqb (depth-below-kept a t) (depth-below-kept b t));
-    localRoot = λ n. local-root-kept n t;
-    localStack = λ n. local-stack-kept n t;
-  }
-
   keeps-inherit-kept : (n : ℕ) → keepsInherit ms n ≡ keepsInherit ns n
   unfolding keepsInherit
   keeps-inherit-kept n =
-      λ t. eqb (c .node n .arc t) inheritArc && (local-stack-kept n t && not (eqb (primCount (introduced t)) 1))
+      λ t. eqb (c .node n .arc t) inheritArc && (local-stack-kept ns ms alike n t && not (eqb (primCount (introduced t)) 1))
     where
+      alike : SeenAlike ns ms
+      alike = seen-alike ns ms c
+
       introduced : pathAtIntroduction ms (introducer ms n) ≡ pathAtIntroduction ns (introducer ns n)
       introduced =
-          path-at-introduction-kept (introducer ms n)
-          ∙ ap (λ (u : View). pathAtIntroduction ns (cond (isAuthored u n) n (originRootNode u n))) view-kept
+          path-at-introduction-kept ns ms alike (introducer ms n)
+          ∙ ap (λ (u : View). pathAtIntroduction ns (cond (isAuthored u n) n (originRootNode u n))) (view-kept ns ms alike)
 
 -- ---- One step
 
@@ -179,16 +161,6 @@ can-cull-root children ns n e root = go (isCulled (nodeAt ns n)) refl
     go : (b : Bool) → isCulled (nodeAt ns n) ≡ b → b ≡ true
     go true f = refl
     go false f = rw (f, eq-eqb (nodeAt ns n .arc) rootArc root) at e
-
--- what a store leaves at m
-node-set : (ns : List Node) (n m : ℕ) (x : Node) (P : Node → Type 0) → (m ≡ n → P x) → P (nodeAt ns m) → P (nodeAt (set ns n x) m)
-node-set ns n m x P new old = go (eqb m n) refl (ltb n (length ns)) refl
-  where
-    go : (b : Bool) → eqb m n ≡ b → (d : Bool) → ltb n (length ns) ≡ d → P (nodeAt (set ns n x) m)
-    go true e true f =
-        let here = eqb-true m n e in rw (here, getD-set-same ns n x noNode (ltb-true n (length ns) f)) (new here)
-    go true e false f = rw (set-out ns n x (ltb-false n (length ns) f)) old
-    go false e d f = rw (getD-set-other ns n m x noNode (eqb-false m n e)) old
 
 module _ (children : List (List ℕ)) where
   cull-one-kept : (n : ℕ) (ns : List Node) → CulledFrom ns (cullOne children n ns)
@@ -219,14 +191,12 @@ culling-only-culls g = go (hasLocalRoot (g .nodes))
     go true = cull-down-kept (g .children) (size g - 1) (g .nodes)
     go false = none-culled (g .nodes)
 
--- what the comparison reads stays
-pub culling-keeps-view : (g : Graph) → view (cullSubtreesWithoutOpinions g .nodes) ≡ view (g .nodes)
-culling-keeps-view g = view-kept (g .nodes) (cullSubtreesWithoutOpinions g .nodes) (culling-only-culls g)
-
 -- so the comparison cannot tell
-pub culled-looks-like : (g : Graph)
-    → LooksLike (size g) (λ n. true) (λ n. n) (view (g .nodes)) (view (cullSubtreesWithoutOpinions g .nodes))
-culled-looks-like g = rw (culling-keeps-view g) (looks-like-itself (size g) (view (g .nodes)))
+pub culling-seen-alike : (g : Graph) → SeenAlike (g .nodes) (cullSubtreesWithoutOpinions g .nodes)
+culling-seen-alike g = seen-alike (g .nodes) (cullSubtreesWithoutOpinions g .nodes) (culling-only-culls g)
+
+pub culling-keeps-view : (g : Graph) → view (cullSubtreesWithoutOpinions g .nodes) ≡ view (g .nodes)
+culling-keeps-view g = view-kept (g .nodes) (cullSubtreesWithoutOpinions g .nodes) (culling-seen-alike g)
 
 -- ---- Children first, in any sequence
 
@@ -316,7 +286,7 @@ module _ (children : List (List ℕ)) where
 
   decision-before : (ns ms after : List Node) (n : ℕ) → CulledFrom ns ms → nodeAt ms n ≡ nodeAt ns n
       → decision children ms after n ≡ decision children ns after n
-  decision-before ns ms after n c e = rw (depth-below-kept ns ms c n, keeps-inherit-kept ns ms c n, e)
+  decision-before ns ms after n c e = rw (depth-below-kept ns ms (seen-alike ns ms c) n, keeps-inherit-kept ns ms c n, e)
 
 module _ (children : List (List ℕ)) (higher : (v c : ℕ) → 0 < count c (getD children v []) → v < c) where
   cull-along-listed : (xs : List ℕ) (ns : List Node) → ((n : ℕ) → count n xs ≤ 1) → ((n : ℕ) → 0 < count n xs → n < length ns)

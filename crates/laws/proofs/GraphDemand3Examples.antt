@@ -8,31 +8,39 @@ use Prim.Native.Nat.{ℕ, _<_}
 use Prim.Native.String.{String}
 use native.Mathlib.Omega.{arith}
 use Rattle.model.specs.Path.{isNameStart, isWordByte, wellFormed, primCount, beforeName, nameStart, lastName, endsInName, separator, appendName, pathAtIntroDepth}
-use Rattle.model.specs.Node.{invalid, rootArc, inheritArc}
-use Rattle.model.specs.Graph.{Graph, emptyGraph, size, withNode, depthBelowIntroduction, pathAtIntroduction, isLocalRoot, inLocalStack}
+use Rattle.model.specs.Node.{invalid, optional, rootArc, inheritArc}
+use Rattle.model.specs.Graph.{Graph, emptyGraph, size, nodeAt, withNode, depthBelowIntroduction, pathAtIntroduction, isLocalRoot, inLocalStack}
 use Rattle.model.specs.Strength.{smaller, plainLines, siblingLines, nodesBy, compareSiblingNodeStrength}
 use Rattle.model.specs.Order.{isStronger, hasOrder, ordering}
 use Rattle.model.specs.Culling.{keepsInherit, canCull, cullSubtreesWithoutOpinions, isMarked, isErasable}
+use Rattle.model.specs.Setting.{withRecord}
 use Rattle.model.specs.Erasing.{erasable, canErase, eraseBy}
 use Rattle.model.specs.Deepening.{deepen}
 use Rattle.model.specs.Snapshot.{recordBody, writeSnapshot, readRecord, readRecords, readSnapshot}
-use Rattle.model.specs.Calls.{Call, starting, adding, orders, culls, deepening, call, calls, initRoot, addChild, finalizeStrengthOrder, cull, eraseSet, appendChildName, seedChild, readInto}
+use Rattle.model.specs.Calls.{Call, starting, adding, orders, culls, deepening, marking, settingFirstSpec, settingHasSpecs, settingRestriction, call, calls, initRoot, addChild, finalizeStrengthOrder, cull, eraseSet, appendChildName, seedChild, readInto, mark, setFirstSpec, setHasSpecs, setRestrictionDepth}
 use Rattle.model.proofs.Text.{bytes}
 use Rattle.model.proofs.ExampleGraphs.{sampleNode}
 use Rattle.laws.specs.Demand3Clauses.{Listed, kept, Erased, Deepened}
 use Rattle.laws.specs.GraphDemand3.{erasingAll, rest, Demand3, empty, read, seeded}
 use Rattle.laws.proofs.GraphDemand3Proof.{demand3}
 
--- a node of stack 0 without flags, with its parent for origin
+-- a node of stack 0 without flags, with its parent for origin; `invalid` for no parent
 abbrev add : ℕ → ℕ → ℕ → Option ℕ → String → Call
-add parent arc hasSpecs depth path = adding (record { fields = sampleNode parent arc 0 0 invalid 0 0 hasSpecs (bytes path); depth = depth })
+add parent arc hasSpecs depth path =
+    adding (record {
+      fields = sampleNode 0 arc 0 0 0 0 0 hasSpecs (bytes path);
+      parent = optional parent;
+      origin = none;
+      depth = depth;
+    })
 
 -- Nodes 0 and 1 `/M/a`; under 1 the References 2 and 3, of which 2 has no specs, and an Inherit.
--- The second start is refused. Culling marks 2.
+-- The second start is refused, and so is the mark of an arc's flag. Culling marks 2.
 abbrev grown : List Call
 grown =
     starting 0 0 (bytes "/M/a") ∷ starting 0 0 (bytes "/N") ∷ add invalid rootArc 1 none "/M/a" ∷ add 1 4 0 (some 1) "/R/a"
-    ∷ add 1 4 1 (some 1) "/Q/a" ∷ add 1 inheritArc 1 (some 1) "/C/a" ∷ orders ∷ culls ∷ deepening (bytes "/b") ∷ []
+    ∷ add 1 4 1 (some 1) "/Q/a" ∷ add 1 inheritArc 1 (some 1) "/C/a" ∷ orders ∷ culls ∷ deepening (bytes "/b")
+    ∷ marking 3 1 ∷ marking 3 8 ∷ settingFirstSpec 4 (some 2) ∷ settingHasSpecs 3 true ∷ settingRestriction 1 1 ∷ []
 
 abbrev example : Graph
 example = calls grown emptyGraph
@@ -46,9 +54,13 @@ pub record Meets (g : Graph) : Type 0 where
   pub order : g .order ≡ 0 ∷ 1 ∷ 4 ∷ 2 ∷ 3 ∷ []
   pub one-goes : (kept g 1 ≡ true) × (kept g 2 ≡ false) × (kept g 3 ≡ true) × (kept g 4 ≡ true)
   pub order-left : rest g .order ≡ 0 ∷ 1 ∷ 3 ∷ 2 ∷ []
+  -- what the setters left
+  pub flags-set : nodeAt (g .nodes) 3 .flags ≡ 1
+  pub specs-set : (nodeAt (g .nodes) 4 .specFrom ≡ 2) × (nodeAt (g .nodes) 4 .hasSpecs ≡ 1)
+  pub restriction-set : nodeAt (g .nodes) 1 .restriction ≡ 1
 
 example-meets : Meets example
-unfolding initRoot addChild finalizeStrengthOrder cull eraseSet appendChildName withNode wellFormed primCount isNameStart isWordByte beforeName
+unfolding initRoot addChild finalizeStrengthOrder cull mark setFirstSpec setHasSpecs setRestrictionDepth eraseSet appendChildName withNode withRecord wellFormed primCount isNameStart isWordByte beforeName
     nameStart lastName endsInName separator appendName pathAtIntroDepth depthBelowIntroduction pathAtIntroduction isLocalRoot inLocalStack smaller
     plainLines siblingLines nodesBy compareSiblingNodeStrength hasOrder ordering isStronger keepsInherit canCull cullSubtreesWithoutOpinions
     isMarked isErasable erasable canErase eraseBy deepen
@@ -59,6 +71,9 @@ example-meets = record {
   order = refl;
   one-goes = (refl, refl, refl, refl);
   order-left = refl;
+  flags-set = refl;
+  specs-set = (refl, refl);
+  restriction-set = refl;
 }
 
 -- ---- Demand 3 of it
@@ -93,7 +108,7 @@ pub record Starts : Type 0 where
   pub seed-finalized : seededFrom .finalized ≡ true
 
 starts : Starts
-unfolding initRoot addChild finalizeStrengthOrder cull appendChildName seedChild readInto withNode wellFormed primCount isNameStart isWordByte
+unfolding initRoot addChild finalizeStrengthOrder cull mark setFirstSpec setHasSpecs setRestrictionDepth appendChildName seedChild readInto withNode withRecord wellFormed primCount isNameStart isWordByte
     beforeName nameStart lastName endsInName separator appendName pathAtIntroDepth depthBelowIntroduction pathAtIntroduction isLocalRoot
     inLocalStack smaller plainLines siblingLines nodesBy compareSiblingNodeStrength hasOrder ordering isStronger keepsInherit canCull
     cullSubtreesWithoutOpinions deepen recordBody writeSnapshot readRecord readRecords readSnapshot

@@ -18,7 +18,7 @@ use Rattle.model.specs.Graph.{Graph, emptyGraph, size, nodeAt, withNode, isShal
 use Rattle.model.specs.Strength.{view}
 use Rattle.model.specs.Refusals.{Question, ask, mostNodes, mostPathBytes, pathBytes, hasRoom, arcAllowed, addedKind, rootRecord, recordQuestions, refusal}
 use Rattle.model.specs.Snapshot.{readSnapshot}
-use Rattle.model.specs.Calls.{Outcome, hasNodeZero, NodeDesc, rootNode, initRoot, given, addedNode, givenBelow, addChild, readIf, readOn, readOr12, readInto}
+use Rattle.model.specs.Calls.{Outcome, hasNodeZero, NodeDesc, rootNode, initRoot, givenOr, addedNode, givenBelow, addChild, readIf, readOn, readOr12, readInto}
 use Rattle.laws.proofs.PathGrammar.{well-formed-length}
 use Rattle.laws.proofs.Views.{LegalView}
 use Rattle.laws.proofs.ListLaws.{any-below-fails}
@@ -203,17 +203,13 @@ starting-keeps-legal stack layer path g legal =
 -- ---- Adding
 
 -- a link that is missing or below the count, and what stands for it, is below the count
-link-below : (count n default : ℕ) → givenBelow count n ≡ true → default < count → cond (given n) n default < count
-link-below count n default e h = go (given n) e
-  where
-    go : (b : Bool) → (not b || ltb n count) ≡ true → cond b n default < count
-    go true e = ltb-true n count e
-    go false e = h
+link-below : (count : ℕ) (link : Option ℕ) (default : ℕ) → givenBelow count link ≡ true → default < count → givenOr link default < count
+link-below count none default e h = h
+link-below count (some n) default e h = ltb-true n count e
 
 abbrev addQuestions : NodeDesc → Graph → List Question
 addQuestions d g =
-    hasNodeZero g ∷ ask 4 (givenBelow (size g) (d .fields .parent) && givenBelow (size g) (d .fields .origin)) ∷ ask 5 (wellFormed (d .fields .path))
-    ∷ ask 6 (addedKind g (addedNode g d)) ∷ ask 7 (hasRoom g (addedNode g d)) ∷ []
+    hasNodeZero g ∷ ask 4 (givenBelow (size g) (d .parent) && givenBelow (size g) (d .origin)) ∷ ask 5 (wellFormed (d .fields .path)) ∷ ask 6 (addedKind g (addedNode g d)) ∷ ask 7 (hasRoom g (addedNode g d)) ∷ []
 
 pub adding-keeps-legal : (d : NodeDesc) (g : Graph) → Legal g → Legal (addChild d g .graph)
 unfolding addChild
@@ -224,16 +220,16 @@ adding-keeps-legal d g legal =
     x : Node
     x = addedNode g d
 
-    addable : 0 < size g → (givenBelow (size g) (d .fields .parent) && givenBelow (size g) (d .fields .origin)) ≡ true
+    addable : 0 < size g → (givenBelow (size g) (d .parent) && givenBelow (size g) (d .origin)) ≡ true
         → wellFormed (d .fields .path) ≡ true → addedKind g x ≡ true → hasRoom g x ≡ true → Addable g x
     addable some-node links well kind room =
-        let below = and-eq-true-iff (givenBelow (size g) (d .fields .parent)) _ .0 links in
-        let parent : x .parent < size g = link-below (size g) (d .fields .parent) 0 (below .0) some-node in
+        let below = and-eq-true-iff (givenBelow (size g) (d .parent)) _ .0 links in
+        let parent : x .parent < size g = link-below (size g) (d .parent) 0 (below .0) some-node in
         let parts = three-parts (arcAllowed g x) (not (isCulled x)) (leb (x .hasSpecs) 1) kind in
         record {
           first = λ e. absurd (omega arith);
           parent-lower = λ h. parent;
-          origin-lower = λ h. link-below (size g) (d .fields .origin) (x .parent) (below .1) parent;
+          origin-lower = λ h. link-below (size g) (d .origin) (x .parent) (below .1) parent;
           record-legal = record {
             path = well;
             arc = arc-allowed g x (parts .0) .0;

@@ -1,5 +1,5 @@
--- Ordering, culling and deepening leave a graph legal: they keep the nodes, and of each node what a
--- comparison sees. Assumes nothing.
+-- Ordering, culling, setting fields of one node and deepening leave a graph legal: they keep the
+-- nodes, and of each node what a comparison sees. Assumes nothing.
 use mathlib.Core.Path.{_≡_, refl, sym, ap, _∙_}
 use mathlib.Core.Bool.{Bool, true, false, not, _||_, _&&_, cond, true≢false, and-eq-true-iff}
 use mathlib.Core.List.{List, [], _∷_}
@@ -9,7 +9,7 @@ use lib.Dec.{leb}
 use lib.ListN.{length}
 use borrow.Author.Tests.{ltb-true, leb-true, not-true}
 use Rattle.model.specs.Path.{wellFormed, lastName, endsInName}
-use Rattle.model.specs.Node.{rootArc, Node}
+use Rattle.model.specs.Node.{rootArc, Node, isInert, isCulled}
 use Rattle.model.specs.Graph.{Graph, size, nodeAt, childrenOf}
 use Rattle.model.specs.Strength.{view}
 use Rattle.model.specs.Order.{isLess, isStronger, hasOrder, ordering}
@@ -24,7 +24,9 @@ use Rattle.laws.proofs.ListLaws.{pairs-imp}
 use Rattle.laws.proofs.Trees.{Child, all-children}
 use Rattle.laws.proofs.StrengthCongruence.{siblings-alike}
 use Rattle.laws.proofs.OrderLaws.{InOrder, lengths-ordering, tree-ordering, ordering-in-order}
-use Rattle.laws.proofs.CullingLaws.{OnlyCulled, culling-only-culls, culling-keeps-view, culled-looks-like}
+use Rattle.laws.proofs.SeenLaws.{SeenAlike, view-kept, path-bytes-kept}
+use Rattle.laws.proofs.StrengthLaws.{looks-like-itself}
+use Rattle.laws.proofs.CullingLaws.{culling-only-culls, culling-seen-alike}
 use Rattle.laws.proofs.DeepenLaws.{size-deepened, node-deepened, legal-deepened, children-deepened, tree-deepened, reached-deepened, deepen-looks-like}
 use Rattle.laws.proofs.LegalGraphs.{RootRecord, LegalNode, LocalRoot, Legal, legal-reached}
 use Rattle.laws.proofs.AcceptedQuestions.{Accepted, decided-keeps, decided-leaves}
@@ -83,68 +85,92 @@ ordering-keeps-legal g legal =
     go true some-node e = legal
     go false some-node e = ordered-legal g some-node e legal
 
+-- ---- Fields that no comparison sees
+
+-- The child lists, the order and the marks stay, and of each node all that a comparison sees; what
+-- is new of a record is legal by itself.
+pub record OnlySet (g h : Graph) : Type 0 where
+  pub seen : SeenAlike (g .nodes) (h .nodes)
+  pub children : h .children ≡ g .children
+  pub order : h .order ≡ g .order
+  pub ordered : h .ordered ≡ g .ordered
+  pub finalized : h .finalized ≡ g .finalized
+  pub shallow : h .shallow ≡ g .shallow
+  pub inert : 0 < size g → isInert (nodeAt (h .nodes) 0) ≡ true
+  pub specs : (n : ℕ) → n < size g → nodeAt (h .nodes) n .hasSpecs ≤ 1
+  pub root-unculled : (n : ℕ) → n < size g → nodeAt (g .nodes) n .arc ≡ rootArc → isCulled (nodeAt (h .nodes) n) ≡ false
+
+module _ (g h : Graph) (legal : Legal g) (only : OnlySet g h) where
+  same-size : size h ≡ size g
+  same-size = only .seen .same-length
+
+  same-view : view (h .nodes) ≡ view (g .nodes)
+  same-view = view-kept (g .nodes) (h .nodes) (only .seen)
+
+  local-root-set : (n : ℕ) → LocalRoot h n → LocalRoot g n
+  local-root-set n r = (r .0, rw same-size at (r .1), sym (only .seen .node n .arc) ∙ r .2)
+
+  node-0-set : 0 < size g → RootRecord (nodeAt (h .nodes) 0)
+  node-0-set some-node =
+      let root = legal .node-0 some-node in
+      let same = only .seen .node 0 in
+      record { arc = same .arc ∙ root .arc; inert = only .inert some-node; no-parent = same .parent ∙ root .no-parent; no-origin = same .origin ∙ root .no-origin }
+
+  node-set-legal : (n : ℕ) → n < size g → LegalNode (nodeAt (h .nodes) n)
+  node-set-legal n l =
+      let x = legal .node n l in
+      let same = only .seen .node n in
+      record {
+        path = rw (same .path) (x .path);
+        arc = rw (same .arc) (x .arc);
+        has-specs = only .specs n l;
+        root-unculled = λ e. only .root-unculled n l (sym (same .arc) ∙ e);
+      }
+
+  pub only-set-legal : Legal h
+  only-set-legal = record {
+    lengths = rw (only .children, same-size) (legal .lengths);
+    tree = rw (only .children, same-size, same-view) (legal .tree);
+    links = rw (same-size, same-view) (legal .links);
+    node-0 = λ l. node-0-set (rw same-size at l);
+    node = λ n l. node-set-legal n (rw same-size at l);
+    local-root-under-0 = λ n r. only .seen .node n .parent ∙ legal .local-root-under-0 n (local-root-set n r);
+    one-local-root = λ a b r s. legal .one-local-root a b (local-root-set a r) (local-root-set b s);
+    few-nodes = rw same-size (legal .few-nodes);
+    few-path-bytes = rw (path-bytes-kept (g .nodes) (h .nodes) (only .seen)) (legal .few-path-bytes);
+    not-shallow = λ e c p l.
+        let same = only .seen .node in
+        rw (same c .depth, same c .parent, same (nodeAt (g .nodes) c .parent) .path)
+        (legal .not-shallow (sym (only .shallow) ∙ e) c p (rw same-size at l));
+    final = λ e. let both = legal .final (sym (only .finalized) ∙ e) in (only .ordered ∙ both .0, only .shallow ∙ both .1);
+    no-order = λ e. only .order ∙ legal .no-order (sym (only .ordered) ∙ e);
+    in-order = λ e.
+        in-order-alike g h legal same-size (only .children) (only .order)
+        (rw same-view (looks-like-itself (size g) (view (g .nodes)))) (legal .in-order (sym (only .ordered) ∙ e));
+    ordered-final = λ e. only .finalized ∙ legal .ordered-final (sym (only .ordered) ∙ e) ∙ ap not (sym (only .shallow));
+  }
+
 -- ---- Culling
 
-path-bytes-same : (ns ms : List Node) → length ms ≡ length ns → ((n : ℕ) → nodeAt ms n .path ≡ nodeAt ns n .path) → pathBytes ms ≡ pathBytes ns
-path-bytes-same [] [] l p = refl
-path-bytes-same [] (m ∷ ms) l p = absurd (omega arith)
-path-bytes-same (n ∷ ns) [] l p = absurd (omega arith)
-path-bytes-same (n ∷ ns) (m ∷ ms) l p = rw (p 0, path-bytes-same ns ms (omega arith) (λ i. p (suc i)))
-
-module _ (g : Graph) (legal : Legal g) where
-  -- what culling leaves
-  abbrev after : Graph
-  after = cullSubtreesWithoutOpinions g
-
-  only-culled : (n : ℕ) → OnlyCulled (nodeAt (g .nodes) n) (nodeAt (after .nodes) n)
-  only-culled = culling-only-culls g .node
-
-  same-size : size after ≡ size g
-  same-size = culling-only-culls g .same-length
-
-  -- all but the nodes stays
-  rest-stays : (after .children ≡ g .children) × (after .order ≡ g .order) × (after .ordered ≡ g .ordered) × (after .finalized ≡ g .finalized)
-      × (after .shallow ≡ g .shallow)
-  unfolding cullSubtreesWithoutOpinions
-  rest-stays = (refl, refl, refl, refl, refl)
-
-  local-root-culled : (n : ℕ) → LocalRoot after n → LocalRoot g n
-  local-root-culled n r = (r .0, rw same-size at (r .1), sym (only-culled n .arc) ∙ r .2)
-
-  culled-legal : Legal after
-  culled-legal = record {
-    lengths = rw (rest-stays .0, same-size) (legal .lengths);
-    tree = rw (rest-stays .0, same-size, culling-keeps-view g) (legal .tree);
-    links = rw (same-size, culling-keeps-view g) (legal .links);
-    node-0 = λ h. let root = legal .node-0 (rw same-size at h) in rw (only-culled 0 .root-stays (root .arc)) root;
-    node = λ n h. node n (legal .node n (rw same-size at h));
-    local-root-under-0 = λ n r. only-culled n .parent ∙ legal .local-root-under-0 n (local-root-culled n r);
-    one-local-root = λ a b r s. legal .one-local-root a b (local-root-culled a r) (local-root-culled b s);
-    few-nodes = rw same-size (legal .few-nodes);
-    few-path-bytes = rw (path-bytes-same (g .nodes) (after .nodes) same-size (λ n. only-culled n .path)) (legal .few-path-bytes);
-    not-shallow = λ e c h l.
-        rw (only-culled c .depth, only-culled c .parent, only-culled (nodeAt (g .nodes) c .parent) .path)
-        (legal .not-shallow (sym (rest-stays .4) ∙ e) c h (rw same-size at l));
-    final = λ e. let both = legal .final (sym (rest-stays .3) ∙ e) in (rest-stays .2 ∙ both .0, rest-stays .4 ∙ both .1);
-    no-order = λ e. rest-stays .1 ∙ legal .no-order (sym (rest-stays .2) ∙ e);
-    in-order = λ e.
-        in-order-alike g after legal same-size (rest-stays .0) (rest-stays .1) (culled-looks-like g) (legal .in-order (sym (rest-stays .2) ∙ e));
-    ordered-final = λ e. rest-stays .3 ∙ legal .ordered-final (sym (rest-stays .2) ∙ e) ∙ ap not (sym (rest-stays .4));
-  }
-    where
-      node : (n : ℕ) → LegalNode (nodeAt (g .nodes) n) → LegalNode (nodeAt (after .nodes) n)
-      node n x = record {
-        path = rw (only-culled n .path) (x .path);
-        arc = rw (only-culled n .arc) (x .arc);
-        has-specs = rw (only-culled n .has-specs) (x .has-specs);
-        root-unculled = λ e.
-            let arc : nodeAt (g .nodes) n .arc ≡ rootArc = sym (only-culled n .arc) ∙ e in
-            rw (only-culled n .root-stays arc) (x .root-unculled arc);
-      }
+-- culling sets no more than CULLED, and none at a Root arc
+culling-only-sets : (g : Graph) → Legal g → OnlySet g (cullSubtreesWithoutOpinions g)
+unfolding cullSubtreesWithoutOpinions
+culling-only-sets g legal = record {
+  seen = culling-seen-alike g;
+  children = refl;
+  order = refl;
+  ordered = refl;
+  finalized = refl;
+  shallow = refl;
+  inert = λ some-node. let root = legal .node-0 some-node in rw (culling-only-culls g .node 0 .root-stays (root .arc)) (root .inert);
+  specs = λ n l. rw (culling-only-culls g .node n .has-specs) (legal .node n l .has-specs);
+  root-unculled = λ n l e. rw (culling-only-culls g .node n .root-stays e) (legal .node n l .root-unculled e);
+}
 
 pub culling-keeps-legal : (g : Graph) → Legal g → Legal (cull g .graph)
 unfolding cull
-culling-keeps-legal g legal = decided-keeps (hasNodeZero g ∷ []) g 0 (cullSubtreesWithoutOpinions g) Legal refl (λ a. culled-legal g legal) legal
+culling-keeps-legal g legal = decided-keeps (hasNodeZero g ∷ []) g 0 (cullSubtreesWithoutOpinions g) Legal refl
+    (λ a. only-set-legal g (cullSubtreesWithoutOpinions g) legal (culling-only-sets g legal)) legal
 
 -- ---- Deepening
 

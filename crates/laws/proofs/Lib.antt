@@ -27,6 +27,7 @@ pub mod OrderRings
 pub mod OrderKeys
 pub mod OrderCopies
 pub mod OrderExamples
+pub mod SeenLaws
 pub mod ErasableLaws
 pub mod CullingLaws
 pub mod Spares
@@ -47,6 +48,7 @@ pub mod AcceptedQuestions
 pub mod ArenaCallLaws
 pub mod LegalAdded
 pub mod LegalAlike
+pub mod LegalSet
 pub mod LegalErased
 pub mod CallsKeepLegal
 pub mod PlacesExamples

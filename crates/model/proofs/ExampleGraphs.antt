@@ -5,7 +5,7 @@ use mathlib.Core.Option.{Option, none, some}
 use mathlib.Core.List.{List, [], _∷_}
 use Rattle.model.proofs.Text.{bytes}
 use Rattle.model.specs.declared.Ordering.{Ordering}
-use Rattle.model.specs.Node.{invalid, Node}
+use Rattle.model.specs.Node.{invalid, optional, Node}
 use Rattle.model.specs.Graph.{Graph, emptyGraph}
 use Rattle.model.specs.Strength.{viewOf, compareSiblingNodeStrength, compareNodeStrength}
 use Rattle.model.specs.Calls.{rootNode, Call, starting, adding, calls}
@@ -27,10 +27,15 @@ sampleNode parent arc flags stack origin depth sibling hasSpecs path = record {
   path = path;
 }
 
--- adding one with specs
+-- adding one with specs; `invalid` for a missing parent or origin
 abbrev pub add : ℕ → ℕ → ℕ → ℕ → ℕ → Option ℕ → ℕ → String → Call
 add parent arc flags stack origin depth sibling path =
-    adding (record { fields = sampleNode parent arc flags stack origin 0 sibling 1 (bytes path); depth = depth })
+    adding (record {
+      fields = sampleNode 0 arc flags stack 0 0 sibling 1 (bytes path);
+      parent = optional parent;
+      origin = optional origin;
+      depth = depth;
+    })
 
 -- with origin, depth and sibling number missing or 0
 abbrev pub plain : ℕ → ℕ → String → Call

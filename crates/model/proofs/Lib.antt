@@ -7,3 +7,4 @@ pub mod Examples
 pub mod HierarchyExamples
 pub mod SnapshotExamples
 pub mod CallExamples
+pub mod SettingExamples

@@ -2,7 +2,8 @@
 -- One lifting for the calls that write a graph, one for those that only read; the functions of
 -- prim_graph promise no more and no less.
 use mathlib.Core.Path.{_≡_}
-use mathlib.Core.Bool.{Bool, true, cond}
+use mathlib.Core.Bool.{Bool, true, _&&_, cond}
+use mathlib.Core.Option.{none}
 use mathlib.Core.List.{List, _∷_}
 use Prim.Native.Nat.{ℕ, zero, suc, _<_}
 use lib.Dec.{eqb}
@@ -12,12 +13,15 @@ use Rattle.model.specs.Refusals.{Question, ask, refusal}
 use Rattle.model.specs.Calls.{Outcome, unchanged}
 use Rattle.model.specs.Arena.{arenaBytes, countIn, decode, encode, holdsGraph}
 use Rattle.model.specs.Lists.{bit}
-use Rattle.model.specs.Answers.{unitRefusal, numberRefusal, numberValue, orderingNumber, orderingRefusal, orderingValue, boolRefusal, boolValue}
+use Rattle.model.specs.Bytes.{stored}
+use Rattle.model.specs.Node.{optional}
+use Rattle.model.specs.Answers.{unitRefusal, numberRefusal, numberValue, orderingNumber, orderingRefusal, orderingValue, boolRefusal, boolValue, nodeRefusal, nodeValue}
 use Rattle.model.specs.declared.Ordering.{Ordering}
 use Rattle.model.specs.declared.UnitResult.{UnitResult}
 use Rattle.model.specs.declared.NumberResult.{NumberResult}
 use Rattle.model.specs.declared.OrderingResult.{OrderingResult}
 use Rattle.model.specs.declared.BoolResult.{BoolResult}
+use Rattle.model.specs.declared.NodeResult.{NodeResult}
 
 -- question 1: "Has each lent buffer the size docs/ gives its use"
 abbrev pub isArena : List ℕ → Bool
@@ -80,3 +84,23 @@ AnsweredOrder questions answer r = Answers questions (orderingNumber answer) (or
 
 abbrev pub AnsweredTest : List Question → Bool → BoolResult → Type 0
 AnsweredTest questions answer r = Answers questions (bit answer) (boolRefusal r) (boolValue r)
+
+-- of a call that looks for a node; `invalid` for none
+pub record AnsweredNode (questions : List Question) (answer : ℕ) (r : NodeResult) : Type 0 where
+  pub refused : nodeRefusal r ≡ refusal questions
+  pub value : nodeValue r ≡ cond (eqb (refusal questions) 0) (optional answer) none
+
+-- ---- The calls that put a path into a lent buffer
+
+-- question 1 of both buffers: that for a path has 255 bytes, "255 a path"
+abbrev pub isPathBuffer : List ℕ → Bool
+isPathBuffer buffer = eqb (length buffer) 255
+
+abbrev pub askPath : List ℕ → List ℕ → List Question → List Question
+askPath bs buffer questions = ask 1 (isArena bs && isPathBuffer buffer) ∷ ask 2 (holdsGraph bs) ∷ questions
+
+-- the answer is the path's length, the path is at the front of the buffer, and past it is what was
+-- there; refused, every byte is as it was
+pub record PutPath (questions : List Question) (path before : List ℕ) (r : NumberResult) (after : List ℕ) : Type 0 where
+  pub answered : Answered questions (length path) r
+  pub buffer : after ≡ cond (eqb (refusal questions) 0) (stored 0 path before) before

@@ -1,7 +1,7 @@
 -- Each call of document 01 as one function, from its arguments and the graph to its refusal, its
 -- value and the graph. Refused, the value is 0 (or nothing) and the graph is as it was. Questions 1
 -- and 2 are about lent bytes, and come before these.
-use mathlib.Core.Bool.{Bool, true, not, _||_, _&&_, cond}
+use mathlib.Core.Bool.{Bool, true, _||_, _&&_, cond}
 use mathlib.Core.Option.{Option, none, some}
 use mathlib.Core.List.{List, [], _∷_}
 use Prim.Native.Nat.{ℕ, zero, suc}
@@ -12,6 +12,7 @@ use Rattle.model.specs.Node.{invalid, rootArc, inertFlag, Node}
 use Rattle.model.specs.Graph.{Graph, emptyGraph, size, nodeAt, withNode}
 use Rattle.model.specs.Order.{hasOrder, ordering}
 use Rattle.model.specs.Culling.{cullSubtreesWithoutOpinions}
+use Rattle.model.specs.Setting.{marked, mayMark, withFirstSpec, restrictedAt, withRecord}
 use Rattle.model.specs.Erasing.{stays, canErase, newNumber, erase}
 use Rattle.model.specs.Deepening.{appendChildNameToAllSites}
 use Rattle.model.specs.Snapshot.{readSnapshot}
@@ -63,26 +64,30 @@ unfoldable pub initRoot : ℕ → ℕ → List ℕ → Graph → Outcome
 initRoot stack layer path g =
     decided (ask 3 (eqb (size g) 0) ∷ ask 5 (wellFormed path) ∷ []) g 0 (withNode g (rootNode stack layer path))
 
--- A node to be added: its fields as they are given, with `invalid` for a missing parent or origin,
--- and a missing depth.
+-- A node to be added: its fields, and parent, origin and depth, which may be missing (those of
+-- `fields` are not read).
 pub record NodeDesc : Type 0 where
   pub fields : Node
+  pub parent : Option ℕ
+  pub origin : Option ℕ
   pub depth : Option ℕ
 
-abbrev pub given : ℕ → Bool
-given n = not (eqb n invalid)
+-- what is given, or what stands for it
+abbrev pub givenOr : Option ℕ → ℕ → ℕ
+givenOr none missing = missing
+givenOr (some n) missing = n
 
 -- "`add_child` with no parent is a root site: its parent is node 0"
 abbrev pub structParent : NodeDesc → ℕ
-structParent d = cond (given (d .fields .parent)) (d .fields .parent) 0
+structParent d = givenOr (d .parent) 0
 
 -- "A missing depth becomes the parent's prim count, or its own for a root site"
-abbrev pub depthOr : Option ℕ → ℕ → ℕ
-depthOr none default = default
-depthOr (some d) default = d
+abbrev pub primsOver : List Node → Option ℕ → List ℕ → ℕ
+primsOver ns none path = primCount path
+primsOver ns (some parent) path = primCount (nodeAt ns parent .path)
 
 abbrev pub defaultDepth : Graph → NodeDesc → ℕ
-defaultDepth g d = cond (given (d .fields .parent)) (primCount (nodeAt (g .nodes) (d .fields .parent) .path)) (primCount (d .fields .path))
+defaultDepth g d = primsOver (g .nodes) (d .parent) (d .fields .path)
 
 -- "A missing origin becomes the parent"
 abbrev pub addedNode : Graph → NodeDesc → Node
@@ -92,8 +97,8 @@ addedNode g d = record {
   stack = d .fields .stack;
   layer = d .fields .layer;
   parent = structParent d;
-  origin = cond (given (d .fields .origin)) (d .fields .origin) (structParent d);
-  depth = depthOr (d .depth) (defaultDepth g d);
+  origin = givenOr (d .origin) (structParent d);
+  depth = givenOr (d .depth) (defaultDepth g d);
   sibling = d .fields .sibling;
   restriction = d .fields .restriction;
   specFrom = d .fields .specFrom;
@@ -102,15 +107,35 @@ addedNode g d = record {
 }
 
 -- question 4: "Is each given node below the count?"
-abbrev pub givenBelow : ℕ → ℕ → Bool
-givenBelow count n = not (given n) || ltb n count
+abbrev pub givenBelow : ℕ → Option ℕ → Bool
+givenBelow count none = true
+givenBelow count (some n) = ltb n count
 
 unfoldable pub addChild : NodeDesc → Graph → Outcome
 addChild d g =
     decided
-    (hasNodeZero g ∷ ask 4 (givenBelow (size g) (d .fields .parent) && givenBelow (size g) (d .fields .origin)) ∷ ask 5 (wellFormed (d .fields .path))
-    ∷ ask 6 (addedKind g (addedNode g d)) ∷ ask 7 (hasRoom g (addedNode g d)) ∷ [])
+    (hasNodeZero g ∷ ask 4 (givenBelow (size g) (d .parent) && givenBelow (size g) (d .origin)) ∷ ask 5 (wellFormed (d .fields .path)) ∷ ask 6 (addedKind g (addedNode g d)) ∷ ask 7 (hasRoom g (addedNode g d)) ∷ [])
     g (size g) (withNode g (addedNode g d))
+
+-- ---- Setting fields of one node
+
+-- node n becomes what f makes of it, where these questions pass too
+abbrev pub sets : ℕ → List Question → (Node → Node) → Graph → Outcome
+sets n questions f g =
+    decided (hasNodeZero g ∷ ask 4 (ltb n (size g)) ∷ questions) g 0 (withRecord g n (f (nodeAt (g .nodes) n)))
+
+unfoldable pub mark : ℕ → ℕ → Graph → Outcome
+mark n flags g = sets n (ask 6 (mayMark flags (nodeAt (g .nodes) n)) ∷ []) (marked flags) g
+
+unfoldable pub setFirstSpec : ℕ → Option ℕ → Graph → Outcome
+setFirstSpec n first g = sets n [] (withFirstSpec first) g
+
+-- "without recording which": the first position
+unfoldable pub setHasSpecs : ℕ → Bool → Graph → Outcome
+setHasSpecs n authored g = setFirstSpec n (cond authored (some 0) none) g
+
+unfoldable pub setRestrictionDepth : ℕ → ℕ → Graph → Outcome
+setRestrictionDepth n depth g = sets n [] (restrictedAt depth) g
 
 -- ---- Ordering
 
@@ -181,6 +206,10 @@ pub data Call : Type 0 where
   erasing : List ℕ → Call
   deepening : List ℕ → Call
   reading : List ℕ → Call
+  marking : ℕ → ℕ → Call
+  settingFirstSpec : ℕ → Option ℕ → Call
+  settingHasSpecs : ℕ → Bool → Call
+  settingRestriction : ℕ → ℕ → Call
 
 abbrev pub call : Call → Graph → Outcome
 call (starting stack layer path) g = initRoot stack layer path g
@@ -190,6 +219,10 @@ call culls g = cull g
 call (erasing bytes) g = eraseSet bytes g
 call (deepening child) g = appendChildName child g
 call (reading bytes) g = readInto bytes g
+call (marking n flags) g = mark n flags g
+call (settingFirstSpec n first) g = setFirstSpec n first g
+call (settingHasSpecs n authored) g = setHasSpecs n authored g
+call (settingRestriction n depth) g = setRestrictionDepth n depth g
 
 abbrev pub calls : List Call → Graph → Graph
 calls [] g = g

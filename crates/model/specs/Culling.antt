@@ -1,12 +1,12 @@
 -- Document 01, "Cull marks and erasable set": what culling marks, and what may be erased.
 use mathlib.Core.Bool.{Bool, not, _||_, _&&_, cond}
 use mathlib.Core.List.{List, []}
-use Prim.Native.Nat.{ℕ, zero, suc, _+_, _-_}
+use Prim.Native.Nat.{ℕ, zero, suc, _-_}
 use lib.Dec.{eqb}
 use lib.ListN.{length, set, getD}
 use Rattle.model.specs.Lists.{every}
 use Rattle.model.specs.Path.{primCount}
-use Rattle.model.specs.Node.{rootArc, inheritArc, culledFlag, Node, isInert, isCulled, changed}
+use Rattle.model.specs.Node.{rootArc, inheritArc, culledFlag, withFlag, Node, isInert, isCulled, changed}
 use Rattle.model.specs.Graph.{Graph, size, nodeAt, depthBelowIntroduction, pathAtIntroduction, hasLocalRoot, inLocalStack}
 use Rattle.model.specs.Strength.{view, isAuthored, originRootNode}
 
@@ -35,7 +35,7 @@ canCull children ns n =
 
 -- the record with CULLED set
 abbrev pub culled : Node → Node
-culled x = changed (cond (isCulled x) (x .flags) (x .flags + culledFlag)) (x .parent) (x .origin) (x .path) x
+culled x = changed (withFlag culledFlag (x .flags)) (x .parent) (x .origin) (x .path) x
 
 abbrev pub cullOne : List (List ℕ) → ℕ → List Node → List Node
 cullOne children n ns = cond (canCull children ns n) (set ns n (culled (nodeAt ns n))) ns

@@ -6,7 +6,7 @@ use Prim.Native.Nat.{ℕ, suc, _+_, _-_}
 use lib.Dec.{eqb, ltb}
 use lib.ListN.{length, getD, set}
 use Rattle.model.specs.Lists.{anyBelow}
-use Rattle.model.specs.Path.{primCount, samePath, pathAtIntroDepth}
+use Rattle.model.specs.Path.{primCount, samePath, pathAtIntroDepth, absoluteRoot}
 use Rattle.model.specs.Node.{invalid, rootArc, Node, noNode, isInert, isCulled}
 
 -- The nodes, "numbered from 0 in order of adding"; each node's children, in chain order; the order,
@@ -60,6 +60,16 @@ depthBelowIntroduction ns n = cond (eqb n 0) 0 (primCount (nodeAt ns (nodeAt ns 
 -- the node's path, taken back by that depth
 unfoldable pub pathAtIntroduction : List Node → ℕ → List ℕ
 pathAtIntroduction ns n = pathAtIntroDepth (depthBelowIntroduction ns n) (nodeAt ns n .path)
+
+-- the Rust's `is_due_to_ancestor`: that depth is not 0
+abbrev pub isDueToAncestor : List Node → ℕ → Bool
+isDueToAncestor ns n = ltb 0 (depthBelowIntroduction ns n)
+
+-- the Rust's `intro_path`: the parent's path, taken back by that depth, "or the absolute root for a
+-- node with no parent"
+unfoldable pub introPath : List Node → ℕ → List ℕ
+introPath ns n =
+    cond (eqb n 0) absoluteRoot (pathAtIntroDepth (depthBelowIntroduction ns n) (nodeAt ns (nodeAt ns n .parent) .path))
 
 -- "Arc Root is for node 0 and for one child of it, the local root"
 unfoldable pub isLocalRoot : List Node → ℕ → Bool

@@ -13,6 +13,7 @@ pub mod Deepening
 pub mod Snapshot
 pub mod Listing
 pub mod Refusals
+pub mod Setting
 pub mod Answers
 pub mod Calls
 pub mod Arena

@@ -1,14 +1,19 @@
 -- Document 01, "Node and site": the fields of a node, its arcs and flags, and its site.
-use mathlib.Core.Bool.{Bool, _&&_}
+use mathlib.Core.Bool.{Bool, _&&_, cond}
+use mathlib.Core.Option.{Option, none, some}
 use mathlib.Core.List.{List, []}
-use Prim.Native.Nat.{ℕ, _/_, _%_}
+use Prim.Native.Nat.{ℕ, _+_, _/_, _%_}
 use lib.Dec.{eqb}
 use Rattle.model.specs.Path.{samePath}
 
--- "No node is the number 4,294,967,295 (`NodeId::INVALID`)": it stands for a missing parent or
--- origin
+-- "No node is the number 4,294,967,295 (`NodeId::INVALID`)": in a record it stands for a missing
+-- parent or origin
 abbrev pub invalid : ℕ
 invalid = 4294967295
+
+-- the node of that number, or that there is none
+abbrev pub optional : ℕ → Option ℕ
+optional n = cond (eqb n invalid) none (some n)
 
 -- "arc 0 to 6 (Root, Inherit, Variant, Relocate, Reference, Payload, Specialize)"
 abbrev pub rootArc : ℕ
@@ -34,8 +39,15 @@ inertFlag = 1
 abbrev pub culledFlag : ℕ
 culledFlag = 2
 
+abbrev pub prohibitedChildrenFlag : ℕ
+prohibitedChildrenFlag = 4
+
 abbrev pub hasSpecializesFlag : ℕ
 hasSpecializesFlag = 8
+
+-- the flags with one of them set
+abbrev pub withFlag : ℕ → ℕ → ℕ
+withFlag flag flags = cond (hasFlag flag flags) flags (flags + flag)
 
 -- "stack, layer, parent, origin (32 bits each); namespace depth, sibling number, restriction depth,
 -- spec_from (16 bits each); has-specs yes or no; path". Has-specs is 1 or 0. The links to first
@@ -54,7 +66,7 @@ pub record Node : Type 0 where
   pub hasSpecs : ℕ
   pub path : List ℕ
 
--- the node with other flags, parent, origin and path: no call changes any other field
+-- the node with other flags, parent, origin and path: what culling, erasing and deepening change
 abbrev pub changed : ℕ → ℕ → ℕ → List ℕ → Node → Node
 changed flags parent origin path x = record {
   arc = x .arc;

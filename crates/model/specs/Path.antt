@@ -190,6 +190,10 @@ introLength (suc d) p k = introLength d p (introStep p k)
 unfoldable pub pathAtIntroDepth : ℕ → List ℕ → List ℕ
 pathAtIntroDepth d p = take (introLength d p (length p)) p
 
+-- `/`
+abbrev pub absoluteRoot : List ℕ
+absoluteRoot = solidus ∷ []
+
 -- ---- Two paths
 
 unfoldable pub samePath : List ℕ → List ℕ → Bool

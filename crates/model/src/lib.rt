@@ -29,6 +29,18 @@ impl NodeId {
     }
 }
 
+// A node, or that there is none: the Rust's `Option<NodeId>`.
+pub enum NodeOption {
+    Some(NodeId),
+    None,
+}
+
+// A number of 16 bits, or that there is none: the Rust's `Option<u16>`.
+pub enum U16Option {
+    Some(u16),
+    None,
+}
+
 // Which of two nodes is the stronger: the first (Less), the second (Greater), or one node twice.
 pub enum Ordering {
     Less,
@@ -102,6 +114,12 @@ pub enum Appended {
 // The answer of a call that gives a number: a node's, a count, a depth.
 pub enum NumberResult {
     Number(u32),
+    Refused(Refusal),
+}
+
+// The answer of a call that looks for a node.
+pub enum NodeResult {
+    Found(NodeOption),
     Refused(Refusal),
 }
 
