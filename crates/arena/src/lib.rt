@@ -28,6 +28,7 @@ pub use sizes::MAX_PATH_BYTES;
 pub use sizes::MOST_RECORD_BYTES;
 pub use sizes::NO_NODE;
 pub use sizes::ORDER_BYTES;
+pub use sizes::PATH_BYTES;
 pub use sizes::SET_BYTES;
 pub use sizes::SNAPSHOT_BYTES;
 pub use slot::arc;

@@ -15,7 +15,10 @@ pub const LEAST_RECORD_BYTES: u16 = 28;
 
 pub const MOST_RECORD_BYTES: u16 = 282;
 
-// How many bytes the buffers have that calls are lent for a set of nodes, an order and a snapshot.
+// How many bytes the buffers have that calls are lent for a path, a set of nodes, an order and a
+// snapshot.
+pub const PATH_BYTES: usize = 255;
+
 pub const SET_BYTES: usize = 1024;
 
 pub const ORDER_BYTES: usize = 4096;

@@ -12,9 +12,15 @@ use Rattle.model.specs.Graph.{Graph}
 use Rattle.model.specs.Refusals.{refusalNumber, Question, ask, refusal}
 use Rattle.model.specs.Calls.{Outcome, unchanged, settled, decided}
 use Rattle.model.specs.Arena.{arenaBytes, decode, encode, holdsGraph}
-use Rattle.model.specs.ArenaCalls.{isArena, ValidArena, onArena, Wrote, Finishes, askArena, valueUnless, Answers, Answered}
+use Rattle.model.specs.Answers.{numberRefusal, numberValue, nodeOption}
+use Rattle.model.specs.ArenaCalls.{isArena, ValidArena, onArena, Wrote, Finishes, askArena, valueUnless, Answers, Answered, AnsweredNode, PutPath}
+use Rattle.model.specs.Bytes.{stored}
+use Rattle.model.specs.Node.{optional}
 use Rattle.model.specs.declared.Refusal.{Refusal}
 use Rattle.model.specs.declared.Refusal.the-variants.{Size, NotAGraph, NodeZero, Node as NodeNumber, Path, Kind, Capacity, NotSiblings, NoOrder, NotOrdered, EraseSet, Snapshot}
+use Rattle.model.specs.declared.NodeOption.{NodeOption}
+use Rattle.model.specs.declared.NodeResult.the-variants.{Found, Refused as NodeRefused}
+use Rattle.model.specs.declared.NumberResult.{NumberResult}
 use Rattle.model.specs.declared.NumberResult.the-variants.{Number, Refused as NumberRefused}
 use Rattle.model.specs.declared.UnitResult.the-variants.{Done, Refused as FinishRefused}
 
@@ -55,6 +61,32 @@ module _ (questions : List Question) (value : ℕ) where
 
   pub answered-number : (n : ℕ) → refusal questions ≡ 0 → n ≡ value → Answers questions value 0 n
   answered-number n e v = record { refused = sym e; value = v ∙ ap (λ (k : ℕ). valueUnless k value) (sym e) }
+
+-- of a call that looks for a node
+module _ (questions : List Question) (answer : ℕ) where
+  pub found-refused : (r : Refusal) → refusalNumber r ≡ refusal questions → AnsweredNode questions answer (NodeRefused r)
+  found-refused r e = record { refused = e; value = rw (ne-eqb (refusal questions) 0 (λ z. refusal-some r (e ∙ z))) }
+
+  pub found-node : (node : NodeOption) → refusal questions ≡ 0 → nodeOption node ≡ optional answer → AnsweredNode questions answer (Found node)
+  found-node node e v = record { refused = sym e; value = rw (eq-eqb (refusal questions) 0 e) v }
+
+-- of a call that puts a path into a buffer
+module _ (questions : List Question) (path before : List ℕ) where
+  pub put-refused : (r : Refusal) → refusalNumber r ≡ refusal questions → PutPath questions path before (NumberRefused r) before
+  put-refused r e = record {
+    answered = answered-refused questions (length path) r e;
+    buffer = rw (ne-eqb (refusal questions) 0 (λ z. refusal-some r (e ∙ z)));
+  }
+
+  pub put-done : (r : NumberResult) (after p : List ℕ) → refusal questions ≡ 0 → p ≡ path
+      → (numberRefusal r ≡ 0) × (numberValue r ≡ length p) → after ≡ stored 0 p before → PutPath questions path before r after
+  put-done r after p e same answer wrote = record {
+    answered = record {
+      refused = answer .0 ∙ sym e;
+      value = answer .1 ∙ ap length same ∙ ap (λ (k : ℕ). valueUnless k (length path)) (sym e);
+    };
+    buffer = rw (eq-eqb (refusal questions) 0 e) (wrote ∙ ap (λ (q : List ℕ). stored 0 q before) same);
+  }
 
 -- ---- Questions 1 and 2
 

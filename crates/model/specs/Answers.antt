@@ -23,6 +23,7 @@ use Rattle.model.specs.declared.BoolResult.the-variants.{Is, Refused as 
 use Rattle.model.specs.declared.UnitResult.{UnitResult}
 use Rattle.model.specs.declared.UnitResult.the-variants.{Done, Refused as FinishRefused}
 use Rattle.model.specs.Lists.{bit}
+use Rattle.model.specs.Node.{invalid}
 use Rattle.model.specs.Refusals.{refusalNumber}
 
 -- ---- What may be missing: the Rust's `Option<NodeId>` and `Option<u16>`
@@ -30,6 +31,11 @@ use Rattle.model.specs.Refusals.{refusalNumber}
 abbrev pub nodeOption : NodeOption → Option ℕ
 nodeOption (SomeNode n) = some (n .0)
 nodeOption NoNode = none
+
+-- a node that there may not be as a number
+abbrev pub nodeNumber : Option ℕ → ℕ
+nodeNumber none = invalid
+nodeNumber (some n) = n
 
 abbrev pub numberOption : U16Option → Option ℕ
 numberOption (SomeNumber n) = some n

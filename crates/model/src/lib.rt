@@ -4,8 +4,8 @@
 ghost use mathlib.Core.Path.{_≡_};
 ghost use mathlib.Core.Bool.{not};
 ghost use lib.Dec.{eqb};
-ghost use Rattle.model.specs.Answers.{orderingNumber};
-ghost use Rattle.model.specs.Node.{invalid};
+ghost use Rattle.model.specs.Answers.{orderingNumber, nodeOption, nodeNumber};
+ghost use Rattle.model.specs.Node.{invalid, optional};
 ghost use Rattle.model.specs.Refusals.{refusalNumber};
 
 // A node's number.
@@ -33,6 +33,28 @@ impl NodeId {
 pub enum NodeOption {
     Some(NodeId),
     None,
+}
+
+impl NodeOption {
+    // The node of that number, or none where it is the number that no node has.
+    pub fn of(number: u32) -> NodeOption
+        ensures { λ r. ⌜ nodeOption r ≡ optional number ⌝ }
+    {
+        if number == NodeId::INVALID.0 {
+            return NodeOption::None;
+        }
+        NodeOption::Some(NodeId(number))
+    }
+
+    // The node's number, or the number that no node has.
+    pub fn number(self) -> u32
+        ensures { λ r. ⌜ r ≡ nodeNumber (nodeOption self) ⌝ }
+    {
+        match self {
+            NodeOption::Some(node) => node.0,
+            NodeOption::None => NodeId::INVALID.0,
+        }
+    }
 }
 
 // A number of 16 bits, or that there is none: the Rust's `Option<u16>`.

@@ -2,6 +2,7 @@
 -- records that they append are the definitions' nodes: `start-node`, `added-node`. Assumes nothing.
 use mathlib.Core.Path.{_≡_, refl, sym, ap, _∙_}
 use mathlib.Core.Bool.{Bool, true, false, not, _&&_, cond, and-eq-true-iff}
+use mathlib.Core.Option.{some}
 use mathlib.Core.List.{List, [], _∷_}
 use Prim.Native.Nat.{ℕ, _+_, _≤_, _<_}
 use native.Mathlib.Omega.{arith}
@@ -14,9 +15,13 @@ use Rattle.model.specs.Node.{invalid, rootArc, isCulled}
 use Rattle.model.specs.Graph.{Graph, size, nodeAt, withNode}
 use Rattle.model.specs.Refusals.{refusalNumber, Question, ask, refusal, pathBytes, arcAllowed, linksAllowed, recordQuestions}
 use Rattle.model.specs.Calls as calls
-use Rattle.model.specs.Calls.{decided, hasNodeZero, initRoot, given, givenBelow, depthOr, defaultDepth, addedNode, rootNode, addChild}
+use Rattle.model.specs.Answers.{nodeOption, numberOption}
+use Rattle.model.specs.Calls.{decided, hasNodeZero, initRoot, givenOr, primsOver, givenBelow, defaultDepth, addedNode, rootNode, addChild}
 use Rattle.model.specs.Arena.{countIn, primCountIn, decode, encode}
 use Rattle.model.specs.ArenaCalls.{ValidArena, ValidNode, onArena, Wrote, askArena}
+use Rattle.model.specs.declared.NodeId.{NodeId}
+use Rattle.model.specs.declared.NodeOption.{NodeOption}
+use Rattle.model.specs.declared.NodeOption.the-variants.{Some as SomeNode, None as NoNode}
 use Rattle.model.specs.declared.Refusal.{Refusal}
 use Rattle.model.specs.declared.Refusal.the-variants.{NodeZero, Path}
 use Rattle.model.specs.declared.NumberResult.the-variants.{Number, Refused as NumberRefused}
@@ -25,14 +30,12 @@ use Rattle.laws.proofs.AcceptedQuestions.{none-refused-accepted}
 use Rattle.laws.proofs.PathGrammar.{well-formed-length}
 use Rattle.arena.specs.Slot.{nodeOf}
 use Rattle.arena.proofs.HeldArenas.{held}
-use Rattle.arena.proofs.ReadNodes.{sizes, node-read}
+use Rattle.arena.proofs.ReadNodes.{sizes, has-slot, node-read}
 use Rattle.validate.proofs.AskingLaws.{node-zero-passed}
 use Rattle.child_lists.specs.Append.{CanAppend}
 use Rattle.nodes.specs.declared.description.NodeDesc.{NodeDesc}
-use Rattle.nodes.specs.declared.description.Depth.{Depth}
-use Rattle.nodes.specs.declared.description.Depth.the-variants.{Given, Missing}
-use Rattle.nodes.specs.Describing.{depthOption, descOf, addQuestions, numberOr, depthGiven, addedRecord}
-use Rattle.nodes.proofs.DescribingLaws.{links-asked, turned}
+use Rattle.nodes.specs.Describing.{descOf, addQuestions, HasSlotIn, primsRead, addedRecord}
+use Rattle.nodes.proofs.DescribingLaws.{links-asked}
 use Rattle.nodes.specs.Adding.{startRecord}
 
 -- ---- Starting
@@ -52,7 +55,7 @@ start-node stack layer prims path e = ap (λ (n : ℕ). nodeOf (startRecord stac
 
 -- ---- Adding
 
-module _ (g : Graph) (d : calls.NodeDesc) (some : 0 < size g) where
+module _ (g : Graph) (d : calls.NodeDesc) (some-node : 0 < size g) where
   abbrev x : model.Node
   x = addedNode g d
 
@@ -60,7 +63,7 @@ module _ (g : Graph) (d : calls.NodeDesc) (some : 0 < size g) where
   pub add-accepted : refusal (addQuestions g d) ≡ 0 → refusal (recordQuestions g x) ≡ 0
   add-accepted e =
       let passes = none-refused-accepted (addQuestions g d) refl e in
-      let links : linksAllowed g x ≡ true = rw (ne-eqb (size g) 0 (λ z. omega arith)) (links-asked g d some ∙ passes 4) in
+      let links : linksAllowed g x ≡ true = rw (ne-eqb (size g) 0 (λ z. omega arith)) (links-asked g d some-node ∙ passes 4) in
       rw (links, passes 5, added-read (arcAllowed g x) (isCulled x) (leb (x .hasSpecs) 1) (passes 6), passes 7)
     where
       added-read : (arcs culled specs : Bool) → (arcs && (not culled && specs)) ≡ true → (arcs && (not (eqb (x .arc) rootArc && culled) && specs)) ≡ true
@@ -74,53 +77,53 @@ module _ (g : Graph) (d : calls.NodeDesc) (some : 0 < size g) where
 
 -- ---- The record of a node that is added
 
-depth-same : (depth : Depth) (default read : ℕ) → read ≡ default → depthGiven depth read ≡ depthOr (depthOption depth) default
-depth-same (Given k) default read e = refl
-depth-same Missing default read e = e
-
-module _ (bs : List ℕ) (o : ValidArena bs) (desc : NodeDesc) (path : List ℕ) (some : 0 < countIn bs) where
+module _ (bs : List ℕ) (o : ValidArena bs) (desc : NodeDesc) (path : List ℕ) (some-node : 0 < countIn bs) where
   abbrev d : calls.NodeDesc
   d = descOf desc path
 
   abbrev g : Graph
   g = decode bs
 
+  parent-asked : refusal (addQuestions g d) ≡ 0 → givenBelow (size g) (nodeOption (desc .parent)) ≡ true
+  parent-asked e =
+      and-eq-true-iff (givenBelow (size g) (d .parent)) (givenBelow (size g) (d .origin)) .0
+      (none-refused-accepted (addQuestions g d) refl e 4) .0
+
   -- a parent that is given is a node
-  pub parent-below : refusal (addQuestions g d) ≡ 0 → (desc .parent .0 ≡ invalid → ⊥) → ValidNode bs (desc .parent .0)
-  parent-below e h =
-      let passes = none-refused-accepted (addQuestions g d) refl e in
-      let both = and-eq-true-iff (givenBelow (size g) (desc .parent .0)) (givenBelow (size g) (desc .origin .0)) .0 (passes 4) in
-      let below : ltb (desc .parent .0) (size g) ≡ true = rw (ne-eqb (desc .parent .0) invalid h) at (both .0) in
-      record { opened = o; below = omega (arith, ltb-true (desc .parent .0) (size g) below, sizes bs o) }
+  parent-below : (parent : NodeId) → givenBelow (size g) (some (parent .0)) ≡ true → ValidNode bs (parent .0)
+  parent-below parent e =
+      record { opened = o; below = omega (arith, ltb-true (parent .0) (size g) e, sizes bs o) }
+
+  pub parent-slot : refusal (addQuestions g d) ≡ 0 → HasSlotIn (desc .parent)
+  parent-slot e = go (desc .parent) (parent-asked e)
+    where
+      go : (parent : NodeOption) → givenBelow (size g) (nodeOption parent) ≡ true → HasSlotIn parent
+      go (SomeNode parent) t = has-slot bs (parent .0) (parent-below parent t) .within
+      go NoNode t = tt
 
   -- the depth that a missing one becomes
-  default-read : (prims : ℕ) → refusal (addQuestions g d) ≡ 0 → prims ≡ primCount path
-      → cond (eqb (desc .parent .0) invalid) prims (primCountIn bs (desc .parent .0)) ≡ defaultDepth g d
-  default-read prims e p = go (eqb (desc .parent .0) invalid) refl
+  default-read : (prims : ℕ) → refusal (addQuestions g d) ≡ 0 → prims ≡ primCount path → primsRead bs (desc .parent) prims ≡ defaultDepth g d
+  default-read prims e p = go (desc .parent) (parent-asked e)
     where
-      go : (t : Bool) → eqb (desc .parent .0) invalid ≡ t
-          → cond t prims (primCountIn bs (desc .parent .0)) ≡ cond (not t) (primCount (nodeAt (g .nodes) (desc .parent .0) .path)) (primCount path)
-      go true t = p
-      go false t =
-          let parent = parent-below e (eqb-false (desc .parent .0) invalid t) in
-          held bs (o .holds) .node (desc .parent .0) (parent .below) .prim-count
-          ∙ ap (λ (y : model.Node). primCount (y .path)) (sym (node-read bs (desc .parent .0) parent))
+      go : (parent : NodeOption) → givenBelow (size g) (nodeOption parent) ≡ true
+          → primsRead bs parent prims ≡ primsOver (g .nodes) (nodeOption parent) path
+      go (SomeNode parent) t =
+          let there = parent-below parent t in
+          held bs (o .holds) .node (parent .0) (there .below) .prim-count
+          ∙ ap (λ (y : model.Node). primCount (y .path)) (sym (node-read bs (parent .0) there))
+      go NoNode t = p
 
   pub added-node : (prims : ℕ) → refusal (addQuestions g d) ≡ 0 → prims ≡ primCount path
       → nodeOf (addedRecord bs desc prims (length path)) path ≡ addedNode g d
   added-node prims e p =
-      let parent = turned (eqb (desc .parent .0) invalid) 0 (desc .parent .0) in
-      let origin = turned (eqb (desc .origin .0) invalid) (numberOr (desc .parent .0) 0) (desc .origin .0)
-      ∙ ap (λ (q : ℕ). cond (given (desc .origin .0)) (desc .origin .0) q) parent in
-      let depth = depth-same (desc .depth) (defaultDepth g d)
-      (cond (eqb (desc .parent .0) invalid) prims (primCountIn bs (desc .parent .0))) (default-read prims e p) in
+      let depth = ap (givenOr (numberOption (desc .depth))) (default-read prims e p) in
       λ i. record {
         arc = desc .arc;
         flags = desc .flags;
         stack = desc .stack;
         layer = desc .layer;
-        parent = parent i;
-        origin = origin i;
+        parent = addedNode g d .parent;
+        origin = addedNode g d .origin;
         depth = depth i;
         sibling = desc .sibling;
         restriction = desc .restriction;
@@ -164,9 +167,9 @@ module _ (bs : List ℕ) (d : calls.NodeDesc) where
       → Wrote (onArena (addChild d) bs) bs (NumberRefused r) bs
   add-refused-first r e = refused-by r (refused-before r (askArena bs (hasNodeZero (decode bs) ∷ [])) (addQuestions (decode bs) d) e)
 
-  module _ (o : ValidArena bs) (some : 0 < countIn bs) where
+  module _ (o : ValidArena bs) (some-node : 0 < countIn bs) where
     node-left : refusal addAsked ≡ refusal (addQuestions (decode bs) d)
-    node-left = node-zero-passed bs (addQuestions (decode bs) d) o some
+    node-left = node-zero-passed bs (addQuestions (decode bs) d) o some-node
 
     pub add-refused : (r : Refusal) → refusalNumber r ≡ refusal (addQuestions (decode bs) d) → Wrote (onArena (addChild d) bs) bs (NumberRefused r) bs
     add-refused r e = refused-by r (e ∙ sym node-left)

@@ -2,7 +2,8 @@
 -- and the sum of the path bytes, one node after the other: `bytes-start`, `bytes-step`,
 -- `bytes-end`. Assumes nothing.
 use mathlib.Core.Path.{_≡_, refl, sym, ap, _∙_}
-use mathlib.Core.Bool.{Bool, true, false, not, _||_, _&&_, cond}
+use mathlib.Core.Bool.{Bool, true, false, not, _&&_}
+use mathlib.Core.Option.{Option, none, some}
 use mathlib.Core.List.{List, [], _∷_}
 use Prim.Native.Nat.{ℕ, suc, _+_, _-_, _≤_, _<_}
 use native.Mathlib.Omega.{arith}
@@ -12,11 +13,10 @@ use lib.ListN.{length}
 use borrow.Author.Tests.{ne-eqb, lt-ltb}
 use Rattle.model.specs.Path.{wellFormed}
 use Rattle.model.specs.Node as model
-use Rattle.model.specs.Node.{invalid}
 use Rattle.model.specs.Graph.{Graph, size, hasLocalRoot}
 use Rattle.model.specs.Refusals.{ask, refusal, pathBytes, hasRoom, addedKind}
 use Rattle.model.specs.Calls as calls
-use Rattle.model.specs.Calls.{given, givenBelow, addedNode}
+use Rattle.model.specs.Calls.{givenOr, givenBelow, addedNode}
 use Rattle.model.specs.Arena.{countIn, recordLengthIn, nodeIn, tabulate, decode, localRootIn}
 use Rattle.model.specs.ArenaCalls.{ValidArena, ValidNode}
 use Rattle.arena.proofs.HeldArenas.{held}
@@ -28,7 +28,7 @@ use Rattle.validate.specs.declared.record.Before.{Before}
 use Rattle.validate.specs.declared.record.RecordNumbers.{RecordNumbers}
 use Rattle.validate.specs.RecordCheck.{numbersOf, beforeNext, linksAt, questionsAt, RecordChecked}
 use Rattle.nodes.specs.declared.description.NodeDesc.{NodeDesc}
-use Rattle.nodes.specs.Describing.{descOf, addQuestions, DescChecked, numberOr}
+use Rattle.nodes.specs.Describing.{descOf, addQuestions, DescChecked}
 
 -- ---- The path bytes
 
@@ -68,38 +68,32 @@ has-root bs o h = ap (λ (n : ℕ). not (eqb n 0)) (root-held bs o h) ∙ root-f
 
 -- ---- The questions
 
-module _ (g : Graph) (d : calls.NodeDesc) (some : 0 < size g) where
+module _ (g : Graph) (d : calls.NodeDesc) (some-node : 0 < size g) where
   abbrev x : model.Node
   x = addedNode g d
 
   -- question 4, of the parent and the origin that are there in the end
-  pub links-asked : (ltb (x .parent) (size g) && ltb (x .origin) (size g)) ≡ (givenBelow (size g) (d .fields .parent) && givenBelow (size g) (d .fields .origin))
-  links-asked = go (eqb (d .fields .parent) invalid) (eqb (d .fields .origin) invalid)
+  pub links-asked : (ltb (x .parent) (size g) && ltb (x .origin) (size g)) ≡ (givenBelow (size g) (d .parent) && givenBelow (size g) (d .origin))
+  links-asked = go (d .parent) (d .origin)
     where
       same : (t : Bool) → (t && t) ≡ (t && true)
       same true = refl
       same false = refl
 
-      go : (p o : Bool)
-          → (ltb (cond (not p) (d .fields .parent) 0) (size g)
-          && ltb (cond (not o) (d .fields .origin) (cond (not p) (d .fields .parent) 0)) (size g))
-          ≡ ((not (not p) || ltb (d .fields .parent) (size g)) && (not (not o) || ltb (d .fields .origin) (size g)))
-      go true true = rw (lt-ltb 0 (size g) some)
-      go true false = rw (lt-ltb 0 (size g) some)
-      go false true = same (ltb (d .fields .parent) (size g))
-      go false false = refl
+      go : (p o : Option ℕ)
+          → (ltb (givenOr p 0) (size g) && ltb (givenOr o (givenOr p 0)) (size g)) ≡ (givenBelow (size g) p && givenBelow (size g) o)
+      go none none = rw (lt-ltb 0 (size g) some-node)
+      go none (some k) = rw (lt-ltb 0 (size g) some-node)
+      go (some n) none = same (ltb n (size g))
+      go (some n) (some k) = refl
 
   pub add-questions : refusal (questionsAt (beforeNext g false) (numbersOf x) (x .path)) ≡ refusal (addQuestions g d)
   add-questions =
-      let links : linksAt (beforeNext g false) (numbersOf x) ≡ (givenBelow (size g) (d .fields .parent) && givenBelow (size g) (d .fields .origin)) =
+      let links : linksAt (beforeNext g false) (numbersOf x) ≡ (givenBelow (size g) (d .parent) && givenBelow (size g) (d .origin)) =
       rw (ne-eqb (size g) 0 (λ z. omega arith)) links-asked in
       ap (λ (t : Bool). refusal (ask 4 t ∷ ask 5 (wellFormed (x .path)) ∷ ask 6 (addedKind g x) ∷ ask 7 (hasRoom g x) ∷ [])) links
 
-pub turned : (t : Bool) (a b : ℕ) → cond t a b ≡ cond (not t) b a
-turned true a b = refl
-turned false a b = refl
-
-module _ (bs : List ℕ) (o : ValidArena bs) (desc : NodeDesc) (path : List ℕ) (some : 0 < countIn bs) where
+module _ (bs : List ℕ) (o : ValidArena bs) (desc : NodeDesc) (path : List ℕ) (some-node : 0 < countIn bs) where
   abbrev d : calls.NodeDesc
   d = descOf desc path
 
@@ -117,16 +111,14 @@ module _ (bs : List ℕ) (o : ValidArena bs) (desc : NodeDesc) (path : List ℕ)
   -- the check of a record, put the node with what was missing put in, has put it `addChild`'s
   -- questions
   pub desc-checked : (count sum parent origin : ℕ) (root : Bool) (r : Checked) → count ≡ countIn bs → sum ≡ pathBytes (g .nodes)
-      → root ≡ not (eqb (localRootIn bs) 0) → parent ≡ numberOr (desc .parent .0) 0 → origin ≡ numberOr (desc .origin .0) parent
+      → root ≡ not (eqb (localRootIn bs) 0) → parent ≡ givenOr (d .parent) 0 → origin ≡ givenOr (d .origin) parent
       → RecordChecked (questionsAt (added count sum root) (numbers parent origin) path) path r → DescChecked g d r
   desc-checked count sum parent origin root r count-is sum-is root-is parent-is origin-is checked =
       let counted : count ≡ size g = count-is ∙ sym (sizes bs o) in
-      let rooted : root ≡ hasLocalRoot (g .nodes) = root-is ∙ has-root bs o some in
-      let above : parent ≡ addedNode g d .parent = parent-is ∙ turned (eqb (desc .parent .0) invalid) 0 (desc .parent .0) in
-      let from : origin ≡ addedNode g d .origin =
-      origin-is ∙ turned (eqb (desc .origin .0) invalid) parent (desc .origin .0) ∙ ap (λ (q : ℕ). cond (given (desc .origin .0)) (desc .origin .0) q) above in
+      let rooted : root ≡ hasLocalRoot (g .nodes) = root-is ∙ has-root bs o some-node in
+      let from : origin ≡ addedNode g d .origin = origin-is ∙ ap (givenOr (d .origin)) parent-is in
       let same : questionsAt (added count sum root) (numbers parent origin) path ≡ questionsAt (beforeNext g false) (numbersOf (addedNode g d)) path =
-      λ i. questionsAt (added (counted i) (sum-is i) (rooted i)) (numbers (above i) (from i)) path in
+      λ i. questionsAt (added (counted i) (sum-is i) (rooted i)) (numbers (parent-is i) (from i)) path in
       record {
         refused = checked .refused ∙ ap refusal same ∙ add-questions g d (omega (arith, sizes bs o));
         prims = checked .prims;

@@ -4,4 +4,5 @@ pub mod AddingLaws
 -- The calls that read.
 pub mod ReadableLaws
 pub mod QueryLaws
+pub mod PathCalls
 mod SiteSearch

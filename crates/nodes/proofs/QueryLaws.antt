@@ -1,27 +1,20 @@
--- The answers of the calls that hand back a path, a node or the header, beside
--- laws/proofs/ArenaCallLaws.antt. Assumes nothing.
-use mathlib.Core.Path.{_≡_, sym, _∙_}
+-- The answers of the calls that give a node or the header, beside laws/proofs/ArenaCallLaws.antt.
+-- Assumes nothing.
+use mathlib.Core.Path.{_≡_, sym}
 use mathlib.Core.List.{List, []}
 use Prim.Native.Nat.{ℕ}
 use native.Mathlib.Omega.{arith}
-use borrow.Author.Tests.{eq-eqb, ne-eqb}
-use Rattle.model.specs.Refusals.{refusalNumber, Question, refusal}
+use Rattle.model.specs.Refusals.{refusalNumber, refusal}
 use Rattle.model.specs.Calls.{readsNode}
 use Rattle.model.specs.Arena.{decode}
 use Rattle.model.specs.ArenaCalls.{ValidArena, askArena}
 use Rattle.model.specs.declared.Refusal.{Refusal}
-use Rattle.laws.proofs.ArenaCallLaws.{refusal-some, asked-on}
+use Rattle.laws.proofs.ArenaCallLaws.{asked-on}
 use Rattle.arena.specs.declared.Node.{Node}
 use Rattle.nodes.specs.declared.calls.GraphInfo.{GraphInfo}
 use Rattle.nodes.specs.declared.calls.GraphRead.the-variants.{Graph as GraphOf, Refused as GraphRefused}
 use Rattle.nodes.specs.declared.calls.NodeRead.the-variants.{Node as NodeRecord, Refused as NodeRefused}
-use Rattle.nodes.specs.Queries.{handed, NodeShown, NodeAnswered, GraphShown, GraphAnswered}
-
-pub handed-on : (qs : List Question) (path : List ℕ) → refusal qs ≡ 0 → path ≡ handed qs path
-handed-on qs path e = rw (eq-eqb (refusal qs) 0 e)
-
-pub not-handed : (qs : List Question) (path : List ℕ) (r : Refusal) → refusalNumber r ≡ refusal qs → [] ≡ handed qs path
-not-handed qs path r e = rw (ne-eqb (refusal qs) 0 (λ z. refusal-some r (e ∙ z)))
+use Rattle.nodes.specs.Queries.{NodeShown, NodeAnswered, GraphShown, GraphAnswered}
 
 pub no-node : (bs : List ℕ) (n : ℕ) (r : Refusal) → refusalNumber r ≡ refusal (askArena bs (readsNode (decode bs) n)) → NodeAnswered bs n (NodeRefused r)
 no-node bs n r e = record { refused = e; node = λ x q. absurd (let z : _≡_ {A = ℕ} 0 1 = cc in omega arith) }

@@ -1,31 +1,26 @@
 -- How the code's `NodeDesc` is document 01's (model/specs/Calls.antt), what its check answers, and
 -- the record that it becomes.
 use mathlib.Core.Path.{_≡_}
-use mathlib.Core.Bool.{_&&_, cond}
-use mathlib.Core.Option.{Option, none, some}
+use mathlib.Core.Bool.{_&&_}
 use mathlib.Core.List.{List, [], _∷_}
-use Prim.Native.Nat.{ℕ, _+_}
-use lib.Dec.{eqb}
+use Prim.Native.Nat.{ℕ, _+_, _<_}
 use Rattle.model.specs.Path.{wellFormed, primCount}
 use Rattle.model.specs.Node.{invalid}
 use Rattle.model.specs.Graph.{Graph, size}
 use Rattle.model.specs.Refusals.{Question, ask, refusal, hasRoom, addedKind}
 use Rattle.model.specs.Calls as calls
-use Rattle.model.specs.Calls.{givenBelow, addedNode}
+use Rattle.model.specs.Calls.{givenOr, givenBelow, addedNode}
+use Rattle.model.specs.Answers.{nodeOption, numberOption}
 use Rattle.model.specs.Arena.{primCountIn}
 use Rattle.model.specs.declared.NodeId.{NodeId}
+use Rattle.model.specs.declared.NodeOption.{NodeOption}
+use Rattle.model.specs.declared.NodeOption.the-variants.{Some as SomeNode, None as NoNode}
 use Rattle.arena.specs.declared.Node.{Node}
 use Rattle.validate.specs.declared.record.Checked.{Checked}
 use Rattle.validate.specs.RecordCheck.{checkedRefusal, checkedPrims}
 use Rattle.nodes.specs.declared.description.NodeDesc.{NodeDesc}
-use Rattle.nodes.specs.declared.description.Depth.{Depth}
-use Rattle.nodes.specs.declared.description.Depth.the-variants.{Given, Missing}
 
 -- ---- A node to be added
-
-abbrev pub depthOption : Depth → Option ℕ
-depthOption (Given d) = some d
-depthOption Missing = none
 
 abbrev pub descOf : NodeDesc → List ℕ → calls.NodeDesc
 descOf d path = record {
@@ -34,8 +29,8 @@ descOf d path = record {
     flags = d .flags;
     stack = d .stack;
     layer = d .layer;
-    parent = d .parent .0;
-    origin = d .origin .0;
+    parent = 0;
+    origin = 0;
     depth = 0;
     sibling = d .sibling;
     restriction = d .restriction;
@@ -43,14 +38,15 @@ descOf d path = record {
     hasSpecs = d .«has_specs»;
     path = path;
   };
-  depth = depthOption (d .depth);
+  parent = nodeOption (d .parent);
+  origin = nodeOption (d .origin);
+  depth = numberOption (d .depth);
 }
 
 -- `addChild`'s questions 4 to 7, which are put where there is a node 0
 abbrev pub addQuestions : Graph → calls.NodeDesc → List Question
 addQuestions g d =
-    ask 4 (givenBelow (size g) (d .fields .parent) && givenBelow (size g) (d .fields .origin)) ∷ ask 5 (wellFormed (d .fields .path))
-    ∷ ask 6 (addedKind g (addedNode g d)) ∷ ask 7 (hasRoom g (addedNode g d)) ∷ []
+    ask 4 (givenBelow (size g) (d .parent) && givenBelow (size g) (d .origin)) ∷ ask 5 (wellFormed (d .fields .path)) ∷ ask 6 (addedKind g (addedNode g d)) ∷ ask 7 (hasRoom g (addedNode g d)) ∷ []
 
 -- the first no of them; an accepted node has its path's prim count
 pub record DescChecked (g : Graph) (d : calls.NodeDesc) (r : Checked) : Type 0 where
@@ -59,12 +55,15 @@ pub record DescChecked (g : Graph) (d : calls.NodeDesc) (r : Checked) : Type 0 w
 
 -- ---- What is missing of it
 
-abbrev pub numberOr : ℕ → ℕ → ℕ
-numberOr number missing = cond (eqb number invalid) missing number
+-- a parent that is given has a slot
+abbrev pub HasSlotIn : NodeOption → Type 0
+HasSlotIn (SomeNode parent) = parent .0 < 1024
+HasSlotIn NoNode = Unit {0}
 
-abbrev pub depthGiven : Depth → ℕ → ℕ
-depthGiven (Given d) missing = d
-depthGiven Missing missing = missing
+-- the depth that a missing one becomes, as the arena has it
+abbrev pub primsRead : List ℕ → NodeOption → ℕ → ℕ
+primsRead bs (SomeNode parent) prims = primCountIn bs (parent .0)
+primsRead bs NoNode prims = prims
 
 -- ---- The record
 
@@ -83,9 +82,9 @@ addedRecord bs d prims pathLength = record {
   flags = d .flags;
   stack = d .stack;
   layer = d .layer;
-  parent = record { 0 = numberOr (d .parent .0) 0 };
-  origin = record { 0 = numberOr (d .origin .0) (numberOr (d .parent .0) 0) };
-  depth = depthGiven (d .depth) (cond (eqb (d .parent .0) invalid) prims (primCountIn bs (d .parent .0)));
+  parent = record { 0 = givenOr (nodeOption (d .parent)) 0 };
+  origin = record { 0 = givenOr (nodeOption (d .origin)) (givenOr (nodeOption (d .parent)) 0) };
+  depth = givenOr (numberOption (d .depth)) (primsRead bs (d .parent) prims);
   sibling = d .sibling;
   restriction = d .restriction;
   «spec_from» = d .«spec_from»;

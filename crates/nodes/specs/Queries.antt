@@ -1,16 +1,16 @@
--- What the calls that only read answer, beside model/specs/ArenaCalls.antt's `Answered`: a path
--- handed back, a node, and what the header tells. The definitions that they cite are document 01's,
--- in model/specs.
+-- What the calls that only read answer, beside model/specs/ArenaCalls.antt's `Answered`: a node,
+-- and what the header tells; for each case of the answer its refusal and its value. The definitions
+-- that they cite are document 01's, in model/specs.
 use mathlib.Core.Path.{_≡_}
 use mathlib.Core.Bool.{cond}
+use mathlib.Core.Option.{Option, none, some}
 use mathlib.Core.List.{List, []}
 use Prim.Native.Nat.{ℕ, _+_}
-use lib.Dec.{eqb}
 use lib.ListN.{length}
 use Rattle.model.specs.Path.{primCount}
-use Rattle.model.specs.Node.{invalid}
 use Rattle.model.specs.Graph.{Graph, size, nodeAt, childrenOf, hasLocalRoot}
-use Rattle.model.specs.Refusals.{refusalNumber, Question, refusal}
+use Rattle.model.specs.Answers.{nodeOption}
+use Rattle.model.specs.Refusals.{refusalNumber, refusal}
 use Rattle.model.specs.Calls.{readsNode}
 use Rattle.model.specs.Arena.{firstOf, lastOf, afterIn, localRootOf, decode}
 use Rattle.model.specs.ArenaCalls.{askArena}
@@ -22,16 +22,15 @@ use Rattle.nodes.specs.declared.calls.GraphRead.the-variants.{Graph as G
 use Rattle.nodes.specs.declared.calls.NodeRead.{NodeRead}
 use Rattle.nodes.specs.declared.calls.NodeRead.the-variants.{Node as NodeRecord, Refused as NodeRefused}
 
--- ---- A path handed back: no bytes where the call is refused (no path is empty)
-
-abbrev pub handed : List Question → List ℕ → List ℕ
-handed questions path = cond (eqb (refusal questions) 0) path []
-
 -- ---- A node
 
 abbrev pub nodeReadRefusal : NodeRead → ℕ
 nodeReadRefusal (NodeRecord x) = 0
 nodeReadRefusal (NodeRefused r) = refusalNumber r
+
+abbrev pub nodeReadValue : NodeRead → Option Node
+nodeReadValue (NodeRecord x) = some x
+nodeReadValue (NodeRefused r) = none
 
 -- x has the fields of node n and its links: the first and last of its children, and the one after
 -- it among its parent's; `invalid` for none
@@ -45,7 +44,7 @@ pub record NodeShown (g : Graph) (n : ℕ) (x : Node) : Type 0 where
 
 pub record NodeAnswered (bs : List ℕ) (n : ℕ) (r : NodeRead) : Type 0 where
   pub refused : nodeReadRefusal r ≡ refusal (askArena bs (readsNode (decode bs) n))
-  pub node : (x : Node) → r ≡ NodeRecord x → NodeShown (decode bs) n x
+  pub node : (x : Node) → nodeReadValue r ≡ some x → NodeShown (decode bs) n x
 
 -- ---- What the header tells
 
@@ -53,17 +52,21 @@ abbrev pub graphReadRefusal : GraphRead → ℕ
 graphReadRefusal (GraphOf x) = 0
 graphReadRefusal (GraphRefused r) = refusalNumber r
 
--- the local root's number, `invalid` for none
-abbrev pub localRootOr : Graph → ℕ
-localRootOr g = cond (hasLocalRoot (g .nodes)) (localRootOf (g .nodes)) invalid
+abbrev pub graphReadValue : GraphRead → Option GraphInfo
+graphReadValue (GraphOf x) = some x
+graphReadValue (GraphRefused r) = none
+
+-- the local root's number, where there is one
+abbrev pub localRootOption : Graph → Option ℕ
+localRootOption g = cond (hasLocalRoot (g .nodes)) (some (localRootOf (g .nodes))) none
 
 pub record GraphShown (g : Graph) (x : GraphInfo) : Type 0 where
   pub count : x .count ≡ size g
   pub ordered : x .ordered ≡ g .ordered
   pub finalized : x .finalized ≡ g .finalized
   pub shallow : x .shallow ≡ g .shallow
-  pub «local-root» : x .«local_root» .0 ≡ localRootOr g
+  pub «local-root» : nodeOption (x .«local_root») ≡ localRootOption g
 
 pub record GraphAnswered (bs : List ℕ) (r : GraphRead) : Type 0 where
   pub refused : graphReadRefusal r ≡ refusal (askArena bs [])
-  pub graph : (x : GraphInfo) → r ≡ GraphOf x → GraphShown (decode bs) x
+  pub graph : (x : GraphInfo) → graphReadValue r ≡ some x → GraphShown (decode bs) x

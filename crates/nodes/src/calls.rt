@@ -1,13 +1,15 @@
 // The calls that start a graph and add to it, that read the header or one node, and that look for a
 // site. None has a `requires`: each puts its questions in document 01's order and is refused by the
 // first whose answer is no; then no byte has changed, because nothing is written before all have
-// passed. A path is handed back as a part of the arena, and no bytes of it where the call is
-// refused.
+// passed.
 // The calls and their questions are in model/specs/Calls.antt, on an arena as
 // model/specs/ArenaCalls.antt has it; specs/Adding.antt has node 0's record, specs/Queries.antt
 // says what the reading calls answer.
 use crate::description::NodeDesc;
+use model::BoolResult;
 use model::NodeId;
+use model::NodeOption;
+use model::NodeResult;
 use model::NumberResult;
 use model::PrimCount;
 use model::Refusal;
@@ -15,16 +17,19 @@ use model::UnitResult;
 use validate::Checked;
 ghost use mathlib.Core.Path.{_≡_};
 ghost use Prim.Native.Nat.{_≤_};
-ghost use Rattle.model.specs.ArenaCalls.{onArena, Wrote, askArena, Answered, ValidArena, ValidNode};
+ghost use Rattle.model.specs.Answers.{nodeOption};
+ghost use Rattle.model.specs.ArenaCalls.{onArena, Wrote, askArena, Answered, AnsweredNode, AnsweredTest};
+ghost use Rattle.model.specs.ArenaCalls.{ValidArena, ValidNode};
 ghost use Rattle.model.specs.Calls.{initRoot, addChild, readsNode};
 ghost use Rattle.nodes.specs.Describing.{descOf};
 ghost use Rattle.nodes.specs.Adding.{startRecord};
 ghost use Rattle.model.specs.Arena.{decode, countIn, localRootIn, nodeIn};
-ghost use Rattle.model.specs.Graph.{nodeAt, depthBelowIntroduction, pathAtIntroduction, usesSite, nodeUsingSite};
-ghost use Rattle.nodes.specs.Queries.{handed, NodeAnswered, GraphShown, GraphAnswered};
+ghost use Rattle.model.specs.Graph.{depthBelowIntroduction, isDueToAncestor, usesSite, nodeUsingSite};
+ghost use Rattle.nodes.specs.Queries.{NodeAnswered, GraphShown, GraphAnswered};
 ghost use mathlib.Core.Bool.{cond, not, _||_};
+ghost use mathlib.Core.Option.{none, some};
 ghost use lib.Dec.{eqb};
-ghost use Rattle.model.specs.Node.{invalid, hasFlag, inertFlag, culledFlag};
+ghost use Rattle.model.specs.Node.{hasFlag, inertFlag, culledFlag};
 ghost use Rattle.model.specs.Calls as calls;
 
 // The record of node 0: arc Root, INERT, with specs, its depth its own prim count.
@@ -114,19 +119,6 @@ pub fn node(arena: &[u8], n: u32) -> NodeRead
     }
 }
 
-// The path of node n, a part of the arena. Refused as `node` is, which has the refusal: then it is
-// no bytes.
-pub fn path(arena: &[u8], n: u32) -> &[u8]
-    ensures { λ r. ⌜ now r ≡ handed (askArena (now (arena .entry)) (readsNode (decode (now (arena .entry))) n))
-        (nodeAt (decode (now (arena .entry)) .nodes) n .path) ⌝ }
-{
-    let asked = validate::ask_node(arena, n);
-    let UnitResult::Done = asked else {
-        return &arena[..0];
-    };
-    arena::path(arena, n)
-}
-
 // The parent's prim count less the node's depth, at least 0. Refused 1 to 4.
 pub fn depth_below_introduction(arena: &[u8], n: u32) -> NumberResult
     ensures { λ r. ⌜ Answered (askArena (now (arena .entry)) (readsNode (decode (now (arena .entry))) n))
@@ -139,27 +131,25 @@ pub fn depth_below_introduction(arena: &[u8], n: u32) -> NumberResult
     }
 }
 
-// The path of node n as it was at its introduction: the front part of its path. Refused as
-// `depth_below_introduction` is, which has the refusal: then it is no bytes.
-pub fn path_at_introduction(arena: &[u8], n: u32) -> &[u8]
-    ensures { λ r. ⌜ now r ≡ handed (askArena (now (arena .entry)) (readsNode (decode (now (arena .entry))) n))
-        (pathAtIntroduction (decode (now (arena .entry)) .nodes) n) ⌝ }
+// Whether node n was introduced above this prim: that depth is not 0. Refused 1 to 4.
+pub fn is_due_to_ancestor(arena: &[u8], n: u32) -> BoolResult
+    ensures { λ r. ⌜ AnsweredTest (askArena (now (arena .entry)) (readsNode (decode (now (arena .entry))) n))
+        (isDueToAncestor (decode (now (arena .entry)) .nodes) n) r ⌝ }
 {
     let asked = validate::ask_node(arena, n);
-    let UnitResult::Done = asked else {
-        return &arena[..0];
-    };
-    let depth = view::depth_below(arena, n);
-    path::path_at_intro_depth(arena::path(arena, n), depth)
+    match asked {
+        UnitResult::Done => BoolResult::Is(0 < view::depth_below(arena, n)),
+        UnitResult::Refused(refusal) => BoolResult::Refused(refusal),
+    }
 }
 
-// What an arena's header tells of its graph. Where there is no local root it is `NodeId::INVALID`.
+// What an arena's header tells of its graph.
 pub struct GraphInfo {
     pub count: u32,
     pub ordered: bool,
     pub finalized: bool,
     pub shallow: bool,
-    pub local_root: NodeId,
+    pub local_root: NodeOption,
 }
 
 // The answer of `graph_info`.
@@ -174,14 +164,14 @@ pub enum NodeRead {
     Refused(Refusal),
 }
 
-// The local root's number: node 0 is never it, and stands for none in the header.
-fn root_or_none(root: u32) -> NodeId
-    ensures { λ r. ⌜ r .0 ≡ cond (eqb root 0) invalid root ⌝ }
+// The local root: node 0 is never it, and stands for none in the header.
+fn root_or_none(root: u32) -> NodeOption
+    ensures { λ r. ⌜ nodeOption r ≡ cond (eqb root 0) none (some root) ⌝ }
 {
     if root == 0 {
-        return NodeId::INVALID;
+        return NodeOption::None;
     }
-    NodeId::new(root)
+    NodeOption::Some(NodeId(root))
 }
 
 // The local root in the header; of an empty graph it is not read.
@@ -259,10 +249,9 @@ fn lowest(arena: &[u8], count: u32, stack: u32, path: &[u8]) -> u32
     arena::NO_NODE
 }
 
-// The lowest node, neither INERT nor CULLED, that has that stack and path; 4,294,967,295 where none
-// does. Refused 1, 2, 3 and 5.
-pub fn node_using_site(arena: &[u8], stack: u32, path: &[u8]) -> NumberResult
-    ensures { λ r. ⌜ Answered (askArena (now (arena .entry))
+// The lowest node, neither INERT nor CULLED, that has that stack and path. Refused 1, 2, 3 and 5.
+pub fn node_using_site(arena: &[u8], stack: u32, path: &[u8]) -> NodeResult
+    ensures { λ r. ⌜ AnsweredNode (askArena (now (arena .entry))
         (calls.usesSite (decode (now (arena .entry))) (now (path .entry))))
         (nodeUsingSite stack (now (path .entry)) (decode (now (arena .entry)))) r ⌝ }
 {
@@ -270,10 +259,11 @@ pub fn node_using_site(arena: &[u8], stack: u32, path: &[u8]) -> NumberResult
     match asked {
         UnitResult::Done => {
             if !path::is_well_formed(path) {
-                return NumberResult::Refused(Refusal::Path);
+                return NodeResult::Refused(Refusal::Path);
             }
-            NumberResult::Number(lowest(arena, arena::count(arena), stack, path))
+            let found = lowest(arena, arena::count(arena), stack, path);
+            NodeResult::Found(NodeOption::of(found))
         }
-        UnitResult::Refused(refusal) => NumberResult::Refused(refusal),
+        UnitResult::Refused(refusal) => NodeResult::Refused(refusal),
     }
 }

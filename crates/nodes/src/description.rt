@@ -3,58 +3,52 @@
 // these. specs/Describing.antt ties `NodeDesc` to that of model/specs/Calls.antt and has the
 // record.
 use model::NodeId;
+use model::NodeOption;
+use model::U16Option;
 use validate::Before;
 use validate::Checked;
 use validate::RecordNumbers;
 ghost use mathlib.Core.Path.{_≡_};
-ghost use mathlib.Core.Bool.{cond};
 ghost use Prim.Native.Nat.{_≤_, _<_};
-ghost use lib.Dec.{eqb};
-ghost use Rattle.model.specs.Arena.{countIn, primCountIn, decode};
+ghost use Rattle.model.specs.Answers.{nodeOption, numberOption};
+ghost use Rattle.model.specs.Arena.{countIn, decode};
 ghost use Rattle.model.specs.ArenaCalls.{ValidArena};
-ghost use Rattle.model.specs.Node.{invalid};
+ghost use Rattle.model.specs.Calls.{givenOr};
 ghost use Rattle.model.specs.Refusals.{pathBytes};
-ghost use Rattle.nodes.specs.Describing.{numberOr, depthGiven, descOf, DescChecked, addedRecord};
+ghost use Rattle.nodes.specs.Describing.{descOf, DescChecked, HasSlotIn, primsRead, addedRecord};
 
-// A namespace depth, or that none is given.
-pub enum Depth {
-    Given(u16),
-    Missing,
-}
-
-// A node to be added. `NodeId::INVALID` stands for a missing parent, which makes it a root site,
-// and for a missing origin. Its path is handed over beside it.
+// A node to be added. Without a parent it is a root site. Its path is handed over beside it.
 pub struct NodeDesc {
     pub arc: u8,
     pub flags: u8,
     pub stack: u32,
     pub layer: u32,
-    pub parent: NodeId,
-    pub origin: NodeId,
-    pub depth: Depth,
+    pub parent: NodeOption,
+    pub origin: NodeOption,
+    pub depth: U16Option,
     pub sibling: u16,
     pub restriction: u16,
     pub spec_from: u16,
     pub has_specs: u8,
 }
 
-// The node's number, or `missing` where it is none.
-fn number_or(node: NodeId, missing: u32) -> u32
-    ensures { λ r. ⌜ r ≡ numberOr (node .0) missing ⌝ }
+// The node's number, or `missing` where there is none.
+fn node_or(node: NodeOption, missing: u32) -> u32
+    ensures { λ r. ⌜ r ≡ givenOr (nodeOption node) missing ⌝ }
 {
-    if node.is_valid() {
-        return node.0;
+    match node {
+        NodeOption::Some(given) => given.0,
+        NodeOption::None => missing,
     }
-    missing
 }
 
 // The depth that is given, or `missing`.
-fn depth_or(depth: Depth, missing: u16) -> u16
-    ensures { λ r. ⌜ r ≡ depthGiven depth missing ⌝ }
+fn depth_or(depth: U16Option, missing: u16) -> u16
+    ensures { λ r. ⌜ r ≡ givenOr (numberOption depth) missing ⌝ }
 {
     match depth {
-        Depth::Given(given) => given,
-        Depth::Missing => missing,
+        U16Option::Some(given) => given,
+        U16Option::None => missing,
     }
 }
 
@@ -84,39 +78,43 @@ pub fn check_desc(arena: &[u8], count: u32, desc: NodeDesc, path: &[u8]) -> Chec
         has_root: arena::local_root(arena) != 0,
         culled_allowed: false,
     };
-    let parent = number_or(desc.parent, 0);
+    let above = desc.parent;
+    let from = desc.origin;
+    let parent = node_or(above, 0);
     let numbers = RecordNumbers {
         arc: desc.arc,
         flags: desc.flags,
         parent: parent,
-        origin: number_or(desc.origin, parent),
+        origin: node_or(from, parent),
         has_specs: desc.has_specs,
     };
     validate::check_record(before, numbers, path, path::prim_count(path))
 }
 
 // The prim count of the parent's path, or of the node's own for a root site.
-fn default_depth(arena: &[u8], parent: NodeId, prims: u8) -> u16
+fn default_depth(arena: &[u8], parent: NodeOption, prims: u8) -> u16
     requires { ⌜ ValidArena (now arena) ⌝ }
-    requires { ⌜ ((parent .0 ≡ invalid → ⊥) → parent .0 < 1024) ⌝ }
-    ensures { λ r. ⌜ r ≡ cond (eqb (parent .0) invalid) prims (primCountIn (now (arena .entry)) (parent .0)) ⌝ }
+    requires { ⌜ HasSlotIn parent ⌝ }
+    ensures { λ r. ⌜ r ≡ primsRead (now (arena .entry)) parent prims ⌝ }
 {
-    if parent.is_valid() {
-        return arena::prim_count(arena, parent.0) as u16;
+    match parent {
+        NodeOption::Some(given) => arena::prim_count(arena, given.0) as u16,
+        NodeOption::None => prims as u16,
     }
-    prims as u16
 }
 
 // The record of the node, with what was missing put in. It has no links yet.
 pub fn added_record(arena: &[u8], desc: NodeDesc, prims: u8, path_length: usize) -> arena::Node
     requires { ⌜ ValidArena (now arena) ⌝ }
-    requires { ⌜ ((desc .parent .0 ≡ invalid → ⊥) → desc .parent .0 < 1024) ⌝ }
+    requires { ⌜ HasSlotIn (desc .parent) ⌝ }
     requires { ⌜ «path_length» ≤ 255 ⌝ }
     ensures { λ r. ⌜ r ≡ addedRecord (now (arena .entry)) desc prims «path_length» ⌝ }
 {
-    let parent = number_or(desc.parent, 0);
-    let default = default_depth(arena, desc.parent, prims);
+    let above = desc.parent;
+    let from = desc.origin;
     let depth = desc.depth;
+    let parent = node_or(above, 0);
+    let default = default_depth(arena, above, prims);
     arena::Node {
         first_child: NodeId::INVALID,
         last_child: NodeId::INVALID,
@@ -128,7 +126,7 @@ pub fn added_record(arena: &[u8], desc: NodeDesc, prims: u8, path_length: usize)
         stack: desc.stack,
         layer: desc.layer,
         parent: NodeId(parent),
-        origin: NodeId(number_or(desc.origin, parent)),
+        origin: NodeId(node_or(from, parent)),
         depth: depth_or(depth, default),
         sibling: desc.sibling,
         restriction: desc.restriction,

@@ -1,26 +1,28 @@
 -- The answers of `starting_node_of_class_hierarchy`, beside laws/proofs/ArenaCallLaws.antt. Assumes
 -- nothing.
-use mathlib.Core.Path.{_≡_, sym}
+use mathlib.Core.Path.{_≡_, sym, ap, _∙_}
+use mathlib.Core.Option.{some}
 use mathlib.Core.List.{List}
 use Prim.Native.Nat.{ℕ}
-use native.Mathlib.Omega.{arith}
-use Rattle.model.specs.Refusals.{refusalNumber, refusal}
-use Rattle.model.specs.Calls.{readsNode}
-use Rattle.model.specs.Strength.{view}
-use Rattle.model.specs.Arena.{decode}
-use Rattle.model.specs.ArenaCalls.{askArena}
+use borrow.Author.Tests.{eq-eqb, ne-eqb}
+use Rattle.model.specs.Answers.{nodeOption}
+use Rattle.model.specs.Node.{optional}
+use Rattle.model.specs.Refusals.{refusalNumber, Question, refusal}
 use Rattle.model.specs.declared.NodeId.{NodeId}
+use Rattle.model.specs.declared.NodeOption.{NodeOption}
 use Rattle.model.specs.declared.Refusal.{Refusal}
+use Rattle.laws.proofs.ArenaCallLaws.{refusal-some}
 use Rattle.strength.specs.declared.calls.HierarchyRead.the-variants.{Hierarchy, Refused}
-use Rattle.strength.specs.Hierarchies.{HierarchyShown, HierarchyAnswered}
+use Rattle.strength.specs.Hierarchies.{HierarchyAnswers}
 
-module _ (bs : List ℕ) (n : ℕ) where
-  pub no-hierarchy : (r : Refusal) → refusalNumber r ≡ refusal (askArena bs (readsNode (decode bs) n)) → HierarchyAnswered bs n (Refused r)
-  no-hierarchy r e = record { refused = e; hierarchy = λ x y q. absurd (let z : _≡_ {A = ℕ} 0 1 = cc in omega arith) }
+module _ (questions : List Question) (instance class : ℕ) where
+  pub no-hierarchy : (r : Refusal) → refusalNumber r ≡ refusal questions → HierarchyAnswers questions instance class (Refused r)
+  no-hierarchy r e =
+      let no = ne-eqb (refusal questions) 0 (λ z. refusal-some r (e ∙ z)) in
+      record { refused = e; instance-node = rw no; class-node = rw no }
 
-  pub one-hierarchy : (x y : NodeId) → refusal (askArena bs (readsNode (decode bs) n)) ≡ 0 → HierarchyShown (view (decode bs .nodes)) n x y
-      → HierarchyAnswered bs n (Hierarchy x y)
-  one-hierarchy x y e s = record { refused = sym e; hierarchy = λ v w q. same v w (cc) (cc) }
-    where
-      same : (v w : NodeId) → x ≡ v → y ≡ w → HierarchyShown (view (decode bs .nodes)) n v w
-      same v w p q = rw (sym p, sym q) s
+  pub one-hierarchy : (x : NodeId) (y : NodeOption) → refusal questions ≡ 0 → x .0 ≡ instance → nodeOption y ≡ optional class
+      → HierarchyAnswers questions instance class (Hierarchy x y)
+  one-hierarchy x y e p q =
+      let asked = eq-eqb (refusal questions) 0 e in
+      record { refused = sym e; instance-node = rw asked (ap some p); class-node = rw asked q }

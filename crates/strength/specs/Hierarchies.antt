@@ -1,15 +1,19 @@
 -- What the calls of this crate answer, beside model/specs/ArenaCalls.antt's `AnsweredTest` and
--- `Answered`: where a class hierarchy starts. The definitions that they cite are in model/specs.
+-- `AnsweredNode`: where a class hierarchy starts. The definitions that they cite are in model/specs.
 use mathlib.Core.Path.{_≡_}
+use mathlib.Core.Bool.{cond}
+use mathlib.Core.Option.{Option, none, some}
 use mathlib.Core.List.{List}
 use Prim.Native.Nat.{ℕ}
-use Rattle.model.specs.Refusals.{refusalNumber, refusal}
+use lib.Dec.{eqb}
+use Rattle.model.specs.Answers.{nodeOption}
+use Rattle.model.specs.Node.{optional}
+use Rattle.model.specs.Refusals.{refusalNumber, Question, refusal}
 use Rattle.model.specs.Calls.{readsNode}
-use Rattle.model.specs.Strength.{View, view, startingNodeOfClassHierarchy}
+use Rattle.model.specs.Strength.{view, startingNodeOfClassHierarchy}
 use Rattle.model.specs.Hierarchy.{topmostClassNode}
 use Rattle.model.specs.Arena.{decode}
 use Rattle.model.specs.ArenaCalls.{askArena}
-use Rattle.model.specs.declared.NodeId.{NodeId}
 use Rattle.strength.specs.declared.calls.HierarchyRead.{HierarchyRead}
 use Rattle.strength.specs.declared.calls.HierarchyRead.the-variants.{Hierarchy, Refused}
 
@@ -17,11 +21,21 @@ abbrev pub hierarchyRefusal : HierarchyRead → ℕ
 hierarchyRefusal (Hierarchy instance class) = 0
 hierarchyRefusal (Refused r) = refusalNumber r
 
--- the node that inherits or specializes, and its topmost class, `invalid` for none
-pub record HierarchyShown (u : View) (n : ℕ) (instance class : NodeId) : Type 0 where
-  pub instance-node : instance .0 ≡ startingNodeOfClassHierarchy u n
-  pub class-node : class .0 ≡ topmostClassNode u n
+-- the node that inherits or specializes, and its topmost class; none where the call is refused
+abbrev pub hierarchyInstance : HierarchyRead → Option ℕ
+hierarchyInstance (Hierarchy instance class) = some (instance .0)
+hierarchyInstance (Refused r) = none
 
-pub record HierarchyAnswered (bs : List ℕ) (n : ℕ) (r : HierarchyRead) : Type 0 where
-  pub refused : hierarchyRefusal r ≡ refusal (askArena bs (readsNode (decode bs) n))
-  pub hierarchy : (x y : NodeId) → r ≡ Hierarchy x y → HierarchyShown (view (decode bs .nodes)) n x y
+abbrev pub hierarchyClass : HierarchyRead → Option ℕ
+hierarchyClass (Hierarchy instance class) = nodeOption class
+hierarchyClass (Refused r) = none
+
+pub record HierarchyAnswers (questions : List Question) (instance class : ℕ) (r : HierarchyRead) : Type 0 where
+  pub refused : hierarchyRefusal r ≡ refusal questions
+  pub instance-node : hierarchyInstance r ≡ cond (eqb (refusal questions) 0) (some instance) none
+  pub class-node : hierarchyClass r ≡ cond (eqb (refusal questions) 0) (optional class) none
+
+abbrev pub HierarchyAnswered : List ℕ → ℕ → HierarchyRead → Type 0
+HierarchyAnswered bs n r =
+    let u = view (decode bs .nodes) in
+    HierarchyAnswers (askArena bs (readsNode (decode bs) n)) (startingNodeOfClassHierarchy u n) (topmostClassNode u n) r

@@ -6,14 +6,15 @@
 // passed, specs/Hierarchies.antt what a class hierarchy's call answers.
 use model::BoolResult;
 use model::NodeId;
-use model::NumberResult;
+use model::NodeOption;
+use model::NodeResult;
 use model::Ordering;
 use model::OrderingResult;
 use model::Refusal;
 use model::UnitResult;
 ghost use mathlib.Core.Path.{_≡_};
 ghost use Rattle.model.specs.Arena.{decode};
-ghost use Rattle.model.specs.ArenaCalls.{askArena, AnsweredOrder, AnsweredTest, Answered};
+ghost use Rattle.model.specs.ArenaCalls.{askArena, AnsweredOrder, AnsweredTest, AnsweredNode};
 ghost use Rattle.model.specs.Calls.{comparesNodes, comparesSiblings, readsNode};
 ghost use Rattle.model.specs.Hierarchy.{isAncestorOf, getPropagatedSpecializesNode};
 ghost use Rattle.model.specs.Strength.{view, viewOf, compareNodeStrength, compareSiblingNodeStrength};
@@ -89,9 +90,9 @@ pub fn same_site(arena: &[u8], a: u32, b: u32) -> BoolResult
 }
 
 // The answer of `starting_node_of_class_hierarchy`: the node that inherits or specializes, then the
-// topmost class, `NodeId::INVALID` for none.
+// topmost class, if there is one.
 pub enum HierarchyRead {
-    Hierarchy(NodeId, NodeId),
+    Hierarchy(NodeId, NodeOption),
     Refused(Refusal),
 }
 
@@ -111,19 +112,20 @@ pub fn is_propagated_specializes(arena: &[u8], n: u32) -> BoolResult
     }
 }
 
-// The propagated specializes under the local root whose origin is node n; 4,294,967,295 where there
-// is none. Refused 1 to 4.
-pub fn get_propagated_specializes_node(arena: &[u8], n: u32) -> NumberResult
-    ensures { λ r. ⌜ Answered (askArena (now (arena .entry)) (readsNode (decode (now (arena .entry))) n))
+// The propagated specializes under the local root whose origin is node n, if there is one. Refused 1
+// to 4.
+pub fn get_propagated_specializes_node(arena: &[u8], n: u32) -> NodeResult
+    ensures { λ r. ⌜ AnsweredNode (askArena (now (arena .entry)) (readsNode (decode (now (arena .entry))) n))
         (getPropagatedSpecializesNode (decode (now (arena .entry))) n) r ⌝ }
 {
     let asked = validate::ask_node(arena, n);
     match asked {
         UnitResult::Done => {
             let root = arena::local_root(arena);
-            NumberResult::Number(crate::propagated::find_copy(arena, root, n))
+            let found = crate::propagated::find_copy(arena, root, n);
+            NodeResult::Found(NodeOption::of(found))
         }
-        UnitResult::Refused(refusal) => NumberResult::Refused(refusal),
+        UnitResult::Refused(refusal) => NodeResult::Refused(refusal),
     }
 }
 
@@ -136,7 +138,7 @@ pub fn starting_node_of_class_hierarchy(arena: &[u8], n: u32) -> HierarchyRead
         UnitResult::Done => {
             let root = arena::local_root(arena);
             let found = view::starting_node_of_class_hierarchy(arena, root, n);
-            HierarchyRead::Hierarchy(NodeId(found.instance), NodeId(found.class_node))
+            HierarchyRead::Hierarchy(NodeId(found.instance), NodeOption::of(found.class_node))
         }
         UnitResult::Refused(refusal) => HierarchyRead::Refused(refusal),
     }

@@ -11,10 +11,9 @@ use Rattle.arena.specs.declared.Node.{Node}
 use Rattle.arena.specs.Slot.{nodeOf}
 use Rattle.model.specs.Arena.{countIn, decode, encode}
 use Rattle.model.specs.ArenaCalls.{ValidArena}
-use Rattle.arena.proofs.ReadNodes.{has-slot}
 use Rattle.validate.proofs.AskingLaws.{some-node}
 use Rattle.nodes.specs.Describing.{descOf, addQuestions}
-use Rattle.nodes.proofs.AddingLaws.{parent-below, can-add, short-path, added-node, add-refused-first, add-refused, add-done}
+use Rattle.nodes.proofs.AddingLaws.{parent-slot, can-add, short-path, added-node, add-refused-first, add-refused, add-done}
 use Rattle.nodes.proofs.calls.add_child.Statement.{statement}
 use Rattle.nodes.proofs.calls.add_child.Tie as tie
 
@@ -56,7 +55,7 @@ added-record-requires c κs =
     let there = has-node (told (c .before)) in (
       there .0,
       (
-        (λ h. has-slot _ _ (parent-below (a .arena .now) (there .0) (a .desc) (a .path .now) (there .1) (passes (c .before)) h) .within),
+        parent-slot (a .arena .now) (there .0) (a .desc) (a .path .now) (there .1) (passes (c .before)),
         short-path (a .arena .now) (there .0) (a .desc) (a .path .now) (there .1) (passes (c .before)),
       ),
     )

@@ -1,17 +1,18 @@
 -- `node_using_site` meets its contract: where questions 1 to 3 pass, question 5 is left. Assumes
 -- nothing.
 use borrow.Author.Needs.{needs}
-use mathlib.Core.Path.{sym, _∙_}
+use mathlib.Core.Path.{sym, ap, _∙_}
 use mathlib.Core.List.{[], _∷_}
 use Prim.Native.Nat.{_<_}
 use borrow.Author.Tests.{not-true, not-false}
 use Rattle.model.specs.Path.{wellFormed}
+use Rattle.model.specs.Node.{optional}
 use Rattle.model.specs.Arena.{countIn, decode}
 use Rattle.model.specs.Calls.{hasNodeZero}
 use Rattle.model.specs.Refusals.{ask}
 use Rattle.model.specs.ArenaCalls.{ValidArena, askArena}
 use Rattle.model.specs.declared.Refusal.the-variants.{Path}
-use Rattle.laws.proofs.ArenaCallLaws.{refused-before, answered-refused, answered-number}
+use Rattle.laws.proofs.ArenaCallLaws.{refused-before, found-refused, found-node}
 use Rattle.validate.proofs.AskingLaws.{some-node, node-zero-passed}
 use Rattle.nodes.proofs.calls.node_using_site.Statement.{statement}
 use Rattle.nodes.proofs.calls.node_using_site.Tie as tie
@@ -33,7 +34,7 @@ returns : tie.Need-returns
 returns c =
     let told = c .before .before in
     let a = told .before .before .before .before .before .args in
-    answered-refused _ _ Path
+    found-refused _ _ Path
     (sym (node-zero-passed (a .arena .now) (ask 5 (wellFormed (a .path .now)) ∷ []) (has-node told .0) (has-node told .1)
     ∙ rw (sym (c .before .is-well-formed .ensures) ∙ not-true _ (c .if1 .taken))))
 
@@ -43,24 +44,27 @@ count-requires c κs = has-node (c .before .before) .0 .whole
 lowest-requires : tie.Need-lowest-requires
 lowest-requires c κs = (has-node (c .before .before .before) .0, c .count .ensures)
 
+of-requires : tie.Need-of-requires
+of-requires c κs = search needs
+
 enum-known-asked : tie.Need-enum-known-asked
 enum-known-asked c = search needs
 
 returns-2 : tie.Need-returns-2
 returns-2 c =
-    let test = c .before .before in
+    let test = c .before .before .before in
     let told = test .before .before in
     let a = told .before .before .before .before .before .args in
-    answered-number _ _ _
+    found-node _ _ _
     (node-zero-passed (a .arena .now) (ask 5 (wellFormed (a .path .now)) ∷ []) (has-node told .0) (has-node told .1)
     ∙ rw (sym (test .before .is-well-formed .ensures) ∙ not-false _ (test .if1 .left)))
-    (c .lowest .ensures)
+    (c .of .ensures ∙ ap optional (c .before .lowest .ensures))
 
 returns-3 : tie.Need-returns-3
 returns-3 c =
     let a = c .before .before .before .before .before .before .args in
     let bs = a .arena .now in
-    answered-refused _ _ (c .before .asked .given .0 .0)
+    found-refused _ _ (c .before .asked .given .0 .0)
     (refused-before (c .before .asked .given .0 .0) (askArena bs (hasNodeZero (decode bs) ∷ [])) (ask 5 (wellFormed (a .path .now)) ∷ [])
     (rw (c .before .asked .given .1) at (c .before .before .before .ask-node-zero .ensures)))
 
@@ -74,6 +78,7 @@ node-using-site-spec =
     returns
     count-requires
     lowest-requires
+    of-requires
     enum-known-asked
     returns-2
     returns-3)

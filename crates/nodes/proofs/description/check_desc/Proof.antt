@@ -16,11 +16,11 @@ path-bytes-requires c κs = search needs
 local-root-requires : tie.Need-local-root-requires
 local-root-requires c κs = search needs
 
-number-or-requires : tie.Need-number-or-requires
-number-or-requires c κs = search needs
+node-or-requires : tie.Need-node-or-requires
+node-or-requires c κs = search needs
 
-number-or-requires-2 : tie.Need-number-or-requires-2
-number-or-requires-2 c κs = search needs
+node-or-requires-2 : tie.Need-node-or-requires-2
+node-or-requires-2 c κs = search needs
 
 prim-count-requires : tie.Need-prim-count-requires
 prim-count-requires c κs = search needs
@@ -34,7 +34,7 @@ returns c =
     let a = s .args in
     desc-checked (a .arena .now) (s .pre .0) (a .desc) (a .path .now) (omega (arith, s .pre .1, s .pre .2)) _ _ _ _ _ _ (s .pre .1)
     (c .before .before .before .before .before .path-bytes .ensures .0) (ap (λ (n : ℕ). not (eqb n 0)) (c .before .before .before .before .local-root .ensures))
-    (c .before .before .before .number-or .ensures) (c .before .before .number-or2 .ensures) (c .check-record .ensures)
+    (c .before .before .before .node-or .ensures) (c .before .before .node-or2 .ensures) (c .check-record .ensures)
 
 pub check-desc-spec : {M : Type 1} → statement M
 check-desc-spec =
@@ -42,8 +42,8 @@ check-desc-spec =
     (tie.spec
     path-bytes-requires
     local-root-requires
-    number-or-requires
-    number-or-requires-2
+    node-or-requires
+    node-or-requires-2
     prim-count-requires
     check-record-requires
     returns)

@@ -1,8 +1,9 @@
 -- `get_propagated_specializes_node` meets its contract. Assumes nothing.
 use borrow.Author.Needs.{needs}
-use mathlib.Core.Path.{sym}
+use mathlib.Core.Path.{sym, ap, _∙_}
+use Rattle.model.specs.Node.{optional}
 use Rattle.model.specs.ArenaCalls.{ValidNode}
-use Rattle.laws.proofs.ArenaCallLaws.{answered-refused, answered-number}
+use Rattle.laws.proofs.ArenaCallLaws.{found-refused, found-node}
 use Rattle.arena.proofs.ReadNodes.{readable}
 use Rattle.strength.proofs.calls.get_propagated_specializes_node.Statement.{statement}
 use Rattle.strength.proofs.calls.get_propagated_specializes_node.Tie as tie
@@ -23,17 +24,21 @@ local-root-requires c κs = reads-it c .opened .whole
 find-copy-requires : tie.Need-find-copy-requires
 find-copy-requires c κs = record { readable = reads-it (c .before); root-read = c .local-root .ensures }
 
+of-requires : tie.Need-of-requires
+of-requires c κs = search needs
+
 enum-known-asked : tie.Need-enum-known-asked
 enum-known-asked c = search needs
 
 returns : tie.Need-returns
 returns c =
-    answered-number _ _ _ (sym (rw (c .before .before .enum-told .given .1) at (c .before .before .before .before .ask-node .ensures))) (c .find-copy .ensures)
+    found-node _ _ _ (sym (rw (c .before .before .before .enum-told .given .1) at (c .before .before .before .before .before .ask-node .ensures)))
+    (c .of .ensures ∙ ap optional (c .before .find-copy .ensures))
 
 returns-2 : tie.Need-returns-2
-returns-2 c = answered-refused _ _ (c .before .asked .given .0 .0) (rw (c .before .asked .given .1) at (c .before .before .before .ask-node .ensures))
+returns-2 c = found-refused _ _ (c .before .asked .given .0 .0) (rw (c .before .asked .given .1) at (c .before .before .before .ask-node .ensures))
 
 pub get-propagated-specializes-node-spec : {M : Type 1} → statement M
 get-propagated-specializes-node-spec =
     tie.close
-    (tie.spec ask-node-requires enum-told local-root-requires find-copy-requires enum-known-asked returns returns-2)
+    (tie.spec ask-node-requires enum-told local-root-requires find-copy-requires of-requires enum-known-asked returns returns-2)

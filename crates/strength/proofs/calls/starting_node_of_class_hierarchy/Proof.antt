@@ -1,6 +1,7 @@
 -- `starting_node_of_class_hierarchy` meets its contract. Assumes nothing.
 use borrow.Author.Needs.{needs}
-use mathlib.Core.Path.{sym}
+use mathlib.Core.Path.{sym, ap, _∙_}
+use Rattle.model.specs.Node.{optional}
 use Rattle.model.specs.ArenaCalls.{ValidNode}
 use Rattle.arena.proofs.ReadNodes.{readable}
 use Rattle.strength.proofs.HierarchyLaws.{no-hierarchy, one-hierarchy}
@@ -23,18 +24,22 @@ local-root-requires c κs = reads-it c .opened .whole
 starting-node-of-class-hierarchy-requires : tie.Need-starting-node-of-class-hierarchy-requires
 starting-node-of-class-hierarchy-requires c κs = record { readable = reads-it (c .before); root-read = c .local-root .ensures }
 
+of-requires : tie.Need-of-requires
+of-requires c κs = search needs
+
 enum-known-asked : tie.Need-enum-known-asked
 enum-known-asked c = search needs
 
 returns : tie.Need-returns
 returns c =
-    let found = c .starting-node-of-class-hierarchy .ensures in
-    one-hierarchy _ _ _ _ (sym (rw (c .before .before .enum-told .given .1) at (c .before .before .before .before .ask-node .ensures))) (record { instance-node = found .instance; class-node = found .«class-node» })
+    let found = c .before .starting-node-of-class-hierarchy .ensures in
+    one-hierarchy _ _ _ _ _ (sym (rw (c .before .before .before .enum-told .given .1) at (c .before .before .before .before .before .ask-node .ensures)))
+    (found .instance) (c .of .ensures ∙ ap optional (found .«class-node»))
 
 returns-2 : tie.Need-returns-2
-returns-2 c = no-hierarchy _ _ (c .before .asked .given .0 .0) (rw (c .before .asked .given .1) at (c .before .before .before .ask-node .ensures))
+returns-2 c = no-hierarchy _ _ _ (c .before .asked .given .0 .0) (rw (c .before .asked .given .1) at (c .before .before .before .ask-node .ensures))
 
 pub starting-node-of-class-hierarchy-spec : {M : Type 1} → statement M
 starting-node-of-class-hierarchy-spec =
     tie.close
-    (tie.spec ask-node-requires enum-told local-root-requires starting-node-of-class-hierarchy-requires enum-known-asked returns returns-2)
+    (tie.spec ask-node-requires enum-told local-root-requires starting-node-of-class-hierarchy-requires of-requires enum-known-asked returns returns-2)
