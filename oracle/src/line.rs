@@ -72,16 +72,17 @@ impl Call<'_> {
     }
 }
 
-/// The call that `line` writes. Words stand between single spaces and have at least one byte.
-pub fn parse(line: &[u8]) -> Option<Call<'_>> {
+/// The words of `line`. They stand between single spaces and have at least one byte.
+fn words(line: &[u8]) -> Option<Vec<&[u8]>> {
     if line.len() > MAX_LINE {
         return None;
     }
-    let words: Vec<&[u8]> = line.split(|&byte| byte == b' ').collect();
-    if words.iter().any(|word| word.is_empty()) {
-        return None;
-    }
-    Some(match words[..] {
+    line.split(|&byte| byte == b' ').map(|word| (!word.is_empty()).then_some(word)).collect()
+}
+
+/// The call that `line` writes.
+pub fn parse(line: &[u8]) -> Option<Call<'_>> {
+    Some(match words(line)?[..] {
         [b"path", path] => Call::Path(path),
         [b"back", steps, path] => Call::Back(number(steps)?, path),
         [b"join", path, child] => Call::Join(path, child),
