@@ -9,6 +9,7 @@ use std::cmp::Ordering;
 use std::panic::{AssertUnwindSafe, catch_unwind};
 
 use super::check;
+use crate::calls::Calls;
 use crate::pcp::LayerId;
 use crate::pcp::layer_stack::LayerStackId;
 use crate::pcp::mapping::MapFunction;
@@ -214,6 +215,24 @@ fn a_kept_origin_may_be_erased_there() {
         add 0 4 0 0 0 1 - 0 0 0 1 /A => 2
         erase 010 => refused 11",
     );
+}
+
+/// What is read is a graph that the Rust's own calls make of the same records: the order that was written is gone.
+#[test]
+fn a_snapshot_is_read_as_a_graph_with_its_records() {
+    let mut graph = started("/A");
+    let added = [ArcType::Reference, ArcType::Inherit].map(|arc| graph.add_child(NodeId(0), desc(arc)));
+    let mut calls = Calls::default();
+    let mut answer = |line: &str| calls.answer(line.as_bytes()).text();
+    for line in ["init 0 0 /A", "add 0 4 0 0 0 - - 0 0 0 1 /A", "add 0 1 0 0 0 - - 0 0 0 1 /A", "order"] {
+        answer(line);
+    }
+    assert_eq!(answer("chains"), "2,1;;");
+    let written = answer("write");
+    assert_eq!([answer(&format!("read {written}")), answer("marks")], ["3", "0 0 0"]);
+    let read = calls.current().graph();
+    assert!(read.children(NodeId(0)).eq(added) && graph.children(NodeId(0)).eq(added));
+    assert!(read.nodes().zip(graph.nodes()).all(|(a, b)| format!("{a:?}") == format!("{b:?}")));
 }
 
 /// Ordering the cycle is never asked of the Rust: its sort may panic. Comparing is, and gives the cycle.
