@@ -14,6 +14,8 @@ fn main() {
     let Ok(source) = source.canonicalize() else {
         fail(&format!("there is no {}: name prim_graph.rs in PRIM_GRAPH_RS", source.display()));
     };
+    // for the test that reads its text
+    println!("cargo::rustc-env=PRIM_GRAPH_FOUND={}", source.display());
     let item = format!("#[allow(dead_code)]\n#[path = {source:?}]\npub mod prim_graph;\n");
     let written = Path::new(&variable("OUT_DIR")).join("prim_graph_item.rs");
     if let Err(error) = fs::write(&written, item) {

@@ -8,17 +8,19 @@ BEGIN { begin() }
 # digits are text here, not numbers
 { if ((getline answer <answers) < 1) fail("no answer"); answer = answer "" }
 
-$1 == "" { if (lists++) ended(); calls = 0; next }
+$1 == "" { if (lists++) ended(); calls = sets = 0; next }
 $1 == "write" { written = answer; next }
 $1 == "erasable" { erasable = answer; if (erasable != largest()) fail(erasable " is erasable"); owe(); next }
 $1 == "save" || $1 == "restore" { if (answer != "ok" || trial != ($1 == "save" ? "" : "save")) fail($1 " is out of place"); trial = $1; next }
 $1 == "dump" && trial == "restore" { if (answer != seen[arena, $1]) fail("another graph is restored"); trial = ""; next }
 $1 == "marks" || $1 == "list" || $1 == "compares" || $1 == "dump" { now[$1] = answer; next }
 $1 == "chains" { now[$1] = answer; if (trial == "save") tried(); else check(); next }
+$1 == "due" || $1 == "introduced" { introduction($1, $2); next }
 {
     if (trial != "save") settled()
     split("", now)
-    call = $1; set = hexadecimal = $2 ""; result = answer
+    call = $1; set = hexadecimal = $2 ""; value = $3 ""; result = answer
+    setter = call == "mark" || call == "spec" || call == "specs" || call == "restrict"
     refused = answer == "bad line" || answer ~ /^refused/
     if (trial == "" && call != "swap" && call != "new") count()
 }
@@ -30,7 +32,10 @@ END {
     for (what in found) print found[what], what
 }
 
-function ended() { if (calls < 5 || calls > 30) fail("the list before has " calls " calls") }
+function ended() {
+    if (calls < 5 || calls > 30) fail("the list before has " calls " calls")
+    if (!sets) fail("the list before sets nothing of a node")
+}
 
 function fail(text) { print "line " NR ": " text; failed = 1; exit 1 }
 
@@ -47,20 +52,23 @@ function begin(    r) {
 
 function count() {
     calls++
+    sets += setter
     found[call] += !refused
     if (answer !~ /^refused/) return
     found["refused-" substr(answer, 9)]++
     found[call "-refused"]++
-    found[call "-refused-7"] += answer == "refused 7"
+    found[call "-refused-" substr(answer, 9)]++
 }
 
 function check(    from, word) {
     from = arena
+    if (setter) settable()
     if (call == "new") begin()
     if (!refused && (call == "swap" || call == "seed")) arena = !arena
     if (refused || call == "swap" || call == "new") same(arena, "marks list compares dump chains", call " is refused or writes nothing")
     else if (call == "erase") erasing()
     else if (call == "order") ordering()
+    else if (setter) setting()
     else if (call == "deepen" || call == "seed") found["finalized-" call] += deepening(from)
     if (fresh && call == "order" && refused) fail("what was ordered has no order afresh")
     if (!refused && call == "seed") seeding(from)
@@ -204,6 +212,48 @@ function deepening(from) {
     if (now["marks"] != "0 0 " substr(seen[from, "marks"], 5)) fail("a graph that is not finalized stays ordered")
     found["ordered-shallow-" call] += seen[from, "marks"] == "1 0 1"
     return 0
+}
+
+# a setter is refused where there is no such node, or where CULLED is marked on a Root arc, or a flag past 7; and only there
+function settable(    n, record, field, expected) {
+    n = split(seen[arena, "dump"], record, ";")
+    split(record[set + 1], field, ",")
+    expected = "ok"
+    if (call == "mark" && (value + 0 > 7 || int(value / 2) % 2 && field[1] == 0)) expected = "refused 6"
+    if (set + 0 >= n) expected = "refused 4"
+    if (!n) expected = "refused 3"
+    if (result != expected) fail(call " is " result ", not " expected)
+    found["marked-culled"] += call == "mark" && !refused && int(value / 2) % 2 && !(int(field[2] / 2) % 2)
+}
+
+# fields of one node are set: the rest of its record, the other records, child lists, comparisons, marks and list stay
+function setting(    n, at, other, record, field, bit, dump) {
+    same(arena, "marks list compares chains", call " sets fields of one node")
+    n = split(seen[arena, "dump"], record, ";")
+    split(record[set + 1], field, ",")
+    if (call == "mark") { for (bit = 1; bit < 8; bit *= 2) if (int(value / bit) % 2 && !(int(field[2] / bit) % 2)) field[2] += bit }
+    else if (call == "restrict") field[9] = value
+    else { field[10] = call == "spec" && value != "-" ? value : 0; field[11] = call == "spec" ? value != "-" : value }
+    record[set + 1] = field[1]
+    for (other = 2; other <= 12; other++) record[set + 1] = record[set + 1] "," field[other]
+    dump = record[1]
+    for (at = 2; at <= n; at++) dump = dump ";" record[at]
+    if (now["dump"] != dump) fail(call " has set something else")
+    found["set-" (now["marks"] ~ /^. 1/ ? "finalized" : now["marks"] ~ /^1/ ? "ordered-shallow" : "unordered")]++
+}
+
+# of a node of the current graph: is it due to an ancestor, and its parent's path as far as its depth; of node 0 the root
+function introduction(word, node,    n, record, field, parent, due) {
+    n = split(seen[arena, "dump"], record, ";")
+    found[word]++
+    if (node + 0 >= n) { if (answer != "refused " (n ? 4 : 3)) fail(word " is " answer); return }
+    split(record[node + 1], field, ",")
+    split(record[field[5] + 1], parent, ",")
+    due = node > 0 && prims(parent[12]) > field[7]
+    found[word "-" (due ? "ancestor" : "here")]++
+    if (word == "due") { if (answer != due "") fail("due is " answer); return }
+    if (node == 0 && answer != "/" || node > 0 && !due && answer != parent[12]) fail("introduced by " answer)
+    if (due && (prims(answer) != field[7] || index(parent[12], answer) != 1)) fail("introduced by " answer)
 }
 
 # the arena that is filled may have held anything

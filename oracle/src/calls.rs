@@ -4,7 +4,7 @@ use std::cmp::Ordering;
 use std::mem;
 
 use crate::judge::{self, Judge};
-use crate::line::{self, Call};
+use crate::line::{self, Call, OfNode, Setting};
 use crate::narrowing;
 use crate::pcp::layer_stack::LayerStackId;
 use crate::pcp::prim_graph::{NodeId, PrimIndexGraph};
@@ -82,9 +82,6 @@ impl Calls {
             Call::Compares => self.compares(),
             Call::Ancestor(x, y) => self.test_pair(x, y, PrimIndexGraph::is_ancestor_of),
             Call::Site(a, b) => self.test_pair(a, b, PrimIndexGraph::same_site),
-            Call::Propagated(node) => self.propagated(node),
-            Call::Copy(node) => self.copy(node),
-            Call::Class(node) => self.class(node),
             Call::Order => self.order(),
             Call::List => self.list(),
             Call::Cull => self.cull(),
@@ -97,8 +94,8 @@ impl Calls {
             Call::Restore => self.restore(),
             Call::Rubbish => self.rubbish(),
             Call::Using(stack, path) => self.using(stack, path),
-            Call::Below(node) => self.below(node),
-            Call::Intro(node) => self.intro(node),
+            Call::OfNode(node, asked) => self.of_node(node, asked),
+            Call::Set(node, setting) => self.set(node, setting),
         }
     }
 
@@ -163,24 +160,6 @@ impl Calls {
         let graph = self.current.graph();
         let (a, b) = (narrowing::node(graph, a)?, narrowing::node(graph, b)?);
         Ok(bit(test(graph, a, b)))
-    }
-
-    fn propagated(&self, node: u32) -> Result<String, Refusal> {
-        let graph = self.current.graph();
-        Ok(bit(graph.is_propagated_specializes(narrowing::node(graph, node)?)))
-    }
-
-    fn copy(&self, node: u32) -> Result<String, Refusal> {
-        let graph = self.current.graph();
-        let found = graph.get_propagated_specializes_node(narrowing::node(graph, node)?);
-        Ok(found.map_or("-".to_string(), number))
-    }
-
-    fn class(&self, node: u32) -> Result<String, Refusal> {
-        let graph = self.current.graph();
-        let (instance, class) = graph.starting_node_of_class_hierarchy(narrowing::node(graph, node)?);
-        let class = class.valid().map_or("-".to_string(), number);
-        Ok(format!("{} {class}", number(instance)))
     }
 
     fn order(&mut self) -> Result<String, Refusal> {
@@ -249,19 +228,27 @@ impl Calls {
         let graph = self.current.graph();
         narrowing::node_0(graph)?;
         let path = narrowing::path(path)?;
-        Ok(graph.node_using_site(LayerStackId(stack), &path).map_or("-".into(), number))
+        Ok(number_or_dash(graph.node_using_site(LayerStackId(stack), &path)))
     }
 
-    fn below(&self, node: u32) -> Result<String, Refusal> {
+    fn of_node(&self, node: u32, asked: OfNode) -> Result<String, Refusal> {
         let graph = self.current.graph();
         let node = narrowing::node(graph, node)?;
-        Ok(graph.depth_below_introduction(node).to_string())
+        Ok(match asked {
+            OfNode::Propagated => bit(graph.is_propagated_specializes(node)),
+            OfNode::Copy => number_or_dash(graph.get_propagated_specializes_node(node)),
+            OfNode::Class => class_hierarchy(graph, node),
+            OfNode::Below => graph.depth_below_introduction(node).to_string(),
+            OfNode::Intro => text(&graph.path_at_introduction(node)),
+            OfNode::Due => bit(graph.is_due_to_ancestor(node)),
+            OfNode::Introduced => text(&graph.intro_path(node)),
+        })
     }
 
-    fn intro(&self, node: u32) -> Result<String, Refusal> {
-        let graph = self.current.graph();
-        let node = narrowing::node(graph, node)?;
-        Ok(text(&graph.path_at_introduction(node)))
+    fn set(&mut self, node: u32, setting: Setting) -> Result<String, Refusal> {
+        let node = narrowing::set(self.current.graph(), node, &setting)?;
+        self.current.set(node, setting);
+        done()
     }
 }
 
@@ -305,6 +292,16 @@ fn text(path: &Path) -> String {
 
 fn number(node: NodeId) -> String {
     node.0.to_string()
+}
+
+fn number_or_dash(node: Option<NodeId>) -> String {
+    node.map_or("-".into(), number)
+}
+
+/// The node that the class hierarchy of `node` begins at, and its topmost class.
+fn class_hierarchy(graph: &PrimIndexGraph, node: NodeId) -> String {
+    let (instance, class) = graph.starting_node_of_class_hierarchy(node);
+    format!("{} {}", number(instance), number_or_dash(class.valid()))
 }
 
 fn bit(set: bool) -> String {

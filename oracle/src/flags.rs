@@ -4,6 +4,7 @@ use crate::pcp::prim_graph::NodeFlags;
 
 pub const INERT: u8 = 1;
 pub const CULLED: u8 = 2;
+pub const PROHIBITED_CHILDREN: u8 = 4;
 pub const HAS_SPECIALIZES: u8 = 8;
 
 /// Each bit of the byte, from 1 to 128, and the Rust's bit for it. The upper four mean nothing and are given back as

@@ -2,6 +2,7 @@
 //! call is accepted has been decided before, in `narrowing.rs`.
 
 use crate::flags;
+use crate::line::Setting;
 use crate::pcp::LayerId;
 use crate::pcp::layer_stack::LayerStackId;
 use crate::pcp::mapping::MapFunction;
@@ -134,6 +135,16 @@ impl Judge {
     pub fn deepen(&mut self, child: &Path) {
         self.ordered = self.is_finalized();
         self.graph.append_child_name_to_all_sites(child);
+    }
+
+    /// Sets one thing of a node. Neither the comparisons nor the order read any of these, and the Rust keeps finalized.
+    pub fn set(&mut self, id: NodeId, setting: Setting) {
+        match setting {
+            Setting::Mark(byte) => self.graph.mark(id, flags::from_byte(byte)),
+            Setting::FirstSpec(first) => self.graph.set_first_spec(id, first),
+            Setting::HasSpecs(has_specs) => self.graph.set_has_specs(id, has_specs),
+            Setting::Restriction(depth) => self.graph.set_restriction_depth(id, depth),
+        }
     }
 
     /// The graph of the child prim, marked as [`deepen`](Self::deepen) marks it.

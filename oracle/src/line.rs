@@ -1,6 +1,6 @@
 //! One line of the language of the command `calls`: which call it writes, or that it writes none.
 
-use crate::record::{Record, node_given};
+use crate::record::Record;
 
 /// A longer line writes no call.
 pub const MAX_LINE: usize = 131_072;
@@ -27,9 +27,6 @@ pub enum Call<'a> {
     Compares,
     Ancestor(u32, u32),
     Site(u32, u32),
-    Propagated(u32),
-    Copy(u32),
-    Class(u32),
     Order,
     List,
     Cull,
@@ -42,8 +39,29 @@ pub enum Call<'a> {
     Restore,
     Rubbish,
     Using(u32, &'a [u8]),
-    Below(u32),
-    Intro(u32),
+    OfNode(u32, OfNode),
+    Set(u32, Setting),
+}
+
+/// What is asked of one node.
+#[derive(Debug, PartialEq, Eq)]
+pub enum OfNode {
+    Propagated,
+    Copy,
+    Class,
+    Below,
+    Intro,
+    Due,
+    Introduced,
+}
+
+/// What is set of one node.
+#[derive(Debug, PartialEq, Eq)]
+pub enum Setting {
+    Mark(u8),
+    FirstSpec(Option<u16>),
+    HasSpecs(bool),
+    Restriction(u16),
 }
 
 impl Call<'_> {
@@ -54,16 +72,17 @@ impl Call<'_> {
     }
 }
 
-/// The call that `line` writes. Words stand between single spaces and have at least one byte.
-pub fn parse(line: &[u8]) -> Option<Call<'_>> {
+/// The words of `line`. They stand between single spaces and have at least one byte.
+fn words(line: &[u8]) -> Option<Vec<&[u8]>> {
     if line.len() > MAX_LINE {
         return None;
     }
-    let words: Vec<&[u8]> = line.split(|&byte| byte == b' ').collect();
-    if words.iter().any(|word| word.is_empty()) {
-        return None;
-    }
-    Some(match words[..] {
+    line.split(|&byte| byte == b' ').map(|word| (!word.is_empty()).then_some(word)).collect()
+}
+
+/// The call that `line` writes.
+pub fn parse(line: &[u8]) -> Option<Call<'_>> {
+    Some(match words(line)?[..] {
         [b"path", path] => Call::Path(path),
         [b"back", steps, path] => Call::Back(number(steps)?, path),
         [b"join", path, child] => Call::Join(path, child),
@@ -80,9 +99,6 @@ pub fn parse(line: &[u8]) -> Option<Call<'_>> {
         [b"compares"] => Call::Compares,
         [b"ancestor", x, y] => Call::Ancestor(number(x)?, number(y)?),
         [b"site", a, b] => Call::Site(number(a)?, number(b)?),
-        [b"propagated", node] => Call::Propagated(number(node)?),
-        [b"copy", node] => Call::Copy(number(node)?),
-        [b"class", node] => Call::Class(number(node)?),
         [b"order"] => Call::Order,
         [b"list"] => Call::List,
         [b"cull"] => Call::Cull,
@@ -95,8 +111,31 @@ pub fn parse(line: &[u8]) -> Option<Call<'_>> {
         [b"restore"] => Call::Restore,
         [b"rubbish"] => Call::Rubbish,
         [b"using", stack, path] => Call::Using(number(stack)?, path),
-        [b"below", node] => Call::Below(number(node)?),
-        [b"intro", node] => Call::Intro(number(node)?),
+        [word, node] => Call::OfNode(number(node)?, of_node(word)?),
+        [word, node, value] => Call::Set(number(node)?, setting(word, value)?),
+        _ => return None,
+    })
+}
+
+fn of_node(word: &[u8]) -> Option<OfNode> {
+    Some(match word {
+        b"propagated" => OfNode::Propagated,
+        b"copy" => OfNode::Copy,
+        b"class" => OfNode::Class,
+        b"below" => OfNode::Below,
+        b"intro" => OfNode::Intro,
+        b"due" => OfNode::Due,
+        b"introduced" => OfNode::Introduced,
+        _ => return None,
+    })
+}
+
+fn setting(word: &[u8], value: &[u8]) -> Option<Setting> {
+    Some(match word {
+        b"mark" => Setting::Mark(number(value)?),
+        b"spec" => Setting::FirstSpec(unless_missing(value)?),
+        b"specs" => Setting::HasSpecs(yes_or_no(value)?),
+        b"restrict" => Setting::Restriction(number(value)?),
         _ => return None,
     })
 }
@@ -112,8 +151,8 @@ fn record<'a>(words: &[&'a [u8]]) -> Option<Record<'a>> {
         flags: number(flags)?,
         stack: number(stack)?,
         layer: number(layer)?,
-        parent: unless_missing(parent)?.and_then(node_given),
-        origin: unless_missing(origin)?.and_then(node_given),
+        parent: unless_missing(parent)?,
+        origin: unless_missing(origin)?,
         depth: unless_missing(depth)?,
         sibling: number(sibling)?,
         restriction: number(restriction)?,
@@ -126,6 +165,15 @@ fn record<'a>(words: &[&'a [u8]]) -> Option<Record<'a>> {
 /// A number, or nothing within where `-` stands for a missing one.
 fn unless_missing<T: TryFrom<u32>>(word: &[u8]) -> Option<Option<T>> {
     if word == b"-" { Some(None) } else { number(word).map(Some) }
+}
+
+/// One digit; a number that is written otherwise is none of the two.
+fn yes_or_no(word: &[u8]) -> Option<bool> {
+    match word {
+        b"0" => Some(false),
+        b"1" => Some(true),
+        _ => None,
+    }
 }
 
 /// Decimal digits whose number fits the type asked for.

@@ -6,8 +6,9 @@
 
 use std::cmp::Ordering;
 
-use crate::flags::{self, CULLED, INERT};
+use crate::flags::{self, CULLED, INERT, PROHIBITED_CHILDREN};
 use crate::judge::Judge;
+use crate::line::Setting;
 use crate::pcp::LayerId;
 use crate::pcp::layer_stack::LayerStackId;
 use crate::pcp::mapping::MapFunction;
@@ -30,6 +31,7 @@ const NO_NAME: Refusal = Refusal::new(5, "the path does not end in a name; the R
 const UNKNOWN_ARC: Refusal = Refusal::new(6, "arcs go from 0 to 6; the Rust's type has no other");
 const MISPLACED_ROOT: Refusal = Refusal::new(6, "arc Root is for one child of node 0; the Rust takes any number");
 const CULLED_ADDED: Refusal = Refusal::new(6, "CULLED may not be added; the Rust takes it");
+const ARC_FLAG_MARKED: Refusal = Refusal::new(6, "only flags 1, 2 and 4 may be marked; the Rust asserts it");
 const CULLED_ROOT: Refusal = Refusal::new(6, "CULLED may not stand on arc Root; the Rust takes it");
 const NOT_YES_OR_NO: Refusal = Refusal::new(6, "has-specs must be 0 or 1; the Rust's type has no other");
 const TOO_MANY_NODES: Refusal = Refusal::new(7, "a graph has at most 1,024 nodes; the Rust has no limit");
@@ -178,6 +180,16 @@ pub fn deepen(graph: &PrimIndexGraph, child: &[u8]) -> Result<Path, Refusal> {
     }
     TOO_MANY_BYTES.unless(bytes <= MAX_PATH_BYTES)?;
     Ok(child)
+}
+
+/// The setters, checks 3, 4 and, for flags to be marked, 6: the node.
+pub fn set(graph: &PrimIndexGraph, number: u32, setting: &Setting) -> Result<NodeId, Refusal> {
+    let id = node(graph, number)?;
+    if let &Setting::Mark(byte) = setting {
+        ARC_FLAG_MARKED.unless(byte & !(INERT | CULLED | PROHIBITED_CHILDREN) == 0)?;
+        CULLED_ROOT.unless(byte & CULLED == 0 || graph.node(id).arc() != ArcType::Root)?;
+    }
+    Ok(id)
 }
 
 /// Sibling comparison, checks 3, 4 and 8: the two nodes.

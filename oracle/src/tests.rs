@@ -12,6 +12,7 @@ mod orders;
 mod paths;
 mod robustness;
 mod saving;
+mod setting;
 mod snapshots;
 mod strength;
 

@@ -4,6 +4,7 @@
 
 mod damage;
 mod growth;
+mod settings;
 mod style;
 
 use std::io::{self, Write};
@@ -108,7 +109,8 @@ impl Script<'_> {
 
     /// One call, or a few that belong together.
     fn step(&mut self) -> io::Result<()> {
-        match self.random.below(20) {
+        match self.random.below(24) {
+            0 | 1 if self.random.one_in(8) => self.add_by_no_node(),
             0 | 1 => self.add(),
             2 | 3 => self.compare(),
             4..=6 => self.say_all(&["order", "marks", "list", "chains"]),
@@ -118,6 +120,8 @@ impl Script<'_> {
             13 | 14 => self.snapshot(),
             15..=17 => self.ask_about_node(),
             18 => self.swap(),
+            19..=21 => self.set(),
+            22 => self.ask_about_introduction(),
             _ => self.nuisance(),
         }
     }
@@ -230,6 +234,11 @@ impl Script<'_> {
         let path = if self.random.one_in(4) { self.path() } else { path.unwrap_or("/".into()) };
         self.say(&format!("using {stack} {path}"))?;
         Ok(())
+    }
+
+    fn set(&mut self) -> io::Result<()> {
+        let line = self.setting();
+        self.say_all(&[&line, "marks", "dump", "erasable"])
     }
 
     /// Works on the other graph for a while; an empty one is mostly left again at once.

@@ -25,8 +25,8 @@ const CHILDREN: [&str; 3] = ["/k", "/M/Child", "/A{v=x}_0"];
 /// A graph has no more nodes than this.
 const NODES: usize = 12;
 
-/// As many calls as the longest ending has.
-const ENDING: usize = 6;
+/// A list has no more calls than this.
+const CALLS: usize = 30;
 
 pub fn lists(seed: u64, count: usize, out: &mut dyn Write) -> io::Result<()> {
     let mut random = Random::new(seed);
@@ -44,21 +44,34 @@ struct List<'a> {
 }
 
 impl List<'_> {
-    /// One list in four goes on with the graphs that the one before left.
+    /// One list in four goes on with the graphs that the one before left. Each has a call that sets something of a node.
     fn write(&mut self) -> io::Result<()> {
         self.script.say("")?;
         if !self.one_in(4) {
             self.call("new")?;
         }
-        for _ in 0..self.script.random.between(5, 30 - ENDING) {
-            self.go_elsewhere()?;
-            self.step()?;
-        }
         match self.script.random.below(4) {
-            0 | 1 => self.end_by_erasing(),
-            2 => self.end_by_deepening(),
-            _ => Ok(()),
+            0 | 1 => {
+                self.steps(CALLS - 6)?;
+                self.end_by_erasing()
+            }
+            2 => {
+                self.steps(CALLS - 3)?;
+                self.end_by_deepening()
+            }
+            _ => self.steps(CALLS),
         }
+    }
+
+    /// Five calls that write, or up to so many.
+    fn steps(&mut self, most: usize) -> io::Result<()> {
+        let steps = self.script.random.between(5, most);
+        let set_at = self.script.random.between(1, steps - 1);
+        for at in 0..steps {
+            self.go_elsewhere()?;
+            if at == set_at { self.set()? } else { self.step()? }
+        }
+        Ok(())
     }
 
     fn one_in(&mut self, times: usize) -> bool {
@@ -83,7 +96,7 @@ impl List<'_> {
             let child = self.script.random.pick(&CHILDREN);
             self.try_out(&format!("deepen {child}"), UNDEEPENED)?;
         }
-        Ok(())
+        if self.one_in(10) { self.script.ask_about_introduction() } else { Ok(()) }
     }
 
     /// The judge is not asked: these lines leave the graph as it was.
@@ -129,6 +142,8 @@ impl List<'_> {
         let rootless = self.script.style.rootless;
         if self.script.count() == 1 && !self.one_in(rootless) {
             self.script.add_local_root()?
+        } else if self.one_in(60) {
+            self.script.add_by_no_node()?
         } else {
             self.script.add()?
         }
@@ -136,7 +151,7 @@ impl List<'_> {
     }
 
     fn change(&mut self) -> io::Result<()> {
-        match self.script.random.below(20) {
+        match self.script.random.below(23) {
             0..=4 => self.call("order"),
             5..=7 => self.call("cull"),
             8..=10 => self.erase_the_erasable(),
@@ -145,6 +160,7 @@ impl List<'_> {
             15 | 16 => self.deepen("seed"),
             17 => self.read_copy(),
             18 => self.read_sample(),
+            19..=21 => self.set(),
             _ if self.script.count() == 0 => self.add(),
             _ => self.init(),
         }
@@ -174,6 +190,11 @@ impl List<'_> {
         }
         let set = another_set(self.script.random, self.script.calls.current().graph(), &erasable);
         self.erase(&set)
+    }
+
+    fn set(&mut self) -> io::Result<()> {
+        let line = self.script.setting();
+        self.call(&line)
     }
 
     fn deepen(&mut self, word: &str) -> io::Result<()> {

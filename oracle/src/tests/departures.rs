@@ -1,9 +1,15 @@
 //! Where document 01 departs from the Rust: the smallest input of each departure, and what the Rust does with it when
 //! it is asked directly.
 
+mod fields;
+mod functions;
+mod missing_nodes;
+
 use std::cmp::Ordering;
+use std::panic::{AssertUnwindSafe, catch_unwind};
 
 use super::check;
+use crate::calls::Calls;
 use crate::pcp::LayerId;
 use crate::pcp::layer_stack::LayerStackId;
 use crate::pcp::mapping::MapFunction;
@@ -24,14 +30,9 @@ fn started(at: &str) -> PrimIndexGraph {
     graph
 }
 
-#[test]
-fn culled_may_be_added_there() {
-    let mut graph = started("/A");
-    let mut culled = desc(ArcType::Reference);
-    culled.flags = NodeFlags::CULLED;
-    let node = graph.add_child(NodeId(0), culled);
-    assert!(graph.node(node).is_culled());
-    check("init 0 0 /A => 0\nadd 0 4 2 0 0 - - 0 0 0 1 /A => refused 6");
+/// Whether the call panics.
+fn stops(call: impl FnOnce()) -> bool {
+    catch_unwind(AssertUnwindSafe(call)).is_err()
 }
 
 #[test]
@@ -56,6 +57,16 @@ fn deepening_by_no_name_does_nothing_there() {
 }
 
 #[test]
+fn seeding_by_no_name_copies_there() {
+    for child in ["/", "/A{v=x}"] {
+        let seeded = started("/A").seed_child(&path(child));
+        assert_eq!((seeded.len(), seeded.node(NodeId(0)).path()), (1, &path("/A")));
+        check(&format!("init 0 0 /A => 0\nseed {child} => refused 5"));
+    }
+}
+
+/// Which names a site cannot take is the path type's to say: here the stand-in's, which has 255 bytes.
+#[test]
 fn a_site_that_cannot_take_the_name_keeps_its_path_there() {
     let longest = format!("/{}", "a".repeat(254));
     let mut graph = started(&longest);
@@ -65,9 +76,19 @@ fn a_site_that_cannot_take_the_name_keeps_its_path_there() {
 }
 
 #[test]
+fn an_order_that_was_never_made_can_be_read_there() {
+    assert_eq!(started("/A").strength_order(), []);
+    check("init 0 0 /A => 0\nlist => refused 10");
+}
+
+/// Where another graph shares the order, the one that is added to has an empty one.
+#[test]
 fn a_stale_order_can_be_read_there() {
     let mut graph = started("/A");
     graph.finalize_strength_order();
+    let mut seeded = graph.seed_child(&path("/b"));
+    seeded.add_child(NodeId(0), desc(ArcType::Reference));
+    assert_eq!(seeded.strength_order(), []);
     graph.add_child(NodeId(0), desc(ArcType::Reference));
     assert_eq!(graph.strength_order(), [NodeId(0)]);
     check("init 0 0 /A => 0\norder => ok\nadd 0 4 0 0 0 - - 0 0 0 1 /A => 1\nlist => refused 10");
@@ -81,15 +102,18 @@ fn deepening_a_shallow_graph_leaves_its_order_to_be_read_there() {
     graph.add_child(NodeId(0), beyond);
     graph.finalize_strength_order();
     graph.append_child_name_to_all_sites(&path("/b"));
-    assert_eq!(graph.strength_order(), [NodeId(0), NodeId(1)]);
-    check(
-        "init 0 0 /A => 0
-        add 0 4 0 0 0 - 2 0 0 0 1 /A => 1
-        order => ok
-        list => 0 1
-        deepen /b => ok
-        list => refused 10",
-    );
+    let seeded = graph.seed_child(&path("/c"));
+    assert_eq!([graph.strength_order(), seeded.strength_order()], [[NodeId(0), NodeId(1)]; 2]);
+    for word in ["deepen", "seed"] {
+        check(&format!(
+            "init 0 0 /A => 0
+            add 0 4 0 0 0 - 2 0 0 0 1 /A => 1
+            order => ok
+            list => 0 1
+            {word} /b => ok
+            list => refused 10"
+        ));
+    }
 }
 
 #[test]
@@ -99,6 +123,9 @@ fn a_graph_has_no_limit_there() {
         graph.add_child(NodeId(0), desc(ArcType::Reference));
     }
     assert_eq!(graph.len(), 1_025);
+    let add = "add 0 4 0 0 0 - - 0 0 0 1 /A";
+    let added: Vec<String> = (1..1_024).map(|node| format!("{add} => {node}")).collect();
+    check(&format!("init 0 0 /A => 0\n{}\n{add} => refused 7", added.join("\n")));
 }
 
 #[test]
@@ -116,18 +143,6 @@ fn paths_have_no_limit_together_there() {
     check(&format!("init 0 0 {longest} => 0\n{}\n{add} => refused 7", added.join("\n")));
 }
 
-#[test]
-fn culled_may_stand_on_a_root_arc_there() {
-    let mut graph = started("/A");
-    let mut culled = desc(ArcType::Root);
-    culled.flags = NodeFlags::CULLED;
-    let root = graph.add_child(NodeId(0), culled);
-    assert!(graph.node(root).is_culled());
-    let node_0 = format!("001d0001{:016}{:f>16}{:018}2f41", 0, "", 0);
-    check(&format!("read 00000041010002{node_0}001d0002{:050}2f41 => refused 6", 0));
-    check(&format!("read 00000041010002{node_0}001d0000{:050}2f41 => 2", 0));
-}
-
 /// The set has a digit for each node: none.
 #[test]
 fn an_empty_graph_is_left_as_it_is_there() {
@@ -139,20 +154,6 @@ fn an_empty_graph_is_left_as_it_is_there() {
     check(
         "cull => refused 3\nerasable => refused 3\nerase 0 => refused 3\ndeepen /b => refused 3\nseed /b => refused 3",
     );
-}
-
-#[test]
-#[should_panic(expected = "index out of bounds")]
-fn a_node_that_is_not_there_stops_a_comparison_there() {
-    check("init 0 0 /A => 0\ncompare 0 1 => refused 4");
-    started("/A").compare_node_strength(NodeId(0), NodeId(1));
-}
-
-#[test]
-#[should_panic(expected = "index out of bounds")]
-fn a_parent_that_is_not_there_stops_adding_there() {
-    check("init 0 0 /A => 0\nadd 1 4 0 0 0 - - 0 0 0 1 /A => refused 4");
-    started("/A").add_child(NodeId(1), desc(ArcType::Reference));
 }
 
 #[test]
@@ -176,6 +177,16 @@ fn erasing_answers_the_nodes_copied_there() {
     let shared = graph.clone();
     assert_eq!(graph.erase(&[false]), shared.len());
     check("init 0 0 /A => 0\nerase 0 => 1");
+}
+
+#[test]
+fn a_set_has_a_value_for_each_node_there() {
+    for (line, set) in [("erase 0", &[false; 1][..]), ("erase 000", &[false; 3])] {
+        let mut graph = started("/A");
+        graph.add_child(NodeId(0), desc(ArcType::Reference));
+        assert!(stops(|| _ = graph.erase(set)));
+        check(&format!("init 0 0 /A => 0\nadd 0 4 0 0 0 - - 0 0 0 1 /A => 1\n{line} => 2"));
+    }
 }
 
 #[test]
@@ -206,18 +217,22 @@ fn a_kept_origin_may_be_erased_there() {
     );
 }
 
+/// What is read is a graph that the Rust's own calls make of the same records: the order that was written is gone.
 #[test]
-fn spec_from_reads_0_without_specs_there() {
+fn a_snapshot_is_read_as_a_graph_with_its_records() {
     let mut graph = started("/A");
-    let mut without_specs = desc(ArcType::Reference);
-    (without_specs.has_specs, without_specs.spec_from) = (false, 5);
-    let node = graph.add_child(NodeId(0), without_specs);
-    assert_eq!(graph.node(node).spec_from(), 0);
-    check(
-        "init 0 0 /A => 0
-        add 0 4 0 0 0 - - 0 0 5 0 /A => 1
-        dump => 0,1,0,0,-,-,1,0,0,0,1,/A;4,0,0,0,0,0,1,0,0,5,0,/A",
-    );
+    let added = [ArcType::Reference, ArcType::Inherit].map(|arc| graph.add_child(NodeId(0), desc(arc)));
+    let mut calls = Calls::default();
+    let mut answer = |line: &str| calls.answer(line.as_bytes()).text();
+    for line in ["init 0 0 /A", "add 0 4 0 0 0 - - 0 0 0 1 /A", "add 0 1 0 0 0 - - 0 0 0 1 /A", "order"] {
+        answer(line);
+    }
+    assert_eq!(answer("chains"), "2,1;;");
+    let written = answer("write");
+    assert_eq!([answer(&format!("read {written}")), answer("marks")], ["3", "0 0 0"]);
+    let read = calls.current().graph();
+    assert!(read.children(NodeId(0)).eq(added) && graph.children(NodeId(0)).eq(added));
+    assert!(read.nodes().zip(graph.nodes()).all(|(a, b)| format!("{a:?}") == format!("{b:?}")));
 }
 
 /// Ordering the cycle is never asked of the Rust: its sort may panic. Comparing is, and gives the cycle.
@@ -237,4 +252,14 @@ fn siblings_may_go_in_a_cycle_there() {
     for (stronger, weaker) in [(first, second), (second, third), (third, first)] {
         assert_eq!(graph.compare_sibling_node_strength(stronger, weaker), Ordering::Less);
     }
+    check(
+        "init 0 0 /M => 0
+        add - 0 0 0 0 - - 0 0 0 1 /A => 1
+        add 1 4 0 0 0 - - 0 0 0 1 /A => 2
+        add 1 6 8 0 0 2 1 0 0 0 1 /A => 3
+        add 1 6 8 0 0 2 3 0 0 0 1 /A => 4
+        add 1 6 0 0 0 - 2 0 0 0 1 /A => 5
+        compares => ELLLLL GELLLL GGELLL GGGELG GGGGEL GGGLGE
+        order => refused 9",
+    );
 }

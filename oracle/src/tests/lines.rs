@@ -14,7 +14,10 @@ fn bad_lines() {
         "add - 0 0 0 0 - - 0 0 0 - /", "read", "read ", "read 0", "read 0g", "read 0A", "read 00 00", "write 1",
         "compare 0", "compare 0 4294967296", "compare - 0", "sibling 0 0 0", "erase", "erase ", "erase -", "erase 0x",
         "erase 0 1", "cull 1", "erasable 0", "below -", "below", "intro x", "using 0", "using - /", "order\r",
-        "list\t", "swap swap", "save 1", "save ", "restore 0", "restored", "Save",
+        "list\t", "swap swap", "save 1", "save ", "restore 0", "restored", "Save", "mark 0", "mark 0 256", "mark 0 -",
+        "mark - 0", "mark 4294967296 0", "mark 0 0 0", "spec 0", "spec 0 65536", "spec 0 x", "spec - 0", "specs 0",
+        "specs 0 2", "specs 0 -", "specs 0 01", "restrict 0", "restrict 0 65536", "restrict 0 -", "due", "due -",
+        "due 0 0", "due 4294967296", "introduced", "introduced -", "introduced 0 0",
     ];
     for line in bad {
         assert_eq!(answers(line), ["bad line"], "{line:?}");
@@ -39,7 +42,9 @@ fn numbers() {
 fn empty_graphs() {
     let refused = [
         "compare 0 0", "sibling 0 0", "compares", "order", "list", "cull", "erasable", "erase 1", "deepen //",
-        "seed //", "using 0 //", "below 0", "intro 0", "add 9 9 0 0 0 9 - 0 0 0 1 //",
+        "seed //", "using 0 //", "below 0", "intro 0", "add 9 9 0 0 0 9 - 0 0 0 1 //", "mark 9 255", "mark 0 0",
+        "spec 9 -", "spec 0 0", "specs 9 0", "restrict 9 0", "due 9", "introduced 9",
+        "add 4294967295 4 0 0 0 - - 0 0 0 1 /",
     ];
     for line in refused {
         assert_eq!(answers(line), ["refused 3"], "{line}");

@@ -4,7 +4,10 @@ use super::{answers, printed};
 use crate::scripts;
 
 const SHOWN: [&str; 6] = ["marks", "list", "compares", "dump", "chains", "erasable"];
+const SETS: [&str; 4] = ["mark", "spec", "specs", "restrict"];
 const WRITES: [&str; 8] = ["init", "add", "order", "cull", "erase", "deepen", "read", "seed"];
+/// Asked of one node, now and then.
+const ASKED: [&str; 2] = ["due", "introduced"];
 
 fn word(line: &str) -> &str {
     line.split(' ').next().unwrap_or(line)
@@ -25,7 +28,7 @@ fn parted<'a>(lines: &[&'a str]) -> (Vec<&'a str>, Vec<Vec<&'a str>>) {
     (outside, trials)
 }
 
-/// Each list has 5 to 30 calls, and after each the graph is shown.
+/// Each list has 5 to 30 calls, one at least that sets something of a node, and after each the graph is shown.
 #[test]
 fn lengths() {
     let script = printed(scripts::lists, 41, 500);
@@ -33,10 +36,11 @@ fn lengths() {
     assert_eq!(lists.len(), 500);
     for list in lists {
         let (lines, _) = parted(&list.trim().lines().collect::<Vec<_>>());
-        let calls = lines.iter().filter(|line| WRITES.contains(&word(line))).count();
-        assert!((5..=30).contains(&calls), "{calls}");
+        let sets = lines.iter().filter(|line| SETS.contains(&word(line))).count();
+        let calls = lines.iter().filter(|line| WRITES.contains(&word(line))).count() + sets;
+        assert!(sets > 0 && (5..=30).contains(&calls), "{sets} of {calls}");
         for (at, line) in lines.iter().enumerate() {
-            if !SHOWN.contains(line) && *line != "write" {
+            if !SHOWN.contains(line) && !ASKED.contains(&word(line)) && *line != "write" {
                 assert_eq!(lines[at + 1..at + 7], SHOWN, "{line}");
             }
         }
@@ -88,8 +92,32 @@ fn after_trial<'a, 'b>(lines: &'b [(&'a str, &'a str)], call: &str, dump: &str) 
     &lines[end + 2..]
 }
 
+/// Whether the line is an `add` whose PARENT or ORIGIN is the number that is no node.
+fn names_no_node(line: &str) -> bool {
+    let words: Vec<&str> = line.split(' ').collect();
+    words[0] == "add" && words.len() > 6 && (words[1] == "4294967295" || words[6] == "4294967295")
+}
+
+/// What each call of these lists is refused for.
+const REFUSALS: [(&str, &[u8]); 14] = [
+    ("init", &[3]),
+    ("add", &[3, 4, 5, 6]),
+    ("order", &[3, 9]),
+    ("cull", &[3]),
+    ("erase", &[3, 11]),
+    ("deepen", &[3, 5, 7]),
+    ("read", &[4, 5, 6, 12]),
+    ("seed", &[3, 5, 7]),
+    ("mark", &[3, 4, 6]),
+    ("spec", &[3, 4]),
+    ("specs", &[3, 4]),
+    ("restrict", &[3, 4]),
+    ("due", &[3, 4]),
+    ("introduced", &[3, 4]),
+];
+
 /// Every call is accepted and refused, each for all that it can be refused for, but 7 for adding and reading: these
-/// graphs are small.
+/// graphs are small. Adding is refused 4 for the number that is no node, too.
 #[test]
 fn words_and_answers() {
     let script = printed(scripts::lists, 42, 2_000);
@@ -104,24 +132,32 @@ fn words_and_answers() {
         let given = made.iter().filter(|(line, given)| word(line) == call && given.as_str() == answer);
         given.count()
     };
-    let refusals: [(&str, &[u8]); 8] = [
-        ("init", &[3]),
-        ("add", &[3, 4, 5, 6]),
-        ("order", &[3, 9]),
-        ("cull", &[3]),
-        ("erase", &[3, 11]),
-        ("deepen", &[3, 5, 7]),
-        ("read", &[4, 5, 6, 12]),
-        ("seed", &[3, 5, 7]),
-    ];
-    for (call, numbers) in refusals {
+    for (call, numbers) in REFUSALS {
         for number in numbers {
             assert!(counted(call, &format!("refused {number}")) > 2, "{call} {number}");
         }
     }
-    for call in ["order", "cull", "deepen", "seed", "swap", "new"] {
+    for call in ["order", "cull", "deepen", "seed", "swap", "new", "mark", "spec", "specs", "restrict"] {
         assert!(counted(call, "ok") > 500, "{call}");
     }
+    assert!(["0", "1"].iter().all(|answer| counted("due", answer) > 500));
+    assert!(made.iter().filter(|(line, answer)| names_no_node(line) && *answer == "refused 4").count() > 50);
     let nodes = script.lines().zip(&answers).filter(|(line, _)| *line == "chains");
     assert!(nodes.map(|(_, chains)| chains.split(';').count()).max() <= Some(12));
+}
+
+/// The script of graphs sets and asks too.
+#[test]
+fn the_graph_script_has_these_calls() {
+    let script = printed(scripts::graphs, 45, 400);
+    let answers = answers(script.trim_end());
+    let counted = |call: &str, refused: bool| {
+        let given = script.lines().zip(&answers).filter(|(line, _)| word(line) == call);
+        given.filter(|(_, answer)| answer.starts_with("refused ") == refused).count()
+    };
+    for call in SETS.iter().chain(&ASKED) {
+        assert!(counted(call, false) > 50 && counted(call, true) > 5, "{call}");
+    }
+    let named = script.lines().zip(&answers).filter(|(line, _)| names_no_node(line));
+    assert!(named.filter(|(_, answer)| *answer == "refused 4").count() > 20);
 }

@@ -45,12 +45,12 @@ fn random_bytes() {
 
 #[test]
 fn random_words() {
-    const WORDS: [&str; 51] = [
-        "ancestor", "site", "propagated", "copy", "class", "path", "back", "join", "new", "init", "add", "read",
-        "write", "dump", "chains", "marks", "compare", "sibling", "compares", "order", "list", "cull", "erasable",
-        "erase", "deepen", "seed", "swap", "save", "restore", "using", "below", "intro", "0", "1", "2", "6", "8",
-        "65535", "65536", "4294967295", "4294967296", "-", "/", "/A", "/A{v=x}", "/A{v=x}B", "//", "01",
-        "00000003010000", "0000", "\u{e9}",
+    const WORDS: [&str; 57] = [
+        "mark", "spec", "specs", "restrict", "due", "introduced", "ancestor", "site", "propagated", "copy", "class",
+        "path", "back", "join", "new", "init", "add", "read", "write", "dump", "chains", "marks", "compare", "sibling",
+        "compares", "order", "list", "cull", "erasable", "erase", "deepen", "seed", "swap", "save", "restore", "using",
+        "below", "intro", "0", "1", "2", "6", "8", "65535", "65536", "4294967295", "4294967296", "-", "/", "/A",
+        "/A{v=x}", "/A{v=x}B", "//", "01", "00000003010000", "0000", "\u{e9}",
     ];
     let mut random = Random::new(4);
     let mut script = String::from("init 0 0 /A\n");

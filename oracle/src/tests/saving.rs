@@ -123,7 +123,13 @@ fn rubbish_holds_no_graph() {
         seed /a
         using 0 /M
         below 0
-        intro 0";
+        intro 0
+        mark 9 255
+        spec 9 -
+        specs 9 0
+        restrict 9 0
+        due 9
+        introduced 9";
     for call in calls.lines() {
         check(&format!("rubbish => ok\n{} => refused 2", call.trim()));
     }

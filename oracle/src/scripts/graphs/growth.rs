@@ -5,6 +5,7 @@ use std::io;
 use super::Script;
 use crate::flags::HAS_SPECIALIZES;
 use crate::pcp::prim_graph::ArcType::{self, Root, Specialize};
+use crate::record::NO_NODE;
 
 impl Script<'_> {
     pub fn add_local_root(&mut self) -> io::Result<()> {
@@ -23,6 +24,15 @@ impl Script<'_> {
             line = self.spoil(&line);
         }
         self.say(&line)?;
+        Ok(())
+    }
+
+    /// An `add` line whose parent or origin is the number that no node has.
+    pub fn add_by_no_node(&mut self) -> io::Result<()> {
+        let mut node = self.fresh_node();
+        let link = if self.random.one_in(2) { &mut node.parent } else { &mut node.origin };
+        *link = Some(NO_NODE);
+        self.say(&node.line())?;
         Ok(())
     }
 
