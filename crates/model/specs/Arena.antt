@@ -178,8 +178,8 @@ inOrderOnce bs n = eqb (count n (orderIn bs)) 1
 abbrev pub shallowMarked : List ℕ → ℕ → Bool
 shallowMarked bs n = not (isShallow (nodesIn bs) n (nodeIn bs n)) || eqb (shallowIn bs) 1
 
--- the marks are bytes 0 and 1; "finalized only if ordered and not shallow". Nothing else is asked of
--- the marks of an arena without a node.
+-- the marks are bytes 0 and 1; "finalized only if ordered and not shallow", and nothing else, with
+-- or without a node
 abbrev pub stateValid : List ℕ → Bool
 stateValid bs =
     leb (orderedIn bs) 1
