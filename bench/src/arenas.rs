@@ -2,7 +2,7 @@
 use plain::arena::holds_graph;
 use plain::layout::{HEADER_BYTES, MAX_NODES};
 use plain::random::Random;
-use plain::samples::arenas::Arena;
+use plain::samples::arenas::{Arena, EMPTY_MARKS};
 use plain::samples::damaged_arenas::{KINDS, damage};
 
 use crate::proved;
@@ -14,12 +14,18 @@ const OF_ONE_GRAPH: usize = 8;
 const LEAST: [(&str, usize); 3] =
     [("child list cut short", 20), ("child list into a cycle", 20), ("tails of two child lists crossed", 15)];
 
-/// Compares the checks on `count` damaged arenas and on whole ones between them, at most as many, and prints what was
-/// found. Answers whether they agree on all, so many are damaged, and each kind of [`LEAST`] came up often enough.
+/// Compares the checks on every arena of [`EMPTY_MARKS`], on `count` damaged arenas and on whole ones between them, at
+/// most as many, and prints what was found. Answers whether they agree on all, so many are damaged, and each kind of
+/// [`LEAST`] came up often enough.
 pub fn compare(seed: u64, count: usize) -> bool {
     let mut random = Random::new(seed);
     let mut arena = Arena::any(&mut random);
     let mut found = Found::default();
+    for (at, (marks, holds)) in EMPTY_MARKS.into_iter().enumerate() {
+        arena.empty(marks);
+        assert_eq!(holds_graph(arena.bytes()), holds, "no node, marked {marks:?}");
+        found.take(at, &arena, 0, &[]);
+    }
     for at in 0..2 * count {
         if found.damaged == count {
             break;

@@ -6,7 +6,7 @@ use plain::arena::holds_graph;
 use plain::layout::*;
 use plain::order::{sorted, walk, write};
 use plain::random::Random;
-use plain::samples::arenas::Arena;
+use plain::samples::arenas::{Arena, EMPTY_MARKS};
 use plain::samples::damaged_arenas::damage;
 use plain::samples::graphs::Node;
 use plain::samples::strength::{SHAPES, large, small};
@@ -59,11 +59,19 @@ fn the_ring_opened() {
 
 #[test]
 fn empty_graphs() {
-    let arena = empty_arena();
-    refuses_to_order(&arena, 3);
-    assert_eq!(refused(strength_order(&arena)), 3);
+    let mut arena = empty_arena();
+    for (marks, holds) in EMPTY_MARKS {
+        arena[ORDERED..=SHALLOW].copy_from_slice(&marks);
+        refuses_for(&arena, if holds { 3 } else { 2 });
+    }
+}
+
+/// Whatever is asked of the order is refused with this number.
+fn refuses_for(arena: &[u8], refusal: u32) {
+    refuses_to_order(arena, refusal);
+    assert_eq!(refused(strength_order(arena)), refusal);
     for place in [0, 1, u32::MAX] {
-        assert_eq!(refused(order_entry(&arena, place)), 3);
+        assert_eq!(refused(order_entry(arena, place)), refusal);
     }
 }
 
@@ -151,13 +159,14 @@ fn any_bytes_as_an_arena() {
         }
         let bytes = arena.bytes();
         if !holds_graph(bytes) {
-            refuses_to_order(bytes, 2);
-            assert_eq!((refused(strength_order(bytes)), refused(order_entry(bytes, 0))), (2, 2));
+            refuses_for(bytes, 2);
             met[0] += 1;
+        } else if arena.count() == 0 {
+            refuses_for(bytes, 3);
         } else if bytes[ORDERED] == 1 {
             reads_order(bytes, &entries(bytes));
             met[1] += 1;
-        } else if arena.count() > 0 {
+        } else {
             reads_no_order(bytes, arena.count() as u32);
             met[2] += 1;
         }

@@ -1,6 +1,7 @@
--- Arenas by computation: all zero bytes hold the empty graph; the listing of document 01, ordered,
--- is held by the bytes that it is encoded in, and read back as it was; and bytes that hold no
--- graph. The arenas here are as long as their graphs need. Assumes nothing.
+-- Arenas by computation: all zero bytes hold the empty graph; which marks an arena without a node
+-- may have; the listing of document 01, ordered, is held by the bytes that it is encoded in, and
+-- read back as it was; and bytes that hold no graph. The arenas here are as long as their graphs
+-- need. Assumes nothing.
 use mathlib.Core.Path.{_≡_, refl}
 use mathlib.Core.Bool.{true, false}
 use mathlib.Core.List.{List, [], _∷_, _++_}
@@ -25,6 +26,37 @@ listed = from (four ++ orders ∷ [])
 
 abbrev arena : List ℕ
 arena = encode listed zeros
+
+-- no node, and these marks
+abbrev empty : ℕ → ℕ → ℕ → List ℕ
+empty ordered finalized shallow = stored 4 (ordered ∷ finalized ∷ shallow ∷ []) zeros
+
+-- "finalized only if ordered and not shallow", and each mark a byte 0 or 1
+pub record EmptyArenas : Type 0 where
+  pub ordered : holdsGraph (empty 1 0 0) ≡ true
+  pub finalized : holdsGraph (empty 0 1 0) ≡ false
+  pub shallow : holdsGraph (empty 0 0 1) ≡ true
+  pub ordered-finalized : holdsGraph (empty 1 1 0) ≡ true
+  pub ordered-shallow : holdsGraph (empty 1 0 1) ≡ true
+  pub finalized-shallow : holdsGraph (empty 0 1 1) ≡ false
+  pub all-marks : holdsGraph (empty 1 1 1) ≡ false
+  pub other-bytes : (holdsGraph (empty 2 0 0) ≡ false) × (holdsGraph (empty 1 2 0) ≡ false) × (holdsGraph (empty 0 0 2) ≡ false)
+  -- the order of no node
+  pub no-order : decode (empty 1 0 0) .order ≡ []
+
+empty-arenas : EmptyArenas
+unfolding decode stored holdsGraph
+empty-arenas = record {
+  ordered = refl;
+  finalized = refl;
+  shallow = refl;
+  ordered-finalized = refl;
+  ordered-shallow = refl;
+  finalized-shallow = refl;
+  all-marks = refl;
+  other-bytes = (refl, refl, refl);
+  no-order = refl;
+}
 
 pub record Arenas : Type 0 where
   pub zeros-empty : decode zeros ≡ emptyGraph

@@ -7,7 +7,7 @@ use Prim.Native.Nat.{ℕ, _<_}
 use native.Mathlib.Omega.{arith}
 use lib.Dec.{eqb, ltb, leb}
 use lib.ListN.{length, List·getD-eq-default}
-use borrow.Author.Tests.{eqb-true, eqb-false, eq-eqb, ltb-true, le-ltb, le-leb}
+use borrow.Author.Tests.{eqb-false, eq-eqb, ltb-true, le-ltb, le-leb}
 use Rattle.model.specs.Lists.{bit, count}
 use Rattle.model.specs.Path.{primCount}
 use Rattle.model.specs.Node.{invalid, Node}
@@ -40,19 +40,12 @@ module _ (g : Graph) (bs : List ℕ) (ok : Encodable g) (whole : length bs ≡ a
 
   state-valid : stateValid arena ≡ true
   state-valid =
-      rw (ordered-encode g bs ok whole, finalized-encode g bs ok whole, shallow-encode g bs ok whole, counted)
-      (rw (bit-small (g .ordered), bit-small (g .finalized), bit-small (g .shallow), final (g .finalized) refl)
-      (empty (eqb (size g) 0) refl))
+      rw (ordered-encode g bs ok whole, finalized-encode g bs ok whole, shallow-encode g bs ok whole)
+      (rw (bit-small (g .ordered), bit-small (g .finalized), bit-small (g .shallow)) (final (g .finalized) refl))
     where
       final : (t : Bool) → g .finalized ≡ t → (eqb (bit t) 0 || (eqb (bit (g .ordered)) 1 && eqb (bit (g .shallow)) 0)) ≡ true
       final true e = let marks = ok .final e in rw (marks .0, marks .1)
       final false e = refl
-
-      empty : (t : Bool) → eqb (size g) 0 ≡ t → (not t || (eqb (bit (g .ordered)) 0 && eqb (bit (g .shallow)) 0)) ≡ true
-      empty true e =
-          let marks = ok .empty-unmarked (eqb-true (size g) 0 e) in
-          rw (marks .0, marks .1)
-      empty false e = refl
 
   -- ---- A node
 

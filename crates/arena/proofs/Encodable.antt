@@ -1,6 +1,6 @@
 -- What `encode` asks of a graph: `Encodable`. Every legal graph whose numbers fit their widths is
--- such, but for an empty one marked shallow: `legal-encodable`; and ordering leaves such a graph
--- such: `ordered-encodable`. Assumes nothing.
+-- such: `legal-encodable`; and ordering leaves such a graph such: `ordered-encodable`. Assumes
+-- nothing.
 use mathlib.Core.Path.{_≡_, refl}
 use mathlib.Core.Bool.{Bool, true, false, false≢true}
 use mathlib.Core.List.{List, [], _∷_}
@@ -22,18 +22,16 @@ abbrev pub unordered : Graph → Graph
 unordered g = record { nodes = g .nodes; children = g .children; order = []; ordered = false; finalized = false; shallow = g .shallow }
 
 -- What question 2 asks of a graph: all that is legal but how its order came about ("A room may pass
--- with an order never computed"); that each number fits its width; and that an empty graph has no
--- mark, which `Legal` leaves open for shallow.
+-- with an order never computed"); and that each number fits its width.
 pub record Encodable (g : Graph) : Type 0 where
   pub legal : Legal (unordered g)
   pub fit : NodesFit (g .nodes)
   pub final : g .finalized ≡ true → (g .ordered ≡ true) × (g .shallow ≡ false)
   pub no-order : g .ordered ≡ false → g .order ≡ []
   pub each-once : g .ordered ≡ true → EachOnce (size g) (g .order)
-  pub empty-unmarked : size g ≡ 0 → (g .ordered ≡ false) × (g .shallow ≡ false)
 
-pub legal-encodable : (g : Graph) → Legal g → NodesFit (g .nodes) → (size g ≡ 0 → g .shallow ≡ false) → Encodable g
-legal-encodable g legal fit empty = record {
+pub legal-encodable : (g : Graph) → Legal g → NodesFit (g .nodes) → Encodable g
+legal-encodable g legal fit = record {
   legal = record {
     lengths = legal .lengths;
     tree = legal .tree;
@@ -55,21 +53,15 @@ legal-encodable g legal fit empty = record {
   no-order = legal .no-order;
   each-once = λ e. let ordered = in-order-ordered g (legal .tree) (legal .in-order e) in
       record { once = ordered .once; nothing-else = ordered .nothing-else };
-  empty-unmarked = λ none. (not-ordered none (g .ordered) refl, empty none);
 }
-  where
-    not-ordered : size g ≡ 0 → (t : Bool) → g .ordered ≡ t → t ≡ false
-    not-ordered none true e = absurd (omega (arith, legal .in-order e .some-node))
-    not-ordered none false e = refl
 
 pub empty-encodable : Encodable emptyGraph
-empty-encodable = legal-encodable emptyGraph empty-legal tt (λ e. refl)
+empty-encodable = legal-encodable emptyGraph empty-legal tt
 
 -- ordering does not look at the order there was
-pub ordered-encodable : (g : Graph) → Encodable g → 0 < size g → hasOrder g ≡ true → Encodable (ordering g)
+pub ordered-encodable : (g : Graph) → Encodable g → hasOrder g ≡ true → Encodable (ordering g)
 unfolding ordering hasOrder isStronger
-ordered-encodable g ok some-node e =
-    legal-encodable (ordering g) (ordered-legal (unordered g) some-node e (ok .legal)) (ok .fit) (λ none. absurd (omega arith))
+ordered-encodable g ok e = legal-encodable (ordering g) (ordered-legal (unordered g) e (ok .legal)) (ok .fit)
 
 -- ---- What follows
 

@@ -37,7 +37,6 @@ pub record Held (bs : List ℕ) : Type 0 where
   pub finalized-bit : finalizedIn bs ≤ 1
   pub shallow-bit : shallowIn bs ≤ 1
   pub final : finalizedIn bs ≡ 1 → (orderedIn bs ≡ 1) × (shallowIn bs ≡ 0)
-  pub empty-unmarked : countIn bs ≡ 0 → (orderedIn bs ≡ 0) × (shallowIn bs ≡ 0)
   pub node : (n : ℕ) → n < countIn bs → HeldNode bs n
   pub records : Grows (nodesIn bs)
   pub local-root : 0 < countIn bs → localRootIn bs ≡ localRootOf (nodesIn bs)
@@ -87,10 +86,6 @@ module _ (bs : List ℕ) (e : holdsGraph bs ≡ true) where
         (or-second (eqb (finalizedIn bs) 0) (eqb (orderedIn bs) 1 && eqb (shallowIn bs) 0) (search (and-first, and-second))
         (ne-eqb (finalizedIn bs) 0 (λ z. omega arith))) in
         (eqb-true (orderedIn bs) 1 (both .0), eqb-true (shallowIn bs) 0 (both .1));
-    empty-unmarked = λ none. let both = and-eq-true-iff (eqb (orderedIn bs) 0) (eqb (shallowIn bs) 0) .0
-        (or-second (not (eqb (countIn bs) 0)) (eqb (orderedIn bs) 0 && eqb (shallowIn bs) 0) (search (and-first, and-second))
-        (rw (eq-eqb (countIn bs) 0 none))) in
-        (eqb-true (orderedIn bs) 0 (both .0), eqb-true (shallowIn bs) 0 (both .1));
     node = λ n h. held-node bs n (all-below (nodeValid bs) (countIn bs) .0 (search (and-first, and-second)) n h);
     records = accepted-grows emptyGraph (nodesIn bs) (search (and-first, and-second));
     local-root = λ some-node. eqb-true (localRootIn bs) (localRootOf (nodesIn bs))

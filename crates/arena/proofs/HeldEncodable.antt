@@ -6,7 +6,7 @@ use mathlib.Core.Bool.{Bool, true, false, false≢true}
 use mathlib.Core.List.{List, []}
 use Prim.Native.Nat.{ℕ, zero, suc, _+_, _≤_, _<_}
 use native.Mathlib.Omega.{arith}
-use lib.Dec.{eqb, ltb}
+use lib.Dec.{ltb}
 use lib.ListN.{length, List·getD-eq-default}
 use borrow.Author.Tests.{eqb-true, eq-eqb, ne-eqb, ltb-true, ltb-false, lt-ltb}
 use Rattle.model.specs.Lists.{count}
@@ -29,9 +29,6 @@ use Rattle.arena.proofs.ArenaBack.{size-decode, node-decode, lists-deco
 tabulate-fits : (f : ℕ → Node) (at n : ℕ) → ((i : ℕ) → at ≤ i → i < at + n → FieldsFit (f i)) → NodesFit (tabulate f at n)
 tabulate-fits f at zero h = tt
 tabulate-fits f at (suc n) h = (h at (omega arith) (omega arith), tabulate-fits f (suc at) n (λ i l u. h i (omega arith) (omega arith)))
-
-no-mark : (m : ℕ) → m ≡ 0 → eqb m 1 ≡ false
-no-mark m e = ne-eqb m 1 (λ q. omega arith)
 
 module _ (bs : List ℕ) (held : Held bs) where
   parent-decode : (n : ℕ) → n < countIn bs → nodeAt (decode bs .nodes) n .parent ≡ nodeIn bs n .parent
@@ -127,9 +124,7 @@ held-encodable bs bytes whole e =
       legal = unordered-legal bs facts;
       fit = tabulate-fits (nodeIn bs) 0 (countIn bs) (λ i l h. node-fits bs bytes whole facts i (omega arith));
       final = λ f. let marks = facts .final (eqb-true (finalizedIn bs) 1 f) in
-          (eq-eqb (orderedIn bs) 1 (marks .0), no-mark (shallowIn bs) (marks .1));
+          (eq-eqb (orderedIn bs) 1 (marks .0), ne-eqb (shallowIn bs) 1 (λ q. omega (arith, marks .1)));
       no-order = λ o. rw o;
       each-once = order-held bs facts;
-      empty-unmarked = λ none. let marks = facts .empty-unmarked (sym (size-decode bs facts) ∙ none) in
-          (no-mark (orderedIn bs) (marks .0), no-mark (shallowIn bs) (marks .1));
     }

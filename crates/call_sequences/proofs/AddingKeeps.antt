@@ -50,8 +50,7 @@ module _ (g : Graph) (x : Node) (ok : Encodable g) (fit : NumbersFit x) where
 
   more-encodable : Legal (unordered (withNode g x)) → Encodable (withNode g x)
   unfolding withNode
-  more-encodable legal =
-      legal-encodable (withNode g x) legal (legal-fits (withNode g x) legal numbers-more) (λ none. absurd (omega (arith, size-with-node g x)))
+  more-encodable legal = legal-encodable (withNode g x) legal (legal-fits (withNode g x) legal numbers-more)
 
 -- ---- Starting
 

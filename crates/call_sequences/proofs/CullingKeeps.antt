@@ -1,6 +1,6 @@
 -- Culling leaves a graph encodable: it sets a flag where the flag was clear, and keeps all else
 -- (`culling-keeps`). Assumes nothing.
-use mathlib.Core.Path.{_≡_, refl, sym, _∙_}
+use mathlib.Core.Path.{_≡_, refl}
 use mathlib.Core.Bool.{Bool, true, false, cond}
 use mathlib.Core.List.{List, [], _∷_}
 use Prim.Native.Nat.{ℕ, zero, suc, _+_, _-_, _/_, _%_, _<_}
@@ -70,9 +70,9 @@ module _ (g : Graph) (ok : Encodable g) where
   same-size = culling-only-culls g .same-length
 
   marks : (after .finalized ≡ true → (after .ordered ≡ true) × (after .shallow ≡ false)) × (after .ordered ≡ false → after .order ≡ [])
-      × (after .ordered ≡ true → EachOnce (size g) (after .order)) × (size g ≡ 0 → (after .ordered ≡ false) × (after .shallow ≡ false))
+      × (after .ordered ≡ true → EachOnce (size g) (after .order))
   unfolding cullSubtreesWithoutOpinions
-  marks = (ok .final, ok .no-order, ok .each-once, ok .empty-unmarked)
+  marks = (ok .final, ok .no-order, ok .each-once)
 
   culled-encodable : Legal (unordered after) → Encodable after
   culled-encodable legal = record {
@@ -81,7 +81,6 @@ module _ (g : Graph) (ok : Encodable g) where
     final = marks .0;
     no-order = marks .1;
     each-once = λ e. rw same-size (marks .2 e);
-    empty-unmarked = λ none. marks .3 (sym same-size ∙ none);
   }
 
 pub culling-keeps : (g : Graph) → Encodable g → Keeps g (cull g)

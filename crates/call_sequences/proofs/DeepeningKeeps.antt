@@ -1,7 +1,7 @@
 -- Deepening leaves a graph encodable, in its own arena (`deepening-keeps`) or in a second
 -- (`seeding-leaves`): a path with a name appended is of bytes, and the order stays where it is
 -- finalized and goes where it is not. Assumes nothing.
-use mathlib.Core.Path.{_≡_, refl, sym, _∙_}
+use mathlib.Core.Path.{_≡_, refl, sym}
 use mathlib.Core.Bool.{Bool, true, false, _||_, _&&_, cond, and-eq-true-iff, true≢false}
 use mathlib.Core.List.{List, [], _∷_, _++_}
 use Prim.Native.Nat.{ℕ, _<_}
@@ -65,23 +65,20 @@ module _ (name : List ℕ) (bytes : Bytes name) (g : Graph) (ok : Encodable g) w
   -- an order that stays is a finalized one
   kept-order : (f : Bool) → g .finalized ≡ f → (f ≡ true → (g .ordered && f ≡ true) × (g .shallow ≡ false))
       × (g .ordered && f ≡ false → cond f (g .order) [] ≡ []) × (g .ordered && f ≡ true → EachOnce (size g) (cond f (g .order) []))
-      × (size g ≡ 0 → (g .ordered && f ≡ false) × (g .shallow ≡ false))
   kept-order true e =
       let marks = ok .final e in (
         λ f. (rw (marks .0), marks .1),
         λ o. absurd (true≢false (rw (marks .0) at o)),
         λ o. ok .each-once (marks .0),
-        λ none. absurd (true≢false (sym (marks .0) ∙ ok .empty-unmarked none .0)),
       )
   kept-order false e = (
     λ f. absurd (true≢false (sym f)),
     λ o. refl,
     λ o. absurd (true≢false (sym (and-eq-true-iff (g .ordered) false .0 o .1))),
-    λ none. (rw (ok .empty-unmarked none .0), ok .empty-unmarked none .1),
   )
 
   marks-after : (after .finalized ≡ true → (after .ordered ≡ true) × (after .shallow ≡ false)) × (after .ordered ≡ false → after .order ≡ [])
-      × (after .ordered ≡ true → EachOnce (size g) (after .order)) × (size g ≡ 0 → (after .ordered ≡ false) × (after .shallow ≡ false))
+      × (after .ordered ≡ true → EachOnce (size g) (after .order))
   unfolding deepen
   marks-after = kept-order (g .finalized) refl
 
@@ -92,7 +89,6 @@ module _ (name : List ℕ) (bytes : Bytes name) (g : Graph) (ok : Encodable g) w
     final = marks-after .0;
     no-order = marks-after .1;
     each-once = λ e. rw (size-deepened name g) (marks-after .2 e);
-    empty-unmarked = λ none. marks-after .3 (sym (size-deepened name g) ∙ none);
   }
 
 module _ (child : List ℕ) (bytes : Bytes child) where

@@ -1,9 +1,10 @@
 -- Ten calls, two of them refused, run by computation at the graph; and of every arena without a
--- node, that it holds this graph after them (`ten-arena`). It is ordered, finalized and has a node
--- to erase, so every clause of demand 3 says something of it. An arena that its snapshot is read
--- into and one that is seeded from it are starts (`ten-read`, `ten-seeded`). Assumes nothing.
+-- node that is not marked shallow, that it holds this graph after them (`ten-arena`). It is
+-- ordered, finalized and has a node to erase, so every clause of demand 3 says something of it. An
+-- arena that its snapshot is read into and one that is seeded from it are starts (`ten-read`,
+-- `ten-seeded`). Assumes nothing.
 use mathlib.Core.Path.{_≡_, refl, sym, ap, subst, _∙_}
-use mathlib.Core.Bool.{true, false}
+use mathlib.Core.Bool.{Bool, true, false}
 use mathlib.Core.List.{List, [], _∷_, map}
 use Prim.Native.Nat.{ℕ, _<_}
 use native.Mathlib.Omega.{arith}
@@ -100,12 +101,16 @@ record TenCalls (g : Graph) : Type 0 where
   pub one-goes : (stays (erasable g) 1 ≡ true) × (stays (erasable g) 2 ≡ false) × (stays (erasable g) 3 ≡ true) × (stays (erasable g) 4 ≡ true)
   pub order-left : map (newNumber (stays (erasable g))) (filter (stays (erasable g)) (g .order)) ≡ 0 ∷ 1 ∷ 3 ∷ 2 ∷ []
 
-ten-graph : TenCalls (graphSteps ten emptyGraph)
+-- no node, and not shallow
+abbrev bare : Bool → Bool → Graph
+bare ordered finalized = record { nodes = []; children = []; order = []; ordered = ordered; finalized = finalized; shallow = false }
+
+ten-graph : (ordered finalized : Bool) → TenCalls (graphSteps ten (bare ordered finalized))
 unfolding ten initRoot addChild finalizeStrengthOrder cull eraseSet canErase appendChildName readInto readSnapshot withNode wellFormed primCount isNameStart isWordByte
     beforeName nameStart lastName endsInName separator appendName pathAtIntroDepth depthBelowIntroduction pathAtIntroduction isLocalRoot
     inLocalStack smaller plainLines siblingLines nodesBy compareSiblingNodeStrength hasOrder order.ordering isStronger keepsInherit canCull
     cullSubtreesWithoutOpinions isMarked isErasable erasable deepen
-ten-graph = record {
+ten-graph ordered finalized = record {
   some-node = omega arith;
   ordered = refl;
   finalized = refl;
@@ -114,23 +119,40 @@ ten-graph = record {
   order-left = refl;
 }
 
-seed-accepted : seedChild (bytes "/c") (graphSteps ten emptyGraph) emptyGraph .refused ≡ 0
+seed-accepted : (ordered finalized : Bool) → seedChild (bytes "/c") (graphSteps ten (bare ordered finalized)) emptyGraph .refused ≡ 0
 unfolding ten initRoot addChild finalizeStrengthOrder cull eraseSet canErase appendChildName seedChild readInto readSnapshot withNode wellFormed primCount isNameStart
     isWordByte beforeName nameStart lastName endsInName separator appendName pathAtIntroDepth depthBelowIntroduction pathAtIntroduction
     isLocalRoot inLocalStack smaller plainLines siblingLines nodesBy compareSiblingNodeStrength hasOrder order.ordering isStronger keepsInherit
     canCull cullSubtreesWithoutOpinions deepen
-seed-accepted = refl
+seed-accepted ordered finalized = refl
 
 -- ---- The arena after them, and demand 3 of it
 
-module _ (bs : List ℕ) (lent : Lent bs) (holds : holdsGraph bs ≡ true) (none : countIn bs ≡ 0) where
-  after : ArenaOf (graphSteps ten emptyGraph) (steps ten bs)
-  after =
-      let arena : Arena bs = record { bytes = lent .bytes; opened = record { whole = lent .whole; holds = holds } } in
-      subst (λ (g : Graph). ArenaOf (graphSteps ten g) (steps ten bs)) (no-node bs arena none) (steps-arena ten bs arena)
+-- from an empty arena that is not marked shallow; the other marks go where node 0 is made
+module _ (bs : List ℕ) (lent : Lent bs) (holds : holdsGraph bs ≡ true) (none : countIn bs ≡ 0) (deep : decode bs .shallow ≡ false) where
+  arena : Arena bs
+  arena = record { bytes = lent .bytes; opened = record { whole = lent .whole; holds = holds } }
+
+  abbrev start : Graph
+  start = bare (decode bs .ordered) (decode bs .finalized)
+
+  start-bare : decode bs ≡ start
+  start-bare =
+      let held = no-node bs arena none in
+      λ i. record {
+        nodes = held .no-nodes i;
+        children = held .no-children i;
+        order = held .no-order i;
+        ordered = decode bs .ordered;
+        finalized = decode bs .finalized;
+        shallow = deep i;
+      }
+
+  after : ArenaOf (graphSteps ten start) (steps ten bs)
+  after = subst (λ (g : Graph). ArenaOf (graphSteps ten g) (steps ten bs)) start-bare (steps-arena ten bs arena)
 
   ten-arena : TenCalls (decode (steps ten bs))
-  ten-arena = subst TenCalls (sym (after .graph)) ten-graph
+  ten-arena = subst TenCalls (sym (after .graph)) (ten-graph (decode bs .ordered) (decode bs .finalized))
 
   ten-demand : Demand3 (steps ten bs)
   ten-demand = demand3 bs (empty lent holds none) ten
@@ -165,4 +187,4 @@ module _ (bs : List ℕ) (lent : Lent bs) (holds : holdsGraph bs ≡ true) (none
     ten-seeded =
         seeded bs ten child into (empty lent holds none) room
         (ap (λ (o : Outcome). o .refused) (seed-whole child (steps ten bs) into (after .arena .opened) (room .whole))
-        ∙ ap (λ (g : Graph). seedChild (bytes "/c") g emptyGraph .refused) (after .graph) ∙ seed-accepted) refl
+        ∙ ap (λ (g : Graph). seedChild (bytes "/c") g emptyGraph .refused) (after .graph) ∙ seed-accepted (decode bs .ordered) (decode bs .finalized)) refl

@@ -2,7 +2,7 @@
 -- graph (ReachedArenas.antt), so each clause holds of it (laws/proofs/GraphDemand3Proof.antt); and
 -- each call that a clause names leaves the graph that it is there. Assumes nothing.
 use mathlib.Core.Path.{_≡_, refl, sym, ap, subst, _∙_}
-use mathlib.Core.Bool.{Bool, true, false, cond, true≢false, or-true}
+use mathlib.Core.Bool.{Bool, true, false, cond, or-true}
 use mathlib.Core.List.{List}
 use Prim.Native.Nat.{ℕ, zero, suc, _<_}
 use native.Mathlib.Omega.{arith}
@@ -20,26 +20,19 @@ use Rattle.laws.specs.GraphDemand3 as graphs
 use Rattle.laws.proofs.BigEndianLaws.{Bytes}
 use Rattle.laws.proofs.ArenaCallLaws.{on-opened}
 use Rattle.laws.proofs.EraseSets.{erasable-length}
-use Rattle.laws.proofs.GraphDemand3Proof.{legal-meets-demand}
+use Rattle.laws.proofs.GraphDemand3Proof.{some-node-rests, legal-meets-demand}
 use Rattle.arena.proofs.ArenaBack.{encode-decode}
 use Rattle.erasing.specs.Erasures.{eraseIn}
-use Rattle.call_sequences.proofs.KeepEncodable.{Arena, arena-encodable, ArenaOf, call-arena}
+use Rattle.call_sequences.proofs.KeepEncodable.{Arena, ArenaOf, call-arena}
 use Rattle.call_sequences.specs.Demand3.{ordering, outcome, steps, Start, empty, erasingAll, rest, AfreshBytes, Demand3, Demand3AfterEveryList}
 use Rattle.call_sequences.proofs.ReachedArenas.{Reached, start-reached, steps-reached}
 
 -- ---- Ordering afresh
 
 -- an arena whose graph comes out of ordering as it is
-module _ (bs : List ℕ) (a : Arena bs) (ordered : decode bs .ordered ≡ true) (afresh : Afresh (decode bs)) where
+module _ (bs : List ℕ) (a : Arena bs) (some-node : 0 < size (decode bs)) (afresh : Afresh (decode bs)) where
   abbrev graph : Graph
   graph = decode bs
-
-  some-node : 0 < size graph
-  some-node = go (size graph) refl
-    where
-      go : (n : ℕ) → size graph ≡ n → 0 < n
-      go zero none = absurd (true≢false (sym ordered ∙ arena-encodable bs a .empty-unmarked none .0))
-      go (suc n) some = omega arith
 
   -- a finalized graph is left, another is ordered
   comes-to : outcome ordering bs ≡ record { refused = 0; value = 0; graph = graph }
@@ -91,7 +84,7 @@ module _ (bs : List ℕ) (r : Reached bs) where
     listed = met .listed;
     erased = reached-erased;
     afresh = λ some e.
-        let erased = reached-erased some in bytes-stand (rest bs) (rest-arena .arena) (erased .list-stands e .0) (erased .afresh e);
+        bytes-stand (rest bs) (rest-arena .arena) (rw (rest-arena .graph) (some-node-rests g (r .legal) some)) (reached-erased some .afresh e);
     deepened = λ e child.
         rw (call-arena (calls.deepening (child .bytes)) bs (child .each) (r .arena) .graph) (met .deepened e (child .bytes));
   }

@@ -5,8 +5,6 @@ use mathlib.Core.Path.{_≡_, refl, sym, ap, subst, _∙_}
 use mathlib.Core.Bool.{Bool, true}
 use mathlib.Core.List.{List, [], _∷_, map}
 use Prim.Native.Nat.{ℕ, _<_}
-use native.Mathlib.Omega.{arith}
-use borrow.Author.Tests.{ltb-true}
 use Rattle.model.specs.Lists.{count, filter}
 use Rattle.model.specs.Node.{Node}
 use Rattle.model.specs.Graph.{Graph, size, nodeAt}
@@ -15,12 +13,10 @@ use Rattle.model.specs.Refusals.{ask}
 use Rattle.model.specs.Calls.{hasNodeZero, eraseSet}
 use Rattle.laws.proofs.ListLaws.{all-imp, all-map, all-filter}
 use Rattle.laws.proofs.LengthLaws.{EachOnce}
-use Rattle.laws.proofs.EraseSets.{can-erase-iff}
 use Rattle.laws.proofs.EraseLists.{new-number-grows, at-new-numbers, count-kept}
 use Rattle.laws.proofs.EraseLaws.{size-erased, node-erased, order-erased, marks-erased}
 use Rattle.laws.proofs.LegalGraphs.{Legal}
 use Rattle.laws.proofs.LegalErased.{erasing-keeps-legal}
-use Rattle.laws.proofs.AcceptedQuestions.{Accepted}
 use Rattle.arena.proofs.Encodable.{unordered, Encodable}
 use Rattle.child_lists.proofs.AppendEncodable.{NumbersFit}
 use Rattle.call_sequences.proofs.KeptFits.{fit-numbers, legal-fits, Keeps, decided-encodable}
@@ -50,7 +46,7 @@ numbers-renumbered kept n x fit = record {
   path-bytes = fit .path-bytes;
 }
 
-module _ (kept : ℕ → Bool) (g : Graph) (ok : Encodable g) (some-node : 0 < size g) (node0 : kept 0 ≡ true) where
+module _ (kept : ℕ → Bool) (g : Graph) (ok : Encodable g) where
   numbers-erased : (n : ℕ) → n < size (eraseBy kept g) → NumbersFit (nodeAt (eraseBy kept g .nodes) n)
   numbers-erased n h =
       at-new-numbers kept (λ n. NumbersFit (nodeAt (eraseBy kept g .nodes) n)) (size g)
@@ -64,20 +60,13 @@ module _ (kept : ℕ → Bool) (g : Graph) (ok : Encodable g) (some-node : 0 < s
     final = λ e. let both = ok .final (sym (marks .1) ∙ e) in (marks .0 ∙ both .0, marks .2 ∙ both .1);
     no-order = λ e. order-erased kept g ∙ ap (λ (l : List ℕ). map (newNumber kept) (filter kept l)) (ok .no-order (sym (marks .0) ∙ e));
     each-once = λ e. rw (size-erased kept g, order-erased kept g) (erased-once kept (size g) (g .order) (ok .each-once (sym (marks .0) ∙ e)));
-    empty-unmarked = λ none. absurd (omega (arith, size-erased kept g, new-number-grows kept 0 (size g) node0 some-node));
   }
     where
       marks : (eraseBy kept g .ordered ≡ g .ordered) × (eraseBy kept g .finalized ≡ g .finalized) × (eraseBy kept g .shallow ≡ g .shallow)
       marks = marks-erased kept g
 
--- node 0 has arc Root, so a set that is accepted spares it
-spares-node-0 : (bytes : List ℕ) (g : Graph) → Encodable g → Accepted (hasNodeZero g ∷ ask 11 (canErase g bytes) ∷ []) → stays bytes 0 ≡ true
-spares-node-0 bytes g ok a =
-    can-erase-iff g bytes (ok .legal .node-0 (ltb-true 0 (size g) (a 3)) .arc) .0 (a 11) .1 .node0
-
 pub erasing-keeps : (bytes : List ℕ) (g : Graph) → Encodable g → Keeps g (eraseSet bytes g)
 unfolding eraseSet eraseBy canErase
 erasing-keeps bytes g ok =
     decided-encodable (hasNodeZero g ∷ ask 11 (canErase g bytes) ∷ []) g (newNumber (stays bytes) (size g)) (erase bytes g) refl
-    (erasing-keeps-legal bytes (unordered g) (ok .legal))
-    (λ a. erased-encodable (stays bytes) g ok (ltb-true 0 (size g) (a 3)) (spares-node-0 bytes g ok a)) ok
+    (erasing-keeps-legal bytes (unordered g) (ok .legal)) (λ a. erased-encodable (stays bytes) g ok) ok

@@ -3,9 +3,7 @@
 use mathlib.Core.Path.{_≡_, refl}
 use mathlib.Core.Bool.{Bool, true, false, _||_, cond}
 use mathlib.Core.List.{[], _∷_}
-use Prim.Native.Nat.{_<_}
-use borrow.Author.Tests.{ltb-true}
-use Rattle.model.specs.Graph.{Graph, size}
+use Rattle.model.specs.Graph.{Graph}
 use Rattle.model.specs.Order.{hasOrder, ordering}
 use Rattle.model.specs.Refusals.{ask}
 use Rattle.model.specs.Calls.{hasNodeZero, finalizeStrengthOrder}
@@ -18,8 +16,8 @@ unfolding finalizeStrengthOrder ordering
 ordering-keeps g ok =
     decided-keeps (hasNodeZero g ∷ ask 9 (g .finalized || hasOrder g) ∷ []) g 0 (cond (g .finalized) g (ordering g))
     (λ e. let a = none-refused-accepted (hasNodeZero g ∷ ask 9 (g .finalized || hasOrder g) ∷ []) refl e in
-    go (g .finalized) (ltb-true 0 (size g) (a 3)) (a 9)) ok
+    go (g .finalized) (a 9)) ok
   where
-    go : (b : Bool) → 0 < size g → (b || hasOrder g) ≡ true → Encodable (cond b g (ordering g))
-    go true some-node e = ok
-    go false some-node e = ordered-encodable g ok some-node e
+    go : (b : Bool) → (b || hasOrder g) ≡ true → Encodable (cond b g (ordering g))
+    go true e = ok
+    go false e = ordered-encodable g ok e

@@ -2,16 +2,18 @@
 -- start is such (`start-reached`), and every list of calls leaves such (`steps-reached`). Assumes
 -- nothing.
 use mathlib.Core.Path.{_≡_, refl, sym, ap, subst, _∙_}
-use mathlib.Core.Bool.{Bool, true, false, cond, false≢true}
+use mathlib.Core.Bool.{Bool, true, false, cond}
 use mathlib.Core.List.{List, [], _∷_}
 use Prim.Native.Nat.{ℕ}
+use lib.Dec.{eqb}
 use lib.ListN.{length}
 use borrow.Author.Tests.{eq-eqb}
 use Rattle.model.specs.Graph.{Graph, emptyGraph}
 use Rattle.model.specs.Calls.{Outcome, call, readInto, seedChild}
-use Rattle.model.specs.Arena.{arenaBytes, countIn, tabulate, nodeIn, childrenIn, decode, encode}
+use Rattle.model.specs.Arena.{arenaBytes, countIn, orderedIn, orderEntryIn, tabulate, nodeIn, childrenIn, decode, encode}
 use Rattle.model.specs.ArenaCalls.{ValidArena, arenaAfter}
-use Rattle.laws.proofs.LegalGraphs.{Legal, empty-legal}
+use Rattle.laws.specs.GraphDemand3.{Empty}
+use Rattle.laws.proofs.LegalGraphs.{Legal, empties-legal}
 use Rattle.laws.proofs.LegalAlike.{seeding-legal}
 use Rattle.laws.proofs.CallsKeepLegal.{reading-legal, call-keeps-legal}
 use Rattle.arena.proofs.Encodable.{Encodable}
@@ -48,28 +50,19 @@ steps-reached cs bs r =
 
 -- ---- The starts
 
--- no node, so no child list, no order and no mark
-pub no-node : (bs : List ℕ) → Arena bs → countIn bs ≡ 0 → decode bs ≡ emptyGraph
+-- no node, so no child list and no order
+pub no-node : (bs : List ℕ) → Arena bs → countIn bs ≡ 0 → Empty (decode bs)
 unfolding decode
-no-node bs a none =
-    λ i. record {
-      nodes = tabulate (nodeIn bs) 0 (none i);
-      children = tabulate (childrenIn bs) 0 (none i);
-      order = ok .no-order (unmarked .0) i;
-      ordered = unmarked .0 i;
-      finalized = not-finalized (decode bs .finalized) refl i;
-      shallow = unmarked .1 i;
-    }
+no-node bs a none = record {
+  no-nodes = ap (tabulate (nodeIn bs) 0) none;
+  no-children = ap (tabulate (childrenIn bs) 0) none;
+  no-order = go (eqb (orderedIn bs) 1);
+  final = arena-encodable bs a .final;
+}
   where
-    ok : Encodable (decode bs)
-    ok = arena-encodable bs a
-
-    unmarked : (decode bs .ordered ≡ false) × (decode bs .shallow ≡ false)
-    unmarked = ok .empty-unmarked (ap (λ (n : ℕ). length (tabulate (nodeIn bs) 0 n)) none)
-
-    not-finalized : (t : Bool) → decode bs .finalized ≡ t → t ≡ false
-    not-finalized true e = absurd (false≢true (sym (unmarked .0) ∙ ok .final e .0))
-    not-finalized false e = refl
+    go : (t : Bool) → cond t (tabulate (orderEntryIn bs) 0 (countIn bs)) [] ≡ []
+    go true = ap (tabulate (orderEntryIn bs) 0) none
+    go false = refl
 
 pub seed-whole : (child : Slice) (from into : List ℕ) → ValidArena from → length into ≡ arenaBytes
     → seeding child from into ≡ seedChild (child .bytes) (decode from) emptyGraph
@@ -105,8 +98,7 @@ seed-reached child from into r lent accepted =
     ))
 
 empty-reached : (bs : List ℕ) → Arena bs → countIn bs ≡ 0 → Reached bs
-empty-reached bs a none =
-    holds-reached emptyGraph bs (record { arena = a; graph = no-node bs a none }) empty-legal
+empty-reached bs a none = record { arena = a; legal = empties-legal (decode bs) (no-node bs a none) }
 
 pub start-reached : (bs : List ℕ) → Start bs → Reached bs
 start-reached bs (empty lent holds none) =

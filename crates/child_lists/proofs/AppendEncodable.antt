@@ -15,7 +15,6 @@ use Rattle.model.specs.Arena.{arenaBytes, decode, encode, holdsGraph}
 use Rattle.laws.proofs.PathGrammar.{Grammar, well-formed-decides}
 use Rattle.laws.proofs.BigEndianLaws.{Bytes}
 use Rattle.laws.proofs.SnapshotLaws.{FieldsFit, NodesFit}
-use Rattle.laws.proofs.Trees.{size-with-node}
 use Rattle.laws.proofs.AcceptedQuestions.{none-refused-accepted}
 use Rattle.laws.proofs.LegalGraphs.{LegalNode}
 use Rattle.laws.proofs.LegalAdded.{Addable, node-more-keeps-legal, read-addable}
@@ -84,7 +83,7 @@ unfolding withNode
 append-encodable g x ok fits accepted =
     legal-encodable (withNode g x)
     (node-more-keeps-legal (unordered g) x (ok .legal) (accepted-addable (unordered g) x accepted))
-    (fit-append (g .nodes) x (ok .fit) fits) (λ none. absurd (omega (arith, size-with-node g x)))
+    (fit-append (g .nodes) x (ok .fit) fits)
 
 -- the arena with the node more: it holds a graph, that of before with the node
 pub append-holds : (bs : List ℕ) (x : Node) → Bytes bs → length bs ≡ arenaBytes → holdsGraph bs ≡ true

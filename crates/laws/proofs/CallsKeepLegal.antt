@@ -9,7 +9,7 @@ use native.Mathlib.Omega.{arith}
 use Rattle.model.specs.Graph.{Graph}
 use Rattle.model.specs.Calls.{Call, starting, adding, orders, culls, erasing, deepening, reading, marking, settingFirstSpec, settingHasSpecs, settingRestriction, call, calls, readInto}
 use Rattle.laws.specs.GraphDemand3.{Start, empty, read, seeded}
-use Rattle.laws.proofs.LegalGraphs.{Legal, empty-legal}
+use Rattle.laws.proofs.LegalGraphs.{Legal, empties-legal}
 use Rattle.laws.proofs.LegalAdded.{LegalOrRefused, starting-keeps-legal, adding-keeps-legal, reading-legal-or-refused}
 use Rattle.laws.proofs.LegalAlike.{ordering-keeps-legal, culling-keeps-legal, deepening-keeps-legal, seeding-legal}
 use Rattle.laws.proofs.LegalSet.{marking-keeps-legal, first-spec-keeps-legal, has-specs-keeps-legal, restriction-keeps-legal}
@@ -51,7 +51,7 @@ calls-keep-legal [] g legal = legal
 calls-keep-legal (c ∷ cs) g legal = calls-keep-legal cs (call c g .graph) (call-keeps-legal c g legal)
 
 pub start-legal : (g : Graph) → Start g → Legal g
-start-legal g (empty e) = rw e empty-legal
+start-legal g (empty e) = empties-legal g e
 start-legal g (read bytes old accepted e) = rw e (reading-legal bytes old accepted)
 start-legal g (seeded from into cs child start accepted e) =
     rw e (seeding-legal child (calls cs from) into (calls-keep-legal cs from (start-legal from start)) accepted)

@@ -1,7 +1,8 @@
 -- A list of calls whose graph meets every hypothesis of demand 3, by computation: it is ordered,
--- finalized, and has a node to erase. Then a start by reading and one by seeding. Assumes nothing.
+-- finalized, and has a node to erase. Then a start by reading, one by seeding, and an empty one
+-- with marks. Assumes nothing.
 use mathlib.Core.Path.{_≡_, refl}
-use mathlib.Core.Bool.{true, false}
+use mathlib.Core.Bool.{true, false, false≢true}
 use mathlib.Core.Option.{Option, none, some}
 use mathlib.Core.List.{List, [], _∷_}
 use Prim.Native.Nat.{ℕ, _<_}
@@ -21,7 +22,8 @@ use Rattle.model.specs.Calls.{Call, starting, adding, orders, culls, deepening,
 use Rattle.model.proofs.Text.{bytes}
 use Rattle.model.proofs.ExampleGraphs.{sampleNode}
 use Rattle.laws.specs.Demand3Clauses.{Listed, kept, Erased, Deepened}
-use Rattle.laws.specs.GraphDemand3.{erasingAll, rest, Demand3, empty, read, seeded}
+use Rattle.laws.specs.GraphDemand3.{erasingAll, rest, Demand3, Empty, empty, read, seeded}
+use Rattle.laws.proofs.LegalGraphs.{empty-marked}
 use Rattle.laws.proofs.GraphDemand3Proof.{demand3}
 
 -- a node of stack 0 without flags, with its parent for origin; `invalid` for no parent
@@ -79,7 +81,7 @@ example-meets = record {
 -- ---- Demand 3 of it
 
 example-demand : Demand3 example
-example-demand = demand3 emptyGraph (empty refl) grown
+example-demand = demand3 emptyGraph (empty empty-marked) grown
 
 example-listed : Listed example
 example-listed = example-demand .listed (example-meets .ordered)
@@ -118,4 +120,31 @@ read-demand : Demand3 (calls (orders ∷ []) readBack)
 read-demand = demand3 readBack (read (writeSnapshot example) emptyGraph (starts .read-accepted) refl) (orders ∷ [])
 
 seeded-demand : Demand3 seededFrom
-seeded-demand = demand3 seededFrom (seeded emptyGraph emptyGraph grown (bytes "/c") (empty refl) (starts .seed-accepted) refl) []
+seeded-demand = demand3 seededFrom (seeded emptyGraph emptyGraph grown (bytes "/c") (empty empty-marked) (starts .seed-accepted) refl) []
+
+-- ---- An empty start with marks: ordered without being finalized, and shallow, which stays
+
+abbrev marked : Graph
+marked = record { nodes = []; children = []; order = []; ordered = true; finalized = false; shallow = true }
+
+marked-empty : Empty marked
+marked-empty = record { no-nodes = refl; no-children = refl; no-order = refl; final = λ e. absurd (false≢true e) }
+
+abbrev started : List Call
+started = starting 0 0 (bytes "/M") ∷ []
+
+pub record FromMarked : Type 0 where
+  pub refused : call orders marked .refused ≡ 3
+  pub start-keeps-shallow : (calls started marked .ordered ≡ false) × (calls started marked .shallow ≡ true)
+  pub never-finalized : calls (orders ∷ []) (calls started marked) .finalized ≡ false
+  pub ordered : calls (orders ∷ []) (calls started marked) .order ≡ 0 ∷ []
+
+from-marked : FromMarked
+unfolding initRoot finalizeStrengthOrder withNode wellFormed isNameStart isWordByte hasOrder ordering
+from-marked = record { refused = refl; start-keeps-shallow = (refl, refl); never-finalized = refl; ordered = refl }
+
+marked-listed : Listed marked
+marked-listed = demand3 marked (empty marked-empty) [] .listed refl
+
+marked-demand : Demand3 (calls (orders ∷ []) (calls started marked))
+marked-demand = demand3 marked (empty marked-empty) (starting 0 0 (bytes "/M") ∷ orders ∷ [])

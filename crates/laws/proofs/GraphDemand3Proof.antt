@@ -26,7 +26,7 @@ use Rattle.laws.proofs.EraseLaws.{size-erased, node-erased, children-er
 use Rattle.laws.proofs.DeepenLaws.{deepen-looks-like}
 use Rattle.laws.proofs.LegalGraphs.{Legal, legal-reached, roots-unculled}
 use Rattle.laws.proofs.LegalAlike.{deepens-by-name}
-use Rattle.laws.proofs.LegalErased.{erased-legal}
+use Rattle.laws.proofs.LegalErased.{some-node-left, erased-legal}
 use Rattle.laws.proofs.AcceptedQuestions.{Accepted, decided-keeps}
 use Rattle.laws.proofs.CallsKeepLegal.{every-list-legal}
 
@@ -42,9 +42,9 @@ erased-stand kept g spares links lengths = record {
 
 -- ---- "Ordering afresh changes nothing"
 
-legal-afresh : (g : Graph) → Legal g → g .ordered ≡ true → Afresh g
+legal-afresh : (g : Graph) → Legal g → 0 < size g → g .ordered ≡ true → Afresh g
 unfolding ordering
-legal-afresh g legal e =
+legal-afresh g legal some-node e =
     let antisymmetric = stronger-antisymmetric g in
     let same = in-order-afresh g antisymmetric (legal .lengths) (legal .in-order e) in
     record {
@@ -54,7 +54,7 @@ legal-afresh g legal e =
         children = same .0 i;
         order = same .1 i;
         ordered = sym e i;
-        finalized = sym (legal .ordered-final e) i;
+        finalized = sym (legal .ordered-final e some-node) i;
         shallow = g .shallow;
       };
     }
@@ -82,6 +82,9 @@ module _ (g : Graph) (legal : Legal g) where
     rest-erased : rest g ≡ eraseBy (kept g) g
     rest-erased = ap (λ (o : Outcome). o .graph) erasing-all
 
+    pub some-node-rests : 0 < size (rest g)
+    some-node-rests = rw rest-erased (some-node-left (kept g) g legal spares some-node)
+
     -- what goes is erasable
     gone-erasable : (n : ℕ) → n < size g → kept g n ≡ false → isErasable (g .nodes) n ≡ true
     gone-erasable n h k = not-false (isErasable (g .nodes) n) (sym (erasable-stays g (legal .few-nodes) n h) ∙ k)
@@ -98,7 +101,9 @@ module _ (g : Graph) (legal : Legal g) where
       rest-stands = rw rest-erased (erased-stand (kept g) g spares (legal .links) (legal .lengths));
       list-stands = λ e. rw rest-erased (marks-erased (kept g) g .0 ∙ e, order-erased (kept g) g);
       afresh = λ e.
-          rw rest-erased (legal-afresh (eraseBy (kept g) g) (erased-legal (kept g) g legal spares some-node) (marks-erased (kept g) g .0 ∙ e));
+          rw rest-erased
+          (legal-afresh (eraseBy (kept g) g) (erased-legal (kept g) g legal spares some-node) (some-node-left (kept g) g legal spares some-node)
+          (marks-erased (kept g) g .0 ∙ e));
     }
       where
         spared : (goes : ℕ → Bool) → Free g goes → Spared (g .nodes) goes

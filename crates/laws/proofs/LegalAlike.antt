@@ -7,7 +7,7 @@ use Prim.Native.Nat.{ℕ, zero, suc, _≤_, _<_}
 use native.Mathlib.Omega.{arith}
 use lib.Dec.{leb}
 use lib.ListN.{length}
-use borrow.Author.Tests.{ltb-true, leb-true, not-true}
+use borrow.Author.Tests.{leb-true, not-true}
 use Rattle.model.specs.Path.{wellFormed, lastName, endsInName}
 use Rattle.model.specs.Node.{rootArc, Node, isInert, isCulled}
 use Rattle.model.specs.Graph.{Graph, size, nodeAt, childrenOf}
@@ -45,7 +45,6 @@ in-order-alike : (g h : Graph) → Legal g → size h ≡ size g → h .children
     → LooksLike (size g) (λ n. true) (λ n. n) (view (g .nodes)) (view (h .nodes)) → InOrder g → InOrder h
 unfolding isStronger
 in-order-alike g h legal same-size same-children same-order like o = record {
-  some-node = rw same-size (o .some-node);
   sorted = λ v l.
       rw same-children
       (pairs-imp (Child (size g) (view (g .nodes) .parent) v) (λ a b. isStronger g a b ≡ true) (λ a b. isStronger h a b ≡ true)
@@ -56,9 +55,9 @@ in-order-alike g h legal same-size same-children same-order like o = record {
 
 -- ---- Ordering
 
-pub ordered-legal : (g : Graph) → 0 < size g → hasOrder g ≡ true → Legal g → Legal (ordering g)
+pub ordered-legal : (g : Graph) → hasOrder g ≡ true → Legal g → Legal (ordering g)
 unfolding ordering
-ordered-legal g some-node e legal = record {
+ordered-legal g e legal = record {
   lengths = lengths-ordering g (legal .lengths);
   tree = tree-ordering g (legal .tree);
   links = legal .links;
@@ -71,19 +70,19 @@ ordered-legal g some-node e legal = record {
   not-shallow = legal .not-shallow;
   final = λ f. (refl, not-true (g .shallow) f);
   no-order = λ f. absurd (true≢false f);
-  in-order = λ f. ordering-in-order g some-node e;
-  ordered-final = λ f. refl;
+  in-order = λ f. ordering-in-order g e;
+  ordered-final = λ f some. refl;
 }
 
 pub ordering-keeps-legal : (g : Graph) → Legal g → Legal (finalizeStrengthOrder g .graph)
 unfolding finalizeStrengthOrder
 ordering-keeps-legal g legal =
     decided-keeps (hasNodeZero g ∷ ask 9 (g .finalized || hasOrder g) ∷ []) g 0 (cond (g .finalized) g (ordering g)) Legal refl
-    (λ a. go (g .finalized) (ltb-true 0 (size g) (a 3)) (a 9)) legal
+    (λ a. go (g .finalized) (a 9)) legal
   where
-    go : (b : Bool) → 0 < size g → (b || hasOrder g) ≡ true → Legal (cond b g (ordering g))
-    go true some-node e = legal
-    go false some-node e = ordered-legal g some-node e legal
+    go : (b : Bool) → (b || hasOrder g) ≡ true → Legal (cond b g (ordering g))
+    go true e = legal
+    go false e = ordered-legal g e legal
 
 -- ---- Fields that no comparison sees
 
@@ -147,7 +146,8 @@ module _ (g h : Graph) (legal : Legal g) (only : OnlySet g h) where
     in-order = λ e.
         in-order-alike g h legal same-size (only .children) (only .order)
         (rw same-view (looks-like-itself (size g) (view (g .nodes)))) (legal .in-order (sym (only .ordered) ∙ e));
-    ordered-final = λ e. only .finalized ∙ legal .ordered-final (sym (only .ordered) ∙ e) ∙ ap not (sym (only .shallow));
+    ordered-final = λ e some.
+        only .finalized ∙ legal .ordered-final (sym (only .ordered) ∙ e) (rw same-size at some) ∙ ap not (sym (only .shallow));
   }
 
 -- ---- Culling
@@ -233,7 +233,9 @@ module _ (name : List ℕ) (is-name : Name name) (g : Graph) (legal : Legal g) (
         (marks-deepened name g .2 ∙ (rw (both .0, f)), marks-deepened name g .1 ∙ both .1);
     no-order = λ e. marks-deepened name g .3 ∙ no-order (g .finalized) refl (sym (marks-deepened name g .2) ∙ e);
     in-order = λ e. in-order (still-ordered e);
-    ordered-final = λ e. marks-deepened name g .0 ∙ legal .ordered-final (still-ordered e .0) ∙ ap not (sym (marks-deepened name g .1));
+    ordered-final = λ e some.
+        marks-deepened name g .0 ∙ legal .ordered-final (still-ordered e .0) (rw (size-deepened name g) at some)
+        ∙ ap not (sym (marks-deepened name g .1));
   }
     where
       still-ordered : deepen name g .ordered ≡ true → (g .ordered ≡ true) × (g .finalized ≡ true)

@@ -132,7 +132,6 @@ module _ (kept : ℕ → Bool) (g : Graph) (legal : Legal g) (s : Spares g kept)
 
   pub erased-in-order : InOrder g → InOrder (eraseBy kept g)
   erased-in-order o = record {
-    some-node = rw (size-erased kept g) (new-number-grows kept 0 (size g) (s .node0) (o .some-node));
     sorted = λ v h.
         at-new-numbers kept (λ v. Sorted (isStronger (eraseBy kept g)) (childrenOf (eraseBy kept g) v)) (size g)
         (λ v l k. sorted-erased v l k (o .sorted v l)) v (rw (size-erased kept g) at h);
@@ -142,6 +141,10 @@ module _ (kept : ℕ → Bool) (g : Graph) (legal : Legal g) (s : Spares g kept)
   }
 
   -- ---- The graph
+
+  -- node 0 stays
+  pub some-node-left : 0 < size g → 0 < size (eraseBy kept g)
+  some-node-left some-node = rw (size-erased kept g) (new-number-grows kept 0 (size g) (s .node0) some-node)
 
   pub erased-legal : 0 < size g → Legal (eraseBy kept g)
   erased-legal some-node = record {
@@ -160,8 +163,8 @@ module _ (kept : ℕ → Bool) (g : Graph) (legal : Legal g) (s : Spares g kept)
     no-order = λ e.
         order-erased kept g ∙ ap (λ (l : List ℕ). map (newNumber kept) (filter kept l)) (legal .no-order (sym (marks-erased kept g .0) ∙ e));
     in-order = λ e. erased-in-order (legal .in-order (sym (marks-erased kept g .0) ∙ e));
-    ordered-final = λ e.
-        marks-erased kept g .1 ∙ legal .ordered-final (sym (marks-erased kept g .0) ∙ e) ∙ ap not (sym (marks-erased kept g .2));
+    ordered-final = λ e some.
+        marks-erased kept g .1 ∙ legal .ordered-final (sym (marks-erased kept g .0) ∙ e) some-node ∙ ap not (sym (marks-erased kept g .2));
   }
 
 pub erasing-keeps-legal : (bytes : List ℕ) (g : Graph) → Legal g → Legal (eraseSet bytes g .graph)

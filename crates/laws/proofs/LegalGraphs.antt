@@ -1,9 +1,10 @@
 -- What every list of calls keeps of a graph: `Legal`. Question 2 asks all of it but `in-order`, in
 -- whose place it asks that a marked order has each node once ("A room may pass with an order never
--- computed"), and `ordered-final`. That each call keeps it is in LegalAdded, LegalAlike,
--- LegalErased and CallsKeepLegal; here is what follows from it at once. Assumes nothing.
-use mathlib.Core.Path.{_≡_, refl}
-use mathlib.Core.Bool.{true, false, not, false≢true}
+-- computed"), and `ordered-final`. Every empty graph that an arena may hold is legal, with its marks
+-- (`empties-legal`). That each call keeps it is in LegalAdded, LegalAlike, LegalErased and
+-- CallsKeepLegal; here is what follows from it at once. Assumes nothing.
+use mathlib.Core.Path.{_≡_, refl, sym, subst}
+use mathlib.Core.Bool.{Bool, true, false, not, false≢true}
 use mathlib.Core.List.{[]}
 use Prim.Native.Nat.{ℕ, _≤_, _<_}
 use native.Mathlib.Omega.{arith}
@@ -13,6 +14,7 @@ use Rattle.model.specs.Node.{invalid, rootArc, Node, isInert, isCulled}
 use Rattle.model.specs.Graph.{Graph, emptyGraph, size, nodeAt}
 use Rattle.model.specs.Strength.{view}
 use Rattle.model.specs.Refusals.{mostNodes, mostPathBytes, pathBytes}
+use Rattle.laws.specs.GraphDemand3.{Empty}
 use Rattle.laws.proofs.PathGrammar.{well-formed-may-end}
 use Rattle.laws.proofs.Views.{LegalView}
 use Rattle.laws.proofs.Trees.{TreeOf, tree-empty}
@@ -61,11 +63,12 @@ pub record Legal (g : Graph) : Type 0 where
   -- a marked order is the walk of child lists that are sorted
   pub no-order : g .ordered ≡ false → g .order ≡ []
   pub in-order : g .ordered ≡ true → InOrder g
-  -- "Acceptance sets ordered, and finalized unless shallow"
-  pub ordered-final : g .ordered ≡ true → g .finalized ≡ not (g .shallow)
+  -- "Acceptance sets ordered, and finalized unless shallow"; without a node none is accepted
+  pub ordered-final : g .ordered ≡ true → 0 < size g → g .finalized ≡ not (g .shallow)
 
-pub empty-legal : Legal emptyGraph
-empty-legal = record {
+marked-legal : (ordered finalized shallow : Bool) → (finalized ≡ true → (ordered ≡ true) × (shallow ≡ false))
+    → Legal (record { nodes = []; children = []; order = []; ordered = ordered; finalized = finalized; shallow = shallow })
+marked-legal ordered finalized shallow final = record {
   lengths = refl;
   tree = tree-empty;
   links = record { parent-lower = λ c h l. absurd (omega arith); origin-lower = λ c h l. absurd (omega arith) };
@@ -76,11 +79,30 @@ empty-legal = record {
   few-nodes = omega arith;
   few-path-bytes = omega arith;
   not-shallow = λ e c h l. absurd (omega arith);
-  final = λ e. absurd (false≢true e);
+  final = final;
   no-order = λ e. refl;
-  in-order = λ e. absurd (false≢true e);
-  ordered-final = λ e. absurd (false≢true e);
+  in-order = λ e. record { sorted = λ v h. absurd (omega arith); walked = refl };
+  ordered-final = λ e some. absurd (omega arith);
 }
+
+pub empties-legal : (g : Graph) → Empty g → Legal g
+empties-legal g empty = subst Legal same (marked-legal (g .ordered) (g .finalized) (g .shallow) (empty .final))
+  where
+    same : record { nodes = []; children = []; order = []; ordered = g .ordered; finalized = g .finalized; shallow = g .shallow } ≡ g
+    same = λ i. record {
+      nodes = sym (empty .no-nodes) i;
+      children = sym (empty .no-children) i;
+      order = sym (empty .no-order) i;
+      ordered = g .ordered;
+      finalized = g .finalized;
+      shallow = g .shallow;
+    }
+
+pub empty-marked : Empty emptyGraph
+empty-marked = record { no-nodes = refl; no-children = refl; no-order = refl; final = λ e. absurd (false≢true e) }
+
+pub empty-legal : Legal emptyGraph
+empty-legal = empties-legal emptyGraph empty-marked
 
 -- ---- What follows
 

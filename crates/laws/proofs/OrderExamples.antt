@@ -44,7 +44,7 @@ family-children = ordering-children family (stronger-antisymmetric family) famil
 
 family-ordered : Ordered 3 (compareNodeStrength (viewOf family)) (0 ∷ 2 ∷ 1 ∷ [])
 unfolding withNode ordering isStronger compareSiblingNodeStrength siblingLines plainLines nodesBy smaller
-family-ordered = ordering-ordered family family-tree (omega arith) family-has-order
+family-ordered = ordering-ordered family family-tree family-has-order
 
 -- document 01's ring is refused, and rightly: its list has no order
 ring-refused : hasOrder (from ring) ≡ false

@@ -164,7 +164,7 @@ module _ (n : ℕ) (u : View) (lists : ℕ → List ℕ) (tree : Tree n (u .pare
         (λ x y. byPlace place x y ≡ nodesBy (u .parent) siblings x y) (λ x y _ _ h. smaller-lt (place x) (place y) (h .0) ∙ sym (h .1))
         (walk lists n) (anything (walk lists n))
         (pairs-both (λ x y. place x < place y) (λ x y. nodesBy (u .parent) siblings x y ≡ Less) (walk lists n) (places-rise (omega arith))
-        (walk-ordered n (u .parent) lists tree siblings (omega arith) sorted .stronger)))
+        (walk-ordered n (u .parent) lists tree siblings sorted .stronger)))
         a b (omega (arith, walk-once n (u .parent) lists tree a p)) (omega (arith, walk-once n (u .parent) lists tree b q))
 
 -- ---- Lists in order have nothing twice

@@ -68,7 +68,7 @@ nodes-ring-no-order g tree a b c ha hb hc ab bc ca = go (hasOrder g) refl
     go : (t : Bool) → hasOrder g ≡ t → t ≡ false
     go false e = refl
     go true e =
-        let all = ordering-ordered g tree (omega arith) e in
+        let all = ordering-ordered g tree e in
         absurd (cycle-unsorted less (λ x y e f. nodes-not-both-less (viewOf g) x y (is-less _ e) (is-less _ f)) a b c
         (ap isLess ab) (ap isLess bc) (ap isLess ca) (ordering g .order)
         (pairs-imp Any (λ x y. compareNodeStrength (viewOf g) x y ≡ Less) (λ x y. less x y ≡ true) (λ x y _ _ l. ap isLess l)

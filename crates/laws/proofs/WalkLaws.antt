@@ -209,10 +209,10 @@ module _ (n : ℕ) (parent : ℕ → ℕ) (children : ℕ → List ℕ) (tree : 
         ey : (r : List ℕ) × (chain parent y ≡ chain parent v ++ d ∷ r)
         ey = through d y hd hy
 
-    -- of sorted child lists the walk is in order
-    pub walk-ordered : 0 < n → ((v : ℕ) → v < n → Sorted (λ a b. isLess (siblings a b)) (children v))
+    -- with a node, the walk of sorted child lists is in order
+    nodes-ordered : 0 < n → ((v : ℕ) → v < n → Sorted (λ a b. isLess (siblings a b)) (children v))
         → Ordered n (nodesBy parent siblings) (walk children n)
-    walk-ordered some-node sorted = record {
+    nodes-ordered some-node sorted = record {
       once = walk-once;
       nothing-else = walk-only some-node;
       stronger = walk-pairs (λ x y. nodesBy parent siblings x y ≡ Less) above-stronger beside n 0 some-node;
@@ -225,3 +225,9 @@ module _ (n : ℕ) (parent : ℕ → ℕ) (children : ℕ → List ℕ) (tree : 
             (λ c d hc hd less x y hx hy. beside-as-siblings v c d x y hc hd (less .0) hx hy ∙ is-less (siblings c d) (less .1))
             (children v) (all-children n parent children tree v)
             (pairs-distinct (λ c d. isLess (siblings c d) ≡ true) (children v) (child-once n parent children tree v) (sorted v h))
+
+-- of sorted child lists the walk is in order, without a node too
+pub walk-ordered : (n : ℕ) (parent : ℕ → ℕ) (children : ℕ → List ℕ) → Tree n parent children → (siblings : ℕ → ℕ → Ordering)
+    → ((v : ℕ) → v < n → Sorted (λ a b. isLess (siblings a b)) (children v)) → Ordered n (nodesBy parent siblings) (walk children n)
+walk-ordered zero parent children tree siblings sorted = record { once = λ i h. absurd (omega arith); nothing-else = tt; stronger = tt }
+walk-ordered (suc n) parent children tree siblings sorted = nodes-ordered (suc n) parent children tree siblings (omega arith) sorted

@@ -178,14 +178,13 @@ inOrderOnce bs n = eqb (count n (orderIn bs)) 1
 abbrev pub shallowMarked : List ℕ → ℕ → Bool
 shallowMarked bs n = not (isShallow (nodesIn bs) n (nodeIn bs n)) || eqb (shallowIn bs) 1
 
--- the marks are bytes 0 and 1; "finalized only if ordered and not shallow"; an empty graph has none
+-- the marks are bytes 0 and 1; "finalized only if ordered and not shallow", and nothing else, with
+-- or without a node
 abbrev pub stateValid : List ℕ → Bool
 stateValid bs =
     leb (orderedIn bs) 1
     && (leb (finalizedIn bs) 1
-    && (leb (shallowIn bs) 1
-    && ((eqb (finalizedIn bs) 0 || (eqb (orderedIn bs) 1 && eqb (shallowIn bs) 0))
-    && (not (eqb (countIn bs) 0) || (eqb (orderedIn bs) 0 && eqb (shallowIn bs) 0)))))
+    && (leb (shallowIn bs) 1 && (eqb (finalizedIn bs) 0 || (eqb (orderedIn bs) 1 && eqb (shallowIn bs) 0))))
 
 abbrev pub nodeValid : List ℕ → ℕ → Bool
 nodeValid bs n =

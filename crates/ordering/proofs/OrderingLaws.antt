@@ -73,7 +73,7 @@ module _ (bs : List ℕ) (n : ℕ) (ready : Orderable bs n) where
   ok = held-encodable bs (ready .bytes) (ready .opened .whole) (ready .opened .holds)
 
   ok-then : Encodable h
-  ok-then = ordered-encodable g ok (omega (arith, sized, ready .some-node)) (ready .has-order)
+  ok-then = ordered-encodable g ok (ready .has-order)
 
   tree : Tree n parent lists
   tree = subst (λ (k : ℕ). Tree k parent lists) (sym sized) (tree-sorted (size g) parent (childrenOf g) (ok .legal .tree) (isStronger g))

@@ -6,9 +6,8 @@ use mathlib.Core.Bool.{true}
 use mathlib.Core.List.{List}
 use Prim.Native.Nat.{ℕ}
 use lib.ListN.{length}
-use Rattle.model.specs.Lists.{anyBelow}
 use Rattle.model.specs.Node.{Node}
-use Rattle.model.specs.Graph.{Graph, emptyGraph, size, nodeAt, isShallow}
+use Rattle.model.specs.Graph.{Graph, emptyGraph, size}
 use Rattle.model.specs.Snapshot.{writeSnapshot}
 use Rattle.model.specs.Calls.{Outcome, readInto}
 use Rattle.model.specs.Arena.{arenaBytes, decode, encode, holdsGraph}
@@ -36,9 +35,7 @@ pub record ReadsBack (g : Graph) : Type 0 where
 
 -- the graph built of nodes that pass their questions can be encoded
 pub built-encodable : (ns : List Node) → NodesFit ns → Grows ns → Encodable (built ns)
-built-encodable ns fit grow =
-    legal-encodable (built ns) (grows-legal ns grow) (rw (built-nodes ns) fit)
-    (λ none. grows-fresh ns grow .shallow ∙ ap (anyBelow (λ c. isShallow (built ns .nodes) c (nodeAt (built ns .nodes) c))) none)
+built-encodable ns fit grow = legal-encodable (built ns) (grows-legal ns grow) (rw (built-nodes ns) fit)
 
 encodable-reads-back : (g : Graph) → Encodable g → ReadsBack g
 encodable-reads-back g ok =

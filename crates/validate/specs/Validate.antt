@@ -19,12 +19,9 @@ use Rattle.validate.specs.RecordCheck.{linksAt, kindAt, roomAt, question
 
 -- ---- The marks, by their bytes
 
-unfoldable pub marksAt : ℕ → ℕ → ℕ → ℕ → Bool
-marksAt count ordered finalized shallow =
-    leb ordered 1
-    && (leb finalized 1
-    && (leb shallow 1
-    && ((eqb finalized 0 || (eqb ordered 1 && eqb shallow 0)) && (not (eqb count 0) || (eqb ordered 0 && eqb shallow 0)))))
+unfoldable pub marksAt : ℕ → ℕ → ℕ → Bool
+marksAt ordered finalized shallow =
+    leb ordered 1 && (leb finalized 1 && (leb shallow 1 && (eqb finalized 0 || (eqb ordered 1 && eqb shallow 0))))
 
 -- ---- The records
 

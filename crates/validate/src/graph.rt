@@ -16,9 +16,9 @@ ghost use Rattle.arena.specs.Slot.{HasSlot, arcIn, parentIn};
 ghost use Rattle.validate.specs.Validate.{marksAt, rootWith, depthValid, numbersValid, recordValidAfter};
 ghost use Rattle.validate.specs.Validate.{recordsValid, entriesValid, orderValid};
 
-// Whether these marks, a byte each, may stand together over `count` nodes.
-fn state_allowed(count: u32, ordered: u8, finalized: u8, shallow: u8) -> bool
-    ensures { λ r. ⌜ r ≡ marksAt count ordered finalized shallow ⌝ }
+// Whether these marks, a byte each, may stand together, over any count of nodes.
+fn state_allowed(ordered: u8, finalized: u8, shallow: u8) -> bool
+    ensures { λ r. ⌜ r ≡ marksAt ordered finalized shallow ⌝ }
 {
     if ordered > 1 {
         return false;
@@ -28,15 +28,6 @@ fn state_allowed(count: u32, ordered: u8, finalized: u8, shallow: u8) -> bool
     }
     if shallow > 1 {
         return false;
-    }
-    if count == 0 {
-        if ordered != 0 {
-            return false;
-        }
-        if finalized != 0 {
-            return false;
-        }
-        return shallow == 0;
     }
     if finalized == 0 {
         return true;
@@ -48,12 +39,11 @@ fn state_allowed(count: u32, ordered: u8, finalized: u8, shallow: u8) -> bool
 }
 
 // Whether the header's marks are right.
-fn state_valid(arena: &[u8], count: u32) -> bool
-    requires { ⌜ (length (now arena) ≡ arenaBytes) × (count ≡ countIn (now arena)) ⌝ }
+fn state_valid(arena: &[u8]) -> bool
+    requires { ⌜ length (now arena) ≡ arenaBytes ⌝ }
     ensures { λ r. ⌜ r ≡ stateValid (now (arena .entry)) ⌝ }
 {
     state_allowed(
-        count,
         arena::ordered(arena),
         arena::finalized(arena),
         arena::shallow(arena),
@@ -222,7 +212,7 @@ pub fn is_graph(arena: &[u8]) -> bool
     if count > arena::MAX_NODES {
         return false;
     }
-    if !state_valid(arena, count) {
+    if !state_valid(arena) {
         return false;
     }
     if !records_valid(arena, count) {

@@ -15,20 +15,16 @@ pub fn holds_graph(arena: &[u8]) -> bool {
     let (header, slots) = arena.split_at(HEADER_BYTES);
     let (slots, _) = slots.as_chunks();
     let Some(slots) = slots.get(..u32_at(header, COUNT) as usize) else { return false };
-    marks_right(header, slots.is_empty())
+    marks_right(header)
         && records_right(header, slots)
         && child_lists_right(slots)
         && (header[ORDERED] == 0 || order_right(slots))
 }
 
-/// Finalized needs ordered and excludes shallow; an empty graph has no mark.
-fn marks_right(header: &[u8], empty: bool) -> bool {
+/// Finalized needs ordered and excludes shallow, in an empty graph too.
+fn marks_right(header: &[u8]) -> bool {
     let (ordered, finalized, shallow) = (header[ORDERED], header[FINALIZED], header[SHALLOW]);
-    ordered <= 1
-        && finalized <= 1
-        && shallow <= 1
-        && (finalized == 0 || (ordered == 1 && shallow == 0))
-        && (!empty || (ordered == 0 && shallow == 0))
+    ordered <= 1 && finalized <= 1 && shallow <= 1 && (finalized == 0 || (ordered == 1 && shallow == 0))
 }
 
 /// Whether a snapshot could have these records, and what is kept beside them is what they give.

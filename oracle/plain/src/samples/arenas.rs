@@ -8,6 +8,22 @@ use crate::random::Random;
 use crate::record::{FIXED_BYTES, PARENT};
 use crate::snapshot;
 
+/// Marks of an arena without a node, and whether it holds a graph: ordered, finalized and shallow in every combination,
+/// then each with a byte that is none.
+pub const EMPTY_MARKS: [([u8; 3], bool); 11] = [
+    ([0, 0, 0], true),
+    ([1, 0, 0], true),
+    ([0, 1, 0], false),
+    ([1, 1, 0], true),
+    ([0, 0, 1], true),
+    ([1, 0, 1], true),
+    ([0, 1, 1], false),
+    ([1, 1, 1], false),
+    ([2, 0, 0], false),
+    ([1, 2, 0], false),
+    ([0, 0, 2], false),
+];
+
 /// An arena that remembers what it held before it was damaged.
 pub struct Arena {
     bytes: Vec<u8>,
@@ -35,7 +51,14 @@ impl Arena {
         u32_at(&self.bytes, at)
     }
 
-    /// Fills the arena with a random graph, mostly of few nodes.
+    /// Takes every node out and sets the marks, allowed or not. All other bytes stay.
+    pub fn empty(&mut self, marks: [u8; 3]) {
+        put_u32(&mut self.bytes, COUNT, 0);
+        self.bytes[ORDERED..=SHALLOW].copy_from_slice(&marks);
+        self.changed.clear();
+    }
+
+    /// Fills the arena with a random graph, mostly of few nodes, and with marks that it may have.
     pub fn fill(&mut self, random: &mut Random) {
         let count = match random.below(400) {
             0..=3 => 0,
@@ -45,9 +68,6 @@ impl Arena {
         let nodes = if random.one_in(200) { graphs::crowded(random, 0) } else { graphs::nodes(random, count) };
         snapshot::read(&graphs::snapshot(&nodes), &mut self.bytes).expect("a graph that a snapshot may have");
         self.changed.clear();
-        if nodes.is_empty() {
-            return;
-        }
         self.bytes[SHALLOW] |= u8::from(random.one_in(8));
         if random.one_in(2) {
             self.shuffle_children(random, nodes.len());

@@ -4,7 +4,7 @@ use super::definitions;
 use crate::arena::holds_graph;
 use crate::layout::*;
 use crate::random::Random;
-use crate::samples::arenas::Arena;
+use crate::samples::arenas::{Arena, EMPTY_MARKS};
 use crate::samples::damaged_arenas::{KINDS, damage};
 use crate::samples::graphs;
 use crate::snapshot;
@@ -15,13 +15,18 @@ fn the_empty_graph() {
     assert!(holds_graph(&arena));
     arena[SHALLOW + 1..].fill(0xff);
     assert!(holds_graph(&arena));
-    for mark in [ORDERED, FINALIZED, SHALLOW] {
-        arena[mark] = 1;
-        assert!(!holds_graph(&arena));
-        arena[mark] = 0;
-    }
     assert!(!holds_graph(&arena[1..]));
     assert!(!holds_graph(&[]));
+}
+
+#[test]
+fn marks_of_the_empty_graph() {
+    let mut arena = Arena::any(&mut Random::new(6));
+    for (marks, holds) in EMPTY_MARKS {
+        arena.empty(marks);
+        assert_eq!(holds_graph(arena.bytes()), holds, "{marks:?}");
+        assert_eq!(definitions::holds_graph(arena.bytes()), holds, "{marks:?}");
+    }
 }
 
 /// An arena with this snapshot in it, over bytes of one value.

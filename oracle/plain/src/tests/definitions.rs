@@ -201,8 +201,7 @@ impl Bytes<'_> {
     fn marks_right(&self) -> bool {
         let [ordered, finalized, shallow] = [4, 5, 6].map(|at| self.mark(at));
         let finalized_right = finalized == 0 || (ordered == 1 && shallow == 0);
-        let empty_right = self.count() != 0 || (ordered == 0 && shallow == 0);
-        ordered <= 1 && finalized <= 1 && shallow <= 1 && finalized_right && empty_right
+        ordered <= 1 && finalized <= 1 && shallow <= 1 && finalized_right
     }
 
     fn node_right(&self, nodes: &[Node], node: u64) -> bool {

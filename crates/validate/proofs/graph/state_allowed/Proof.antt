@@ -1,7 +1,7 @@
 -- `state_allowed` meets its contract: each way out decides the tests of the marks. Assumes nothing.
 use mathlib.Core.Path.{sym}
 use Prim.Native.Nat.{_≤_}
-use Rattle.validate.proofs.MarksLaws.{ordered-other, finalized-other, shallow-other, empty-ordered, empty-finalized, empty-left, unfinalized, final-unordered, final-left}
+use Rattle.validate.proofs.MarksLaws.{ordered-other, finalized-other, shallow-other, unfinalized, final-unordered, final-left}
 use Rattle.validate.proofs.graph.state_allowed.Statement.{statement}
 use Rattle.validate.proofs.graph.state_allowed.Tie as tie
 
@@ -12,35 +12,22 @@ bits : (c : tie.Else3)
 bits c = (c .before .before .if1 .left, c .before .if2 .left, c .if3 .left)
 
 returns : tie.Need-returns
-returns c = sym (ordered-other _ _ _ _ (c .if1 .taken))
+returns c = sym (ordered-other _ _ _ (c .if1 .taken))
 
 returns-2 : tie.Need-returns-2
-returns-2 c = sym (finalized-other _ _ _ _ (c .before .if1 .left) (c .if2 .taken))
+returns-2 c = sym (finalized-other _ _ _ (c .before .if1 .left) (c .if2 .taken))
 
 returns-3 : tie.Need-returns-3
-returns-3 c = sym (shallow-other _ _ _ _ (c .before .before .if1 .left) (c .before .if2 .left) (c .if3 .taken))
+returns-3 c = sym (shallow-other _ _ _ (c .before .before .if1 .left) (c .before .if2 .left) (c .if3 .taken))
 
 returns-4 : tie.Need-returns-4
-returns-4 c = sym (empty-ordered _ _ _ _ (bits (c .before .before)) (c .before .if4 .taken) (c .if5 .taken))
+returns-4 c = sym (unfinalized _ _ _ (bits (c .before)) (c .if4 .taken))
 
 returns-5 : tie.Need-returns-5
-returns-5 c =
-    sym (empty-finalized _ _ _ _ (bits (c .before .before .before)) (c .before .before .if4 .taken) (c .before .if5 .left) (c .if6 .taken))
+returns-5 c = sym (final-unordered _ _ _ (bits (c .before .before)) (c .before .if4 .left) (c .if5 .taken))
 
 returns-6 : tie.Need-returns-6
-returns-6 c =
-    sym (empty-left _ _ _ _ (bits (c .before .before .before)) (c .before .before .if4 .taken) (c .before .if5 .left) (c .if6 .left))
-
-returns-7 : tie.Need-returns-7
-returns-7 c = sym (unfinalized _ _ _ _ (bits (c .before .before)) (c .before .if4 .left) (c .if7 .taken))
-
-returns-8 : tie.Need-returns-8
-returns-8 c =
-    sym (final-unordered _ _ _ _ (bits (c .before .before .before)) (c .before .before .if4 .left) (c .before .if7 .left) (c .if8 .taken))
-
-returns-9 : tie.Need-returns-9
-returns-9 c =
-    sym (final-left _ _ _ _ (bits (c .before .before .before)) (c .before .before .if4 .left) (c .before .if7 .left) (c .if8 .left))
+returns-6 c = sym (final-left _ _ _ (bits (c .before .before)) (c .before .if4 .left) (c .if5 .left))
 
 pub state-allowed-spec : {M : Type 1} → statement M
 state-allowed-spec =
@@ -51,7 +38,4 @@ state-allowed-spec =
     returns-3
     returns-4
     returns-5
-    returns-6
-    returns-7
-    returns-8
-    returns-9)
+    returns-6)

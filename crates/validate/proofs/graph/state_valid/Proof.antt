@@ -20,10 +20,8 @@ state-allowed-requires c κs = search needs
 returns : tie.Need-returns
 unfolding marksAt
 returns c =
-    let s = c .before .before .before .before .before in
     c .state-allowed .ensures
-    ∙ (λ i. marksAt (s .pre .1 i) (c .before .before .before .ordered .ensures i) (c .before .before .finalized .ensures i)
-    (c .before .shallow .ensures i))
+    ∙ (λ i. marksAt (c .before .before .before .ordered .ensures i) (c .before .before .finalized .ensures i) (c .before .shallow .ensures i))
 
 pub state-valid-spec : {M : Type 1} → statement M
 state-valid-spec =
