@@ -50,11 +50,13 @@ enum-told c = search needs
 
 returns-4 : tie.Need-returns-4
 returns-4 c =
-    c .read-elements .ensures ∙ sym (rooted (entry (c .before .before .before .before .before) .args .path .now) (long (c .before .before .before .before .before)) (c .before .before .before .before .before .before .if2 .left) ∙ named (c .before) .0 .same 0)
+    let more = c .before .before .before .before .before in
+    c .read-elements .ensures ∙ sym (rooted (entry more .args .path .now) (long more) (more .before .if2 .left) ∙ named (c .before) .0 .same 0)
 
 returns-5 : tie.Need-returns-5
 returns-5 c =
-    sym (rooted (entry (c .before .before .before) .args .path .now) (long (c .before .before .before)) (c .before .before .before .before .if2 .left) ∙ (rw (c .enum-told .given .1) at (c .before .before .read-name .ensures)) 0)
+    let more = c .before .before .before in
+    sym (rooted (entry more .args .path .now) (long more) (more .before .if2 .left) ∙ (rw (c .enum-told .given .1) at (c .before .before .read-name .ensures)) 0)
 
 pub read-path-spec : {M : Type 1} → statement M
 read-path-spec =
