@@ -11,6 +11,7 @@ use Rattle.line_table.proofs.TableCells.{ownRow, cell, told}
 use Rattle.line_table.proofs.entry_of.Statement.{statement}
 use Rattle.line_table.proofs.entry_of.Tie as tie
 
+-- where the function begins, once all cells are read
 abbrev start : tie.After-cell11 → tie.Start
 start c = c .before .before .before .before .before .before .before .before .before .before .before .before .before
 

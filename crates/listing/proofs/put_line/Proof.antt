@@ -10,6 +10,10 @@ use Rattle.listing.proofs.ListingLines.{front-short, arc-few, path-shor
 use Rattle.listing.proofs.put_line.Statement.{statement}
 use Rattle.listing.proofs.put_line.Tie as tie
 
+-- where the function begins, once the front is put
+abbrev entry : tie.After-put-front → tie.Start
+entry c = c .before .before .before .before .before .before
+
 arc-requires : tie.Need-arc-requires
 arc-requires c κs = search needs
 
@@ -22,12 +26,12 @@ put-front-requires c κs =
     (omega (arith, s .pre .1), omega (arith, c .before .arc .ensures, arc-few _ _ (s .pre .0)))
 
 path-requires : tie.Need-path-requires
-path-requires c κs = has-path _ _ (c .before .before .before .before .before .before .before .before .before .pre .0)
+path-requires c κs = has-path _ _ (entry (c .before .before .before) .pre .0)
 
 put-rest-requires : tie.Need-put-rest-requires
 put-rest-requires c κs =
     let front = c .before .before .before .before in
-    let s = front .before .before .before .before .before .before in
+    let s = entry front in
     omega (
       arith,
       s .pre .1,
@@ -46,7 +50,7 @@ returns c =
     let path = rest .before in
     let front = path .before .before .before .before in
     let depth = front .before in
-    let s = depth .before .before .before .before .before in
+    let s = entry front in
     put-as _ _ _ _ _ _ (line-read _ _ (s .pre .0) _ _ _ (depth .before .arc .ensures) (depth .depth .ensures) (path .path .ensures))
     (put-then _ _ _ _ _ _ _ _ (front .put-front .ensures) (rest .put-rest .ensures)
     (omega (

@@ -15,6 +15,7 @@ use Rattle.model.specs.declared.Appended.the-variants.{Length}
 use Rattle.path.proofs.append_child_name.Statement.{statement}
 use Rattle.path.proofs.append_child_name.Tie as tie
 
+-- where the function begins, once the joint is found
 abbrev entry : tie.After-joint → tie.Start
 entry c = c .before .before .before .before .before .before .before .before
 

@@ -21,9 +21,17 @@ Inv-loop arena table places sorted parent start end uneven last₀ sibling₀ no
 abbrev μ-loop : tie.MeasureT-loop
 μ-loop arena table places sorted parent start end uneven last₀ sibling₀ node₀ i₀ last sibling node i = end - i
 
--- where the function begins, from the loop
+-- where the function begins, from the read of the first child
+abbrev start : tie.After-shared-slice-known5 Inv-loop μ-loop → tie.Start Inv-loop μ-loop
+start c = c .before .before .before .before .before
+
+-- and from the loop
 abbrev entry : tie.At-loop Inv-loop μ-loop → tie.Start Inv-loop μ-loop
-entry c = c .before .before .before .before .before .before .before .before .before .before .before
+entry c = start (c .before .before .before .before .before .before)
+
+-- the turn of the loop, where its second child comes next
+abbrev turn : tie.Else2 Inv-loop μ-loop → tie.In-loop Inv-loop μ-loop
+turn c = c .before .before .before .before
 
 module _ (c : tie.In-loop Inv-loop μ-loop) where
   abbrev at : tie.At-loop Inv-loop μ-loop
@@ -48,12 +56,12 @@ mul-entry-of c = omega (arith, c .before .before .before .before .pre .1 .0 .0 .
 
 shared-slice-read-entry-of : tie.Need-shared-slice-read-entry-of Inv-loop μ-loop
 shared-slice-read-entry-of c =
-    let s = c .before .before .before .before .before in
+    let s = start c in
     omega (arith, s .pre .0 .0 .long, s .pre .1 .0 .0 .high, s .pre .1 .0 .1)
 
 entry-of-requires : tie.Need-entry-of-requires Inv-loop μ-loop
 entry-of-requires c κs =
-    let s = c .before .before .before .before .before in
+    let s = start c in
     let child = part-child (s .pre .0 .0 .long) (s .pre .1 .0 .0) (s .args .start) (omega arith) (s .pre .1 .0 .1) in
     (s .pre .0 .0 .tabled, child .0, child .1)
 
@@ -68,7 +76,7 @@ if-authored-requires-2 c κs = search needs
 
 loop-holds : tie.Need-loop-holds Inv-loop μ-loop
 loop-holds c =
-    let s = c .before .before .before .before .before .before .before .before .before .before in
+    let s = start (c .before .before .before .before .before) in
     copying-start (s .pre .1 .0 .1) (c .before .before .before .before .entry-of .ensures) (not-false _ (c .before .before .if1 .left))
     (c .before .if-authored .ensures) (c .if-authored2 .ensures)
 
@@ -113,14 +121,14 @@ if-authored-requires-4 : tie.Need-if-authored-requires-4 Inv-loop μ-loop
 if-authored-requires-4 c κs = search needs
 
 add-i : tie.Need-add-i Inv-loop μ-loop
-add-i c = omega (arith, small (c .before .before .before .before .before .before .before .before))
+add-i c = omega (arith, small (turn (c .before .before .before .before)))
 
 loop-less : tie.Need-loop-less Inv-loop μ-loop
-loop-less c = omega (arith, c .before .before .before .before .before .before .before .before .loop-test .taken)
+loop-less c = omega (arith, turn (c .before .before .before .before) .loop-test .taken)
 
 loop-again : tie.Need-loop-again Inv-loop μ-loop
 loop-again c =
-    let l = c .before .before .before .before .before .before .before .before in
+    let l = turn (c .before .before .before .before) in
     let follows = not-false _ (c .before .before .before .before .if2 .left) in
     let rises = c .before .before .before .rises .ensures (not-false _ (c .before .before .if3 .left)) in
     copying-step (l .before .loop .inv) (l .loop-test .taken) (c .before .before .before .before .before .before .entry-of2 .ensures)

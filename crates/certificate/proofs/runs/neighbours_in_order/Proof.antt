@@ -19,9 +19,17 @@ Inv-loop arena table places sorted parent start end i₀ i = Neighbouring arena 
 abbrev μ-loop : tie.MeasureT-loop
 μ-loop arena table places sorted parent start end i₀ i = end - i
 
--- where the function begins, from the loop
+-- where the function begins, from the read of the first child
+abbrev start : tie.After-shared-slice-known5 Inv-loop μ-loop → tie.Start Inv-loop μ-loop
+start c = c .before .before .before .before .before
+
+-- and from the loop
 abbrev entry : tie.At-loop Inv-loop μ-loop → tie.Start Inv-loop μ-loop
-entry c = c .before .before .before .before .before .before .before .before .before
+entry c = start (c .before .before .before .before)
+
+-- the turn of the loop, where its second child is no copy
+abbrev turn : tie.Else2 Inv-loop μ-loop → tie.In-loop Inv-loop μ-loop
+turn c = c .before .before .before .before .before .before
 
 module _ (c : tie.In-loop Inv-loop μ-loop) where
   abbrev at : tie.At-loop Inv-loop μ-loop
@@ -46,12 +54,12 @@ mul-entry-of c = omega (arith, c .before .before .before .before .pre .1 .0 .hig
 
 shared-slice-read-entry-of : tie.Need-shared-slice-read-entry-of Inv-loop μ-loop
 shared-slice-read-entry-of c =
-    let s = c .before .before .before .before .before in
+    let s = start c in
     omega (arith, s .pre .0 .0 .long, s .pre .1 .0 .high, s .pre .1 .1)
 
 entry-of-requires : tie.Need-entry-of-requires Inv-loop μ-loop
 entry-of-requires c κs =
-    let s = c .before .before .before .before .before in
+    let s = start c in
     let child = part-child (s .pre .0 .0 .long) (s .pre .1 .0) (s .args .start) (omega arith) (s .pre .1 .1) in
     (s .pre .0 .0 .tabled, child .0, child .1)
 
@@ -63,7 +71,7 @@ returns c = λ e. absurd (false≢true e)
 
 loop-holds : tie.Need-loop-holds Inv-loop μ-loop
 loop-holds c =
-    let s = c .before .before .before .before .before .before .before .before in
+    let s = start (c .before .before .before) in
     let child = part-child (s .pre .0 .0 .long) (s .pre .1 .0) (s .args .start) (omega arith) (s .pre .1 .1) in
     neighbouring-start (s .pre .1 .1)
     (entry-keyed (legal (s .args .arena .now) (s .pre .0 .0 .opened)) child (c .before .before .entry-of .ensures)
@@ -103,7 +111,7 @@ returns-2 c = λ e. absurd (false≢true e)
 
 is-before-requires : tie.Need-is-before-requires Inv-loop μ-loop
 is-before-requires c κs =
-    let l = c .before .before .before .before .before .before in
+    let l = turn c in
     let s = entry (l .before) in
     let view = legal (s .args .arena .now) (s .pre .0 .0 .opened) in
     let there = s .pre .0 .1 in (
@@ -115,14 +123,14 @@ returns-3 : tie.Need-returns-3 Inv-loop μ-loop
 returns-3 c = λ e. absurd (false≢true e)
 
 add-i : tie.Need-add-i Inv-loop μ-loop
-add-i c = omega (arith, small (c .before .before .before .before .before .before .before .before))
+add-i c = omega (arith, small (turn (c .before .before)))
 
 loop-less : tie.Need-loop-less Inv-loop μ-loop
-loop-less c = omega (arith, c .before .before .before .before .before .before .before .before .loop-test .taken)
+loop-less c = omega (arith, turn (c .before .before) .loop-test .taken)
 
 loop-again : tie.Need-loop-again Inv-loop μ-loop
 loop-again c =
-    let l = c .before .before .before .before .before .before .before .before in
+    let l = turn (c .before .before) in
     let s = entry (l .before) in
     let w = l .before .loop .inv in
     let view = legal (s .args .arena .now) (s .pre .0 .0 .opened) in

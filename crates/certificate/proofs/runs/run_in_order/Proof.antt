@@ -6,6 +6,7 @@ use Rattle.certificate.proofs.CertificateParts.{alone-in-order}
 use Rattle.certificate.proofs.runs.run_in_order.Statement.{statement}
 use Rattle.certificate.proofs.runs.run_in_order.Tie as tie
 
+-- where the function begins, once the depths are looked at
 abbrev entry : tie.After-has-two-depths → tie.Start
 entry c = c .before .before .before .before .before .before .before .before .before
 

@@ -21,9 +21,13 @@ with-next-sibling-requires c κs = search needs
 abbrev none : NodeId
 none = record { 0 = invalid }
 
+-- where the function begins, once the record has no links
+abbrev entry : tie.After-with-next-sibling → tie.Start
+entry c = c .before .before .before .before .before
+
 -- the record with no links
 unlinked : (c : tie.After-with-next-sibling)
-    → c .with-next-sibling .result ≡ withNextSibling none (withLastChild none (withFirstChild none (c .before .before .before .before .before .args .node)))
+    → c .with-next-sibling .result ≡ withNextSibling none (withLastChild none (withFirstChild none (entry c .args .node)))
 unlinked c =
     c .with-next-sibling .ensures
     ∙ ap (withNextSibling none) (c .before .with-last-child .ensures ∙ ap (withLastChild none) (c .before .before .with-first-child .ensures))
@@ -33,7 +37,7 @@ store-links-requires c κs = search needs
 
 store-record-requires : tie.Need-store-record-requires
 store-record-requires c κs =
-    let s = c .before .before .before .before .before .before .before .before .before .before in (
+    let s = entry (c .before .before .before .before .before) in (
       record { whole = c .before .before .before .store-links .kept .0 ∙ s .pre .0 .whole; within = s .pre .0 .within },
       (ap (λ (x : Node). x .«record_length») (unlinked (c .before .before .before .before .before)) ∙ s .pre .1 .0, s .pre .1 .1),
     )
@@ -44,7 +48,7 @@ same-length c = search needs
 returns : tie.Need-returns
 returns c =
     let links = c .before .before .before .before .before .before in
-    let a = c .before .before .before .before .before .before .before .before .before .before .before .before .before .args in
+    let a = entry (links .before .before) .args in
     let same = unlinked (links .before .before) in
     c .before .before .store-record .ensures ∙ ap (λ (x : Node). recordStored (a .n) x (a .path .now) (links .store-links .last .0)) same
     ∙ ap (recordStored (a .n) (a .node) (a .path .now)) (links .store-links .ensures ∙ ap (λ (x : Node). linksStored (a .n) x (a .arena .now)) same)

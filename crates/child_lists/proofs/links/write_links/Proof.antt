@@ -18,6 +18,14 @@ Inv-loop arena₀ count first last next n₀ arena n = (n ≤ count) × (length 
 abbrev μ-loop : tie.MeasureT-loop
 μ-loop arena₀ count first last next n₀ arena n = count - n
 
+-- where the function begins, from the loop
+abbrev entry : tie.At-loop Inv-loop μ-loop → tie.Start Inv-loop μ-loop
+entry c = c .before .before .before .before .before
+
+-- the turn of the loop, once the record has its first and last child
+abbrev turn : tie.After-with-last-child Inv-loop μ-loop → tie.In-loop Inv-loop μ-loop
+turn c = c .before .before .before .before .before .before
+
 loop-holds : tie.Need-loop-holds Inv-loop μ-loop
 loop-holds c = (omega arith, refl, refl)
 
@@ -26,7 +34,7 @@ cast-i c = search needs
 
 load-node-requires : tie.Need-load-node-requires Inv-loop μ-loop
 load-node-requires c κs =
-    let s = c .before .before .before .before .before .before .before in
+    let s = entry (c .before .before) in
     record { whole = c .before .before .loop .inv .1 ∙ s .pre .0 .0; within = omega (arith, c .before .loop-test, s .pre .0) }
 
 mul-t15 : tie.Need-mul-t15 Inv-loop μ-loop
@@ -34,7 +42,7 @@ mul-t15 c = search needs
 
 shared-slice-read-t17 : tie.Need-shared-slice-read-t17 Inv-loop μ-loop
 shared-slice-read-t17 c =
-    let s = c .before .before .before .before .before .before .before .before .before in
+    let s = entry (c .before .before .before .before) in
     omega (arith, c .before .before .before .loop-test, s .pre .0, s .pre .1)
 
 with-first-child-requires : tie.Need-with-first-child-requires Inv-loop μ-loop
@@ -45,7 +53,7 @@ mul-t19 c = search needs
 
 shared-slice-read-t21 : tie.Need-shared-slice-read-t21 Inv-loop μ-loop
 shared-slice-read-t21 c =
-    let s = c .before .before .before .before .before .before .before .before .before .before .before in
+    let s = entry (c .before .before .before .before .before .before) in
     omega (arith, c .before .before .before .before .before .loop-test, s .pre .0, s .pre .1)
 
 with-last-child-requires : tie.Need-with-last-child-requires Inv-loop μ-loop
@@ -53,13 +61,14 @@ with-last-child-requires c κs = search needs
 
 mul-t15-2 : tie.Need-mul-t15-2 Inv-loop μ-loop
 mul-t15-2 c =
-    let t = c .before .before .before .before .before .before in
-    omega (arith, t .loop-test, t .before .before .before .before .before .before .pre .0)
+    let t = turn c in
+    omega (arith, t .loop-test, entry (t .before) .pre .0)
 
 shared-slice-read-t17-2 : tie.Need-shared-slice-read-t17-2 Inv-loop μ-loop
 shared-slice-read-t17-2 c =
-    let s = c .before .before .before .before .before .before .before .before .before .before .before .before .before in
-    omega (arith, c .before .before .before .before .before .before .before .loop-test, s .pre .0, s .pre .1)
+    let t = turn (c .before) in
+    let s = entry (t .before) in
+    omega (arith, t .loop-test, s .pre .0, s .pre .1)
 
 with-next-sibling-requires : tie.Need-with-next-sibling-requires Inv-loop μ-loop
 with-next-sibling-requires c κs = search needs
@@ -69,9 +78,9 @@ number n = record { 0 = n }
 
 -- the record with the links that the arrays have
 linked : (c : tie.After-with-next-sibling Inv-loop μ-loop)
-    → let t = c .before .before .before .before .before .before .before .before in
+    → let t = turn (c .before .before) in
     let n = t .before .loop .n in
-    let a = t .before .before .before .before .before .before .args in
+    let a = entry (t .before) .args in
     c .with-next-sibling .result
     ≡ withNextSibling (number (getD (a .next .now) n 0)) (withLastChild (number (getD (a .last .now) n 0))
     (withFirstChild (number (getD (a .first .now) n 0)) (c .before .before .before .before .before .before .load-node .result)))
@@ -82,24 +91,24 @@ linked c =
 
 store-links-requires : tie.Need-store-links-requires Inv-loop μ-loop
 store-links-requires c κs =
-    let t = c .before .before .before .before .before .before .before .before .before in
-    let s = t .before .before .before .before .before .before in
+    let t = turn (c .before .before .before) in
+    let s = entry (t .before) in
     record { whole = t .before .loop .inv .1 ∙ s .pre .0 .0; within = omega (arith, t .loop-test, s .pre .0) }
 
 add-n : tie.Need-add-n Inv-loop μ-loop
 add-n c =
-    let t = c .before .before .before .before .before .before .before .before .before .before .before .before in
-    omega (arith, t .loop-test, t .before .before .before .before .before .before .pre .0)
+    let t = turn (c .before .before .before .before .before .before) in
+    omega (arith, t .loop-test, entry (t .before) .pre .0)
 
 loop-less : tie.Need-loop-less Inv-loop μ-loop
-loop-less c = omega (arith, c .before .before .before .before .before .before .before .before .before .before .before .before .loop-test)
+loop-less c = omega (arith, turn (c .before .before .before .before .before .before) .loop-test)
 
 loop-again : tie.Need-loop-again Inv-loop μ-loop
 loop-again c =
     let store = c .before .before in
-    let t = store .before .before .before .before .before .before .before .before .before .before in
+    let t = turn (store .before .before .before .before) in
     let l = t .before .loop in
-    let a = t .before .before .before .before .before .before .args in
+    let a = entry (t .before) .args in
     let links : ℕ → List ℕ = λ n. linksWritten (a .first .now) (a .last .now) (a .next .now) n (a .arena .now) in (
       omega (arith, t .loop-test),
       store .store-links .kept .0 ∙ l .inv .1,
@@ -112,7 +121,7 @@ same-length c = c .before .loop .inv .1
 
 returns : tie.Need-returns Inv-loop μ-loop
 returns c =
-    let s = c .before .before .before .before .before .before in
+    let s = entry (c .before) in
     let l = c .before .loop in
     let a = s .args in
     l .inv .2

@@ -16,6 +16,10 @@ Inv-loop arena₀ count sorted ends start₀ parent₀ arena start parent = (par
 abbrev μ-loop : tie.MeasureT-loop
 μ-loop arena₀ count sorted ends start₀ parent₀ arena start parent = count - parent
 
+-- the turn of the loop, once the links of its list are stored
+abbrev turn : tie.After-slice-known2 Inv-loop μ-loop → tie.In-loop Inv-loop μ-loop
+turn c = c .before .before .before .before .before
+
 loop-holds : tie.Need-loop-holds Inv-loop μ-loop
 loop-holds c = (omega arith, lists-start _ _ _)
 
@@ -53,7 +57,7 @@ store-nexts-requires c κs =
 
 last-of-requires : tie.Need-last-of-requires Inv-loop μ-loop
 last-of-requires c κs =
-    let t = c .before .before .before .before .before in
+    let t = turn c in
     let l = t .before .loop in
     let parted = t .before .before .before .before .before .pre .2 in
     let here = t .loop-test .taken in
@@ -67,10 +71,10 @@ store-ends-requires c κs =
     record { whole = nexts .store-nexts .kept .0 ∙ t .before .loop .inv .1 .long ∙ s .pre .0; within = omega (arith, t .loop-test, s .pre .1) }
 
 add-parent : tie.Need-add-parent Inv-loop μ-loop
-add-parent c = omega (arith, c .before .before .before .before .before .before .before .before .before .before .loop-test)
+add-parent c = omega (arith, turn (c .before .before .before .before .before) .loop-test)
 
 loop-less : tie.Need-loop-less Inv-loop μ-loop
-loop-less c = omega (arith, c .before .before .before .before .before .before .before .before .before .before .loop-test)
+loop-less c = omega (arith, turn (c .before .before .before .before .before) .loop-test)
 
 loop-again : tie.Need-loop-again Inv-loop μ-loop
 loop-again c =

@@ -32,8 +32,12 @@ returns-2 : tie.Need-returns-2
 unfolding isKept
 returns-2 c = rw (no-root (c .before .before), eq-eqb _ 0 (sym (c .before .depth-below .ensures .0) ∙ c .if2 .taken))
 
+-- where the function begins, past the second test
+abbrev entry : tie.Else2 → tie.Start
+entry c = c .before .before .before .before .before
+
 below : (c : tie.Else2)
-    → let s = c .before .before .before .before .before in eqb (depthBelowIntroduction (decode (s .args .arena .now) .nodes) (s .args .n)) 0 ≡ false
+    → let s = entry c in eqb (depthBelowIntroduction (decode (s .args .arena .now) .nodes) (s .args .n)) 0 ≡ false
 below c = ne-eqb _ 0 (λ e. c .if2 .left (c .before .depth-below .ensures .0 ∙ e))
 
 keeps-inherit-requires : tie.Need-keeps-inherit-requires
@@ -45,16 +49,16 @@ returns-3 c =
     rw (no-root (c .before .before .before .before), below (c .before .before), sym (c .before .keeps-inherit .ensures) ∙ c .if3 .taken)
 
 no-inherit : (c : tie.Else3)
-    → let s = c .before .before .before .before .before .before .before in keepsInherit (decode (s .args .arena .now) .nodes) (s .args .n) ≡ false
+    → let s = entry (c .before .before) in keepsInherit (decode (s .args .arena .now) .nodes) (s .args .n) ≡ false
 no-inherit c = sym (c .before .keeps-inherit .ensures) ∙ c .if3 .left
 
 has-specs-requires : tie.Need-has-specs-requires
-has-specs-requires c κs = has-slot _ _ (c .before .before .before .before .before .before .before .pre .readable)
+has-specs-requires c κs = has-slot _ _ (entry (c .before .before) .pre .readable)
 
 returns-4 : tie.Need-returns-4
 unfolding isKept
 returns-4 c =
-    let s = c .before .before .before .before .before .before .before .before .before in
+    let s = entry (c .before .before .before .before) in
     let specs = has-specs-read (s .args .arena .now) (s .args .n) (s .pre .readable) in
     rw (
       no-root (c .before .before .before .before .before .before),
@@ -64,7 +68,7 @@ returns-4 c =
     )
 
 flags-requires : tie.Need-flags-requires
-flags-requires c κs = has-slot _ _ (c .before .before .before .before .before .before .before .before .before .pre .readable)
+flags-requires c κs = has-slot _ _ (entry (c .before .before .before .before) .pre .readable)
 
 is-inert-requires : tie.Need-is-inert-requires
 is-inert-requires c κs = search needs
@@ -73,7 +77,7 @@ returns-5 : tie.Need-returns-5
 unfolding isKept
 returns-5 c =
     let spec = c .before .before in
-    let s = spec .before .before .before .before .before .before .before .before .before in
+    let s = entry (spec .before .before .before .before) in
     let specs = has-specs-read (s .args .arena .now) (s .args .n) (s .pre .readable) in
     rw (
       no-root (spec .before .before .before .before .before .before),

@@ -38,9 +38,13 @@ returns-2 c =
 introducer-requires : tie.Need-introducer-requires
 introducer-requires c κs = search needs
 
+-- where the function begins, once t is found
+abbrev entry : tie.After-introducer → tie.Start
+entry c = c .before .before .before .before .before .before
+
 -- t can be read
-reads-t : (c : tie.After-introducer) → ValidNode (c .before .before .before .before .before .before .args .arena .now) (c .introducer .result)
-reads-t c = readable-lower _ _ _ (c .before .before .before .before .before .before .pre .readable) (c .introducer .ensures .1)
+reads-t : (c : tie.After-introducer) → ValidNode (entry c .args .arena .now) (c .introducer .result)
+reads-t c = readable-lower _ _ _ (entry c .pre .readable) (c .introducer .ensures .1)
 
 prim-count-requires : tie.Need-prim-count-requires
 prim-count-requires c κs = has-slot _ _ (reads-t c)
@@ -57,7 +61,7 @@ add-result c = search needs
 returns-3 : tie.Need-returns-3
 unfolding keepsInherit
 returns-3 c =
-    let s = c .before .before .before .before .before .before .before .before in
+    let s = entry (c .before .before) in
     let ns = decode (s .args .arena .now) .nodes in
     let stack = c .before .before .before .before in
     let t = c .before .before .introducer .result in

@@ -42,9 +42,10 @@ loop-less c = omega (arith, c .before .before .before .before .before .loop-test
 loop-again : tie.Need-loop-again Inv-loop μ-loop
 loop-again c =
     let store = c .before .before .write-flags in
-    let l = c .before .before .before .before .before .before .loop in
-    let a = c .before .before .before .before .before .before .before .before .before .args in (
-      omega (arith, c .before .before .before .before .before .loop-test),
+    let turn = c .before .before .before .before .before in
+    let l = turn .before .loop in
+    let a = turn .before .before .before .before .args in (
+      omega (arith, turn .loop-test),
       store .kept .0 ∙ l .inv .1,
       store .ensures ∙ ap (flagsStored (l .n) (getD (a .flags .now) (l .n) 0)) (l .inv .2)
           ∙ ap (λ (n : ℕ). flagsWritten (a .flags .now) n (a .arena .now)) (let e : suc (l .n) ≡ l .n + 1 = omega arith in e),

@@ -17,9 +17,13 @@ use Rattle.deepening.proofs.appending.append_name_to_all_sites.Tie as t
 arena-bytes : (c : tie.After-slice-known) → Bytes (c .before .args .arena .now)
 arena-bytes c = bytes-by-place (c .before .args .arena .now) (λ k. c .slice-known .given k .fits)
 
+-- where the nodes were counted, once all flags are read
+abbrev counted : tie.After-shallow → tie.After-count
+counted c = c .before .before .before .before .before .before
+
 -- the arena with its new marks
 marks : (c : tie.After-write-state)
-    → let start = c .before .before .before .before .before .before .before .before .before .before .before in
+    → let start = counted (c .before .before) .before .before .before in
     let a = start .before .args in
     c .write-state .last .0 ≡ marked (a .arena .now) (a .name .now) (arena-bytes start) (start .before .pre)
 marks c =
@@ -27,7 +31,7 @@ marks c =
     let final = shallow .before .before in
     c .write-state .ensures
     ∙ (λ i. marksStored (final .before .before .keeps-order .ensures i) (eqb (final .finalized .ensures i) 1) (eqb (shallow .shallow .ensures i) 1)
-    (c .before .before .before .before .before .before .before .before .before .before .before .before .args .arena .now))
+    (counted shallow .before .before .before .before .args .arena .now))
 
 count-requires : tie.Need-count-requires
 count-requires c κs = search needs
@@ -47,7 +51,7 @@ write-state-requires c κs = search needs
 deepen-sites-requires : tie.Need-deepen-sites-requires
 deepen-sites-requires c κs =
     let marking = c .before .before .before in
-    let counting = marking .before .before .before .before .before .before .before .before in
+    let counting = counted (marking .before .before) in
     let start = counting .before .before .before in
     let a = start .before .args in
     subst (AllJoin (marking .write-state .last .0) (a .name .now)) (sym (counting .count .ensures))
@@ -60,7 +64,7 @@ same-length c = search needs
 returns : tie.Need-returns
 returns c =
     let marking = c .before .before .before .before .before .before in
-    let counting = marking .before .before .before .before .before .before .before .before in
+    let counting = counted (marking .before .before) in
     let start = counting .before .before .before in
     let a = start .before .args in
     c .before .before .deepen-sites .ensures ∙ (λ i. sitesDeepened (a .name .now) (counting .count .ensures i) (marks marking i))

@@ -24,19 +24,23 @@ Inv-loop arena name count sum₀ n₀ sum n = (n ≤ count) × (sum ≤ n * 255)
 abbrev μ-loop : tie.MeasureT-loop
 μ-loop arena name count sum₀ n₀ sum n = count - n
 
-reads-it : (c : tie.In-loop Inv-loop μ-loop) → ValidNode (c .before .before .before .before .before .args .arena .now) (c .before .loop .n)
+-- where the function begins, from the loop
+abbrev entry : tie.At-loop Inv-loop μ-loop → tie.Start Inv-loop μ-loop
+entry c = c .before .before .before .before
+
+reads-it : (c : tie.In-loop Inv-loop μ-loop) → ValidNode (entry (c .before) .args .arena .now) (c .before .loop .n)
 reads-it c = record {
-  opened = c .before .before .before .before .before .pre;
+  opened = entry (c .before) .pre;
   below = omega (arith, c .before .before .count .ensures, c .loop-test .taken);
 }
 
 -- the length with the name appended
 ends : (c : tie.After-joint Inv-loop μ-loop)
-    → let a = c .before .before .before .before .before .before .before .args in
+    → let a = entry (c .before .before .before) .args in
     c .joint .result + length (a .name .now)
     ≡ length (appendName (nodeIn (a .arena .now) (c .before .before .before .loop .n) .path) (a .name .now))
 ends c =
-    let a = c .before .before .before .before .before .before .before .args in
+    let a = entry (c .before .before .before) .args in
     ap (λ (k : ℕ). k + length (a .name .now)) (c .joint .ensures ∙ ap (λ (p : List ℕ). length p + length (separator p)) (c .before .path .ensures))
     ∙ sym (length-append-name (nodeIn (a .arena .now) (c .before .before .before .loop .n) .path) (a .name .now))
 
@@ -54,7 +58,7 @@ joint-requires c κs = tt
 
 add-end : tie.Need-add-end Inv-loop μ-loop
 add-end c =
-    let s = c .before .before .before .before .before .before .before in
+    let s = entry (c .before .before .before) in
     let n = c .before .before .before .loop .n in
     let path = nodeIn (s .args .arena .now) n .path in
     let here = has-path _ _ (reads-it (c .before .before)) in
@@ -74,13 +78,13 @@ add-n c = omega (arith, c .before .before .loop-test .taken)
 returns : tie.Need-returns Inv-loop μ-loop
 returns c =
     let l = c .before .before .before .before .loop in
-    let a = c .before .before .before .before .before .before .before .before .args in
+    let a = entry (c .before .before .before .before) .args in
     fit-long (a .arena .now) (a .name .now) (l .sum) (l .n) (reads-it (c .before .before .before) .below) (omega (arith, ends (c .before), c .if1 .taken))
     ∙ l .inv .2
 
 add-sum : tie.Need-add-sum Inv-loop μ-loop
 add-sum c =
-    let s = c .before .before .before .before .before .before .before .before in
+    let s = entry (c .before .before .before .before) in
     let l = c .before .before .before .before .loop in
     omega (arith, l .inv, c .if1 .left, held _ (s .pre .holds) .few, reads-it (c .before .before .before) .below)
 
@@ -90,7 +94,7 @@ loop-less c = omega (arith, c .before .before .before .loop-test .taken)
 loop-again : tie.Need-loop-again Inv-loop μ-loop
 loop-again c =
     let l = c .before .before .before .before .loop in
-    let a = c .before .before .before .before .before .before .before .before .args in
+    let a = entry (c .before .before .before .before) .args in
     let end = ends (c .before) in (
       omega (arith, c .before .before .before .loop-test .taken),
       omega (arith, l .inv .1, c .if1 .left),
@@ -102,7 +106,7 @@ loop-again c =
 returns-2 : tie.Need-returns-2 Inv-loop μ-loop
 returns-2 c =
     let l = c .before .loop in
-    let a = c .before .before .before .before .before .args in
+    let a = entry (c .before) .args in
     fit-end (a .arena .now) (a .name .now) (l .sum) (l .n) (omega (arith, c .before .before .count .ensures, c .loop-test .left)) ∙ l .inv .2
 
 pub paths-fit-spec : {M : Type 1} → statement M

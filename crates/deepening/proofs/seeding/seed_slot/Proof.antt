@@ -9,6 +9,10 @@ use Rattle.deepening.proofs.DeepenedSites.{front-length, front-counted,
 use Rattle.deepening.proofs.seeding.seed_slot.Statement.{statement}
 use Rattle.deepening.proofs.seeding.seed_slot.Tie as tie
 
+-- where the new record was made, once its links are stored
+abbrev made : tie.After-store-links → tie.After-deepen-record
+made c = c .before .before .before .before
+
 slice-aggregate-deepen-record : tie.Need-slice-aggregate-deepen-record
 slice-aggregate-deepen-record c = search needs
 
@@ -28,11 +32,11 @@ array-share-prefix-path : tie.Need-array-share-prefix-path
 array-share-prefix-path c = search needs
 
 slice-aggregate-store-record : tie.Need-slice-aggregate-store-record
-slice-aggregate-store-record c = front-length _ _ _ _ _ (c .before .before .before .before .before .before .before .before .deepen-record .ensures)
+slice-aggregate-store-record c = front-length _ _ _ _ _ (made (c .before .before .before .before) .deepen-record .ensures)
 
 store-record-requires : tie.Need-store-record-requires
 store-record-requires c κs =
-    let joined = c .before .before .before .before .before .before .before .before in
+    let joined = made (c .before .before .before .before) in
     let s = joined .before .before .before .before .before in (
       record { whole = c .before .before .before .before .store-links .kept .0 ∙ s .pre .1 .whole; within = s .pre .1 .within },
       front-counted _ _ _ _ _ (joined .deepen-record .ensures),
@@ -44,7 +48,7 @@ same-length c = search needs
 returns : tie.Need-returns
 returns c =
     let links = c .before .before .before .before .before .before .before in
-    let joined = links .before .before .before .before in
+    let joined = made links in
     let a = joined .before .before .before .before .before .args in
     let from = a .from .now in
     let right = joined .deepen-record .ensures in

@@ -34,9 +34,10 @@ loop-less c = omega (arith, c .before .before .before .before .loop-test .taken)
 loop-again : tie.Need-loop-again Inv-loop μ-loop
 loop-again c =
     let store = c .before .before .seed-slot in
-    let l = c .before .before .before .before .before .loop in
-    let a = c .before .before .before .before .before .before .before .before .before .args in (
-      omega (arith, c .before .before .before .before .loop-test .taken),
+    let turn = c .before .before .before .before in
+    let l = turn .before .loop in
+    let a = turn .before .before .before .before .before .args in (
+      omega (arith, turn .loop-test .taken),
       store .kept .1 .0 ∙ l .inv .1,
       store .ensures ∙ ap (slotSeeded (a .from .now) (a .name .now) (l .n)) (l .inv .2)
           ∙ ap (λ (n : ℕ). slotsSeeded (a .from .now) (a .name .now) n (a .into .now)) (let e : suc (l .n) ≡ l .n + 1 = omega arith in e),

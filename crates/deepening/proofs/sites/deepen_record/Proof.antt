@@ -14,6 +14,10 @@ use Rattle.deepening.proofs.DeepenedSites.{name-some, prims-raised, few
 use Rattle.deepening.proofs.sites.deepen_record.Statement.{statement}
 use Rattle.deepening.proofs.sites.deepen_record.Tie as tie
 
+-- where the function begins, once the joint is found
+abbrev entry : tie.After-joint → tie.Start
+entry c = c .before .before .before .before .before
+
 path-requires : tie.Need-path-requires
 path-requires c κs = c .before .before .before .pre .0 .stands
 
@@ -22,17 +26,17 @@ joint-requires c κs = search needs
 
 -- where the new path ends
 ends : (c : tie.After-joint)
-    → let a = c .before .before .before .before .before .args in
+    → let a = entry c .args in
     c .joint .result + length (a .name .now) ≡ length (appendName (nodeIn (a .arena .now) (a .n) .path) (a .name .now))
 ends c =
-    let s = c .before .before .before .before .before in
+    let s = entry c in
     let a = s .args in
     ap (λ (k : ℕ). k + length (a .name .now)) (c .joint .ensures ∙ ap (λ (p : List ℕ). length p + length (separator p)) (c .before .path .ensures))
     ∙ sym (length-append-name (nodeIn (a .arena .now) (a .n) .path) (a .name .now))
 
 put-joined-requires : tie.Need-put-joined-requires
 put-joined-requires c κs =
-    let s = c .before .before .before .before .before .before in
+    let s = entry (c .before) in
     let a = s .args in (
       c .before .joint .ensures,
       name-some (a .arena .now) (a .name .now) (a .n) (s .pre .0),
@@ -40,26 +44,26 @@ put-joined-requires c κs =
     )
 
 load-node-requires : tie.Need-load-node-requires
-load-node-requires c κs = c .before .before .before .before .before .before .before .before .before .pre .0 .stands .slot
+load-node-requires c κs = entry (c .before .before .before .before) .pre .0 .stands .slot
 
 add-node : tie.Need-add-node
 add-node c =
-    let s = c .before .before .before .before .before .before .before .before .before .before .before in
+    let s = entry (c .before .before .before .before .before .before) in
     omega (arith, c .before .load-node .ensures .«prim_count», few-prims (s .args .arena .now) (s .args .name .now) (s .args .n) (s .pre .0))
 
 add-node-2 : tie.Need-add-node-2
 add-node-2 c =
-    let s = c .before .before .before .before .before .before .before .before .before .before .before in
+    let s = entry (c .before .before .before .before .before .before) in
     omega (arith, ends (c .before .before .before .before .before .before), s .pre .0 .fits)
 
 add-node-3 : tie.Need-add-node-3
 add-node-3 c =
-    let s = c .before .before .before .before .before .before .before .before .before .before .before in
+    let s = entry (c .before .before .before .before .before .before) in
     omega (arith, ends (c .before .before .before .before .before .before), s .pre .0 .fits)
 
 cast-node : tie.Need-cast-node
 cast-node c =
-    let s = c .before .before .before .before .before .before .before .before .before .before .before in
+    let s = entry (c .before .before .before .before .before .before) in
     omega (arith, ends (c .before .before .before .before .before .before), s .pre .0 .fits)
 
 same-length : tie.Need-same-length
@@ -67,7 +71,7 @@ same-length c = search needs
 
 returns : tie.Need-returns
 returns c =
-    let s = c .before .before .before .before .before .before .before .before .before .before .before in
+    let s = entry (c .before .before .before .before .before .before) in
     let a = s .args in
     let bs = a .arena .now in
     let name = a .name .now in

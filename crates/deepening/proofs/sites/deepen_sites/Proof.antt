@@ -37,10 +37,11 @@ loop-less c = omega (arith, c .before .before .before .before .loop-test .taken)
 loop-again : tie.Need-loop-again Inv-loop μ-loop
 loop-again c =
     let store = c .before .before .deepen-site in
-    let l = c .before .before .before .before .before .loop in
-    let s = c .before .before .before .before .before .before .before .before in
+    let turn = c .before .before .before .before in
+    let l = turn .before .loop in
+    let s = turn .before .before .before .before in
     let a = s .args in
-    let more = c .before .before .before .before .loop-test .taken in (
+    let more = turn .loop-test .taken in (
       omega (arith, more),
       store .kept .0 ∙ l .inv .1,
       store .ensures

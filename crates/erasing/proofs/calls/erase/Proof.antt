@@ -14,18 +14,22 @@ use Rattle.erasing.proofs.EraseCallLaws.{erase-not-whole, erase-refused
 use Rattle.erasing.proofs.calls.erase.Statement.{statement}
 use Rattle.erasing.proofs.calls.erase.Tie as tie
 
+-- where the function begins, once questions 1 to 3 pass
+abbrev entry : tie.After-enum-told → tie.Start
+entry c = c .before .before .before .before .before .before .before
+
 -- questions 1 to 3 pass
 has-node : (c : tie.After-enum-told)
-    → let bs = c .before .before .before .before .before .before .before .args .arena .now in ValidArena bs × (0 < countIn bs)
+    → let bs = entry c .args .arena .now in ValidArena bs × (0 < countIn bs)
 has-node c = some-node _ (sym (rw (c .enum-told .given .1) at (c .before .before .ask-node-zero .ensures)))
 
 -- the set has 1,024 bytes
-large : (c : tie.After-enum-told) → length (c .before .before .before .before .before .before .before .args .set .now) ≡ 1024
+large : (c : tie.After-enum-told) → length (entry c .args .set .now) ≡ 1024
 large c = c .before .before .before .before .if1 .left
 
 -- and past its test question 11
 accepted : (c : tie.Else2)
-    → let a = c .before .before .before .before .before .before .before .before .before .before .args in canErase (decode (a .arena .now)) (a .set .now) ≡ true
+    → let a = entry (c .before .before .before) .args in canErase (decode (a .arena .now)) (a .set .now) ≡ true
 accepted c = sym (c .before .can-erase .ensures) ∙ not-false _ (c .if2 .left)
 
 returns : tie.Need-returns

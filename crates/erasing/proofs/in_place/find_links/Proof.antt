@@ -17,6 +17,10 @@ use Rattle.erasing.proofs.in_place.find_links.Tie as tie
 bytes : (c : tie.After-shared-slice-known) → Bytes (c .before .args .arena .now)
 bytes c = bytes-by-place (c .before .args .arena .now) (λ k. c .shared-slice-known .given k .fits)
 
+-- what is known of the arena, once the lists and their ends are made
+abbrev known : tie.After-ends → tie.After-shared-slice-known
+known c = c .before .before .before .before .before .before .before
+
 slice-aggregate-gather-lists : tie.Need-slice-aggregate-gather-lists
 slice-aggregate-gather-lists c = search needs
 
@@ -25,8 +29,12 @@ slice-aggregate-gather-lists-2 c = search needs
 
 gather-lists-requires : tie.Need-gather-lists-requires
 gather-lists-requires c κs =
-    let ready = c .before .before .before .before .before .before .before .before .pre .0 .0 in
+    let ready = known c .before .pre .0 .0 in
     ((ready .opened, ready .counted, ready .numbered), (ready .long, refl, refl))
+
+-- where the lists were gathered, once the links are to be made
+abbrev gathered : tie.After-link-lists-arg3 → tie.After-gather-lists
+gathered c = c .before .before .before .before .before .before .before
 
 slice-aggregate-link-lists : tie.Need-slice-aggregate-link-lists
 slice-aggregate-link-lists c = search needs
@@ -36,15 +44,15 @@ slice-aggregate-link-lists-2 c = search needs
 
 link-lists-requires : tie.Need-link-lists-requires
 link-lists-requires c κs =
-    let gather = c .before .before .before .before .before .before .before in
-    let known = gather .before .before .before .before .before .before .before .before in
-    let s = known .before in
+    let gather = gathered c in
+    let read = known (gather .before) in
+    let s = read .before in
     let ready = s .pre .0 .0 in
     let lists = gather .gather-lists .last .1 .1 .1 .1 .0 in
     let ends = gather .gather-lists .last .1 .1 .1 .1 .1 .0 in (
       (
-        subst (Parted lists ends) (sym (s .pre .0 .1)) (parted _ _ _ _ (bytes known) ready lists ends (gather .gather-lists .ensures)),
-        omega (arith, s .pre .0 .1, size-kept _ _ _ _ (bytes known) ready, few _ _ _ _ (bytes known) ready),
+        subst (Parted lists ends) (sym (s .pre .0 .1)) (parted _ _ _ _ (bytes read) ready lists ends (gather .gather-lists .ensures)),
+        omega (arith, s .pre .0 .1, size-kept _ _ _ _ (bytes read) ready, few _ _ _ _ (bytes read) ready),
       ),
       s .pre .1,
     )
@@ -61,8 +69,8 @@ same-length-3 c = search needs
 returns : tie.Need-returns
 returns c =
     let links = c .before .before .before .before .before .before in
-    let gather = links .before .before .before .before .before .before .before .before in
-    let s = gather .before .before .before .before .before .before .before .before .before in
+    let gather = gathered (links .before) in
+    let s = known (gather .before) .before in
     let a = s .args in
     let filled = gather .gather-lists .last .1 .1 .1 .1 .0 in
     let ended = gather .gather-lists .last .1 .1 .1 .1 .1 .0 in

@@ -14,6 +14,10 @@ use Rattle.erasing.proofs.MoveLaws.{path-short, path-copied, counts-pat
 use Rattle.erasing.proofs.records.move_record.Statement.{statement}
 use Rattle.erasing.proofs.records.move_record.Tie as tie
 
+-- where the function begins, once the record has its new numbers
+abbrev entry : tie.After-renumber → tie.Start
+entry c = c .before .before .before .before .before .before
+
 load-node-requires : tie.Need-load-node-requires
 load-node-requires c κs = search needs
 
@@ -28,14 +32,14 @@ path-requires-2 c κs = search needs
 
 write-bytes-requires : tie.Need-write-bytes-requires
 write-bytes-requires c κs =
-    let s = c .before .before .before .before .before .before .before .before .before .before .before in
+    let s = entry (c .before .before .before .before .before) in
     omega (arith, ap length (c .path2 .ensures), path-short (s .args .arena .now) (s .args .from) (s .pre .0 .0), s .pre .0 .2)
 
 -- the path, as it is stored from the room
-copied : (c : tie.After-write-bytes) → let a = c .before .before .before .before .before .before .before .before .before .before .before .before .args in
+copied : (c : tie.After-write-bytes) → let a = entry (c .before .before .before .before .before .before) .args in
     take (length (c .before .before .before .before .path .result .now)) (c .write-bytes .last .0) ≡ nodeIn (a .arena .now) (a .from) .path
 copied c =
-    let s = c .before .before .before .before .before .before .before .before .before .before .before .before in
+    let s = entry (c .before .before .before .before .before .before) in
     path-copied (s .args .arena .now) (s .args .from) (s .pre .0 .0) (s .args .path .now) _ _ (s .pre .0 .2)
     (c .before .before .before .before .path .ensures)
     (c .write-bytes .ensures ∙ ap (λ (l : List ℕ). stored 0 l (s .args .path .now)) (c .before .path2 .ensures))
@@ -44,7 +48,7 @@ slice-reshare-prefix-store-record : tie.Need-slice-reshare-prefix-store-record
 slice-reshare-prefix-store-record c =
     let copy = c .before .before .before in
     let path = copy .before .before .before .before in
-    let s = path .before .before .before .before .before .before .before .before in
+    let s = entry (path .before .before) in
     let a = s .args in
     omega (arith, ap length (path .path .ensures), path-short (a .arena .now) (a .from) (s .pre .0 .0), copy .write-bytes .kept .0, s .pre .0 .2)
 
@@ -57,7 +61,7 @@ store-record-requires : tie.Need-store-record-requires
 store-record-requires c κs =
     let copy = c .before .before .before .before in
     let renumber = copy .before .before .before .before .before .before in
-    let s = renumber .before .before .before .before .before .before in
+    let s = entry renumber in
     let a = s .args in
     let p = s .pre .0 .0 in (
       s .pre .0 .1,
@@ -79,7 +83,7 @@ returns c =
     let store = c .before .before in
     let copy = store .before .before .before .before .before in
     let renumber = copy .before .before .before .before .before .before in
-    let s = renumber .before .before .before .before .before .before in
+    let s = entry renumber in
     let a = s .args in
     store .store-record .ensures
     ∙ (λ i. recordStored (a .to) (renumber .renumber .ensures i) (copied copy i) (a .arena .now))

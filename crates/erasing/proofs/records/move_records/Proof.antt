@@ -21,6 +21,10 @@ abbrev μ-loop : tie.MeasureT-loop
 bytes : (c : tie.After-slice-known Inv-loop μ-loop) → Bytes (c .before .args .arena .now)
 bytes c = bytes-by-place (c .before .args .arena .now) (λ k. c .slice-known .given k .fits)
 
+-- the turn of the loop, where its record is to be moved
+abbrev turn : tie.After-path Inv-loop μ-loop → tie.In-loop Inv-loop μ-loop
+turn c = c .before .before .before .before .before
+
 loop-holds : tie.Need-loop-holds Inv-loop μ-loop
 loop-holds c = (record { high = omega arith; long = refl; moved = refl }, refl)
 
@@ -48,11 +52,11 @@ shared-slice-read-move-record c =
     omega (arith, test .loop-test, few-nodes _ _ _ _ (bytes s) (s .before .pre), s .before .pre .numbered .long)
 
 slice-aggregate-move-record : tie.Need-slice-aggregate-move-record Inv-loop μ-loop
-slice-aggregate-move-record c = sym (c .before .before .before .before .before .before .loop .inv .1)
+slice-aggregate-move-record c = sym (turn c .before .loop .inv .1)
 
 move-record-requires : tie.Need-move-record-requires Inv-loop μ-loop
 move-record-requires c κs =
-    let test = c .before .before .before .before .before in
+    let test = turn c in
     let l = test .before .loop in
     let s = test .before .before .before .before in
     let ready = s .before .pre in
@@ -66,7 +70,7 @@ move-record-requires c κs =
     )
 
 loop-less : tie.Need-loop-less Inv-loop μ-loop
-loop-less c = omega (arith, c .before .before .before .before .before .before .before .before .before .loop-test)
+loop-less c = omega (arith, turn (c .before .before .before .before) .loop-test)
 
 loop-again : tie.Need-loop-again Inv-loop μ-loop
 loop-again c =

@@ -8,6 +8,10 @@ use Rattle.erasing.proofs.AcceptLaws.{accepts-node-0, refuses-parent, a
 use Rattle.erasing.proofs.sets.spares_one.Statement.{statement}
 use Rattle.erasing.proofs.sets.spares_one.Tie as tie
 
+-- where the function begins, from a node that stays and is not node 0
+abbrev entry : tie.Else2 → tie.Start
+entry c = c .before .before .before .before .before
+
 shared-slice-read-byte : tie.Need-shared-slice-read-byte
 shared-slice-read-byte c =
     let s = c .before .before .before in
@@ -26,13 +30,13 @@ cast-if3 c = search needs
 
 shared-slice-read-if3 : tie.Need-shared-slice-read-if3
 shared-slice-read-if3 c =
-    let s = c .before .before .before .before .before .before .before in
+    let s = entry (c .before .before) in
     let some = c .before .before .if2 .left in
     omega (arith, s .pre .1, c .before .parent .ensures, has-slot _ _ (readable-parent _ _ (s .pre .0) (omega arith)) .within)
 
 returns-2 : tie.Need-returns-2
 returns-2 c =
-    let a = c .before .before .before .before .before .before .before .before .args in
+    let a = entry (c .before .before .before) .args in
     refuses-parent (decode (a .arena .now)) (a .set .now) (a .n) (c .before .before .parent .result)
     (c .before .before .before .before .if1 .taken) (c .before .before .before .if2 .left) (c .before .before .parent .ensures) (c .if3 .taken)
 
@@ -44,13 +48,13 @@ cast-result c = search needs
 
 shared-slice-read-result : tie.Need-shared-slice-read-result
 shared-slice-read-result c =
-    let s = c .before .before .before .before .before .before .before .before .before .before in
+    let s = entry (c .before .before .before .before .before) in
     let some = c .before .before .before .before .before .if2 .left in
     omega (arith, s .pre .1, c .before .origin .ensures, has-slot _ _ (readable-origin _ _ (s .pre .0) (omega arith)) .within)
 
 returns-3 : tie.Need-returns-3
 returns-3 c =
-    let a = c .before .before .before .before .before .before .before .before .before .before .args in
+    let a = entry (c .before .before .before .before .before) .args in
     accepts-origin (decode (a .arena .now)) (a .set .now) (a .n) (c .before .before .before .before .parent .result) (c .before .origin .result)
     (c .before .before .before .before .before .before .if1 .taken) (c .before .before .before .before .before .if2 .left)
     (c .before .before .before .before .parent .ensures) (c .before .before .if3 .left) (c .before .origin .ensures)

@@ -14,6 +14,7 @@ Inv-loop arena root count table₀ n₀ table n = Tabling arena count n table₀
 abbrev μ-loop : tie.MeasureT-loop
 μ-loop arena root count table₀ n₀ table n = count - n
 
+-- where the function begins, from the loop
 abbrev entry : tie.At-loop Inv-loop μ-loop → tie.Start Inv-loop μ-loop
 entry c = c .before .before .before .before .before .before .before .before
 

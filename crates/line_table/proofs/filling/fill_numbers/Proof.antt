@@ -7,13 +7,25 @@ use Rattle.line_table.proofs.TableCells.{small, next}
 use Rattle.line_table.proofs.filling.fill_numbers.Statement.{statement}
 use Rattle.line_table.proofs.filling.fill_numbers.Tie as tie
 
+-- where the function begins, from the first cell
+abbrev entry : tie.After-origin → tie.Start
+entry c = c .before .before .before .before
+
+-- the first cell, from the second
+abbrev first : tie.After-depth → tie.After-origin
+first c = c .before .before .before .before .before
+
+-- the second cell, from the third
+abbrev second : tie.After-sibling → tie.After-depth
+second c = c .before .before .before .before .before
+
 origin-requires : tie.Need-origin-requires
 origin-requires c κs = search needs
 
 put-requires : tie.Need-put-requires
 unfolding nodeRow
 put-requires c κs =
-    let given = c .before .before .before .before .pre in
+    let given = entry c .pre in
     let row = given .standing .readable in
     let lower = legal _ (row .opened) .origin-lower _ (given .above) (row .below) in
     next given 0 (omega arith) (given .filled) (record { same = c .origin .ensures; fits = omega (arith, c .origin .ensures, lower, small row) })
@@ -26,7 +38,9 @@ cast-put c = search needs
 
 put-requires-2 : tie.Need-put-requires-2
 unfolding nodeRow
-put-requires-2 c κs = next (c .before .before .before .before .before .before .before .before .before .pre) 1 (omega arith) (c .before .before .before .before .put .ensures) (record { same = c .depth .ensures; fits = omega arith })
+put-requires-2 c κs =
+    next (entry (first c) .pre) 1 (omega arith) (c .before .before .before .before .put .ensures)
+    (record { same = c .depth .ensures; fits = omega arith })
 
 sibling-requires : tie.Need-sibling-requires
 sibling-requires c κs = search needs
@@ -36,7 +50,9 @@ cast-put-2 c = search needs
 
 put-requires-3 : tie.Need-put-requires-3
 unfolding nodeRow
-put-requires-3 c κs = next (c .before .before .before .before .before .before .before .before .before .before .before .before .before .before .pre) 2 (omega arith) (c .before .before .before .before .put2 .ensures) (record { same = c .sibling .ensures; fits = omega arith })
+put-requires-3 c κs =
+    next (entry (first (second c)) .pre) 2 (omega arith) (c .before .before .before .before .put2 .ensures)
+    (record { same = c .sibling .ensures; fits = omega arith })
 
 rank-requires : tie.Need-rank-requires
 rank-requires c κs = search needs
@@ -46,7 +62,9 @@ cast-put-3 c = search needs
 
 put-requires-4 : tie.Need-put-requires-4
 unfolding nodeRow
-put-requires-4 c κs = next (c .before .before .before .before .before .before .before .before .before .before .before .before .before .before .before .before .before .before .before .pre) 3 (omega arith) (c .before .before .before .before .put3 .ensures) (record { same = c .rank .ensures; fits = omega arith })
+put-requires-4 c κs =
+    next (entry (first (second (c .before .before .before .before .before))) .pre) 3 (omega arith)
+    (c .before .before .before .before .put3 .ensures) (record { same = c .rank .ensures; fits = omega arith })
 
 same-length : tie.Need-same-length
 same-length c = search needs

@@ -8,6 +8,10 @@ use Rattle.line_table.proofs.TableRows.{bit-set, bit-clear, origin-lowe
 use Rattle.line_table.proofs.filling.fill_origins.Statement.{statement}
 use Rattle.line_table.proofs.filling.fill_origins.Tie as tie
 
+-- where the function begins, once the origin is read
+abbrev entry : tie.After-cell2 → tie.Start
+entry c = c .before .before .before .before .before .before .before
+
 cell-requires : tie.Need-cell-requires
 cell-requires c κs = search needs
 
@@ -31,20 +35,20 @@ cell-requires-2 c κs = search needs
 
 cell-requires-3 : tie.Need-cell-requires-3
 cell-requires-3 c κs =
-    let given = c .before .before .before .before .before .before .before .before .pre in
+    let given = entry (c .before) .pre in
     cell-within given _ 10 (omega (arith, origin-read given (omega arith) (c .before .cell2 .ensures), origin-lower given)) (omega arith)
 
 cell-requires-4 : tie.Need-cell-requires-4
 cell-requires-4 c κs =
     let origin = c .before .before .before in
-    let given = origin .before .before .before .before .before .before .before .pre in
+    let given = entry origin .pre in
     cell-within given _ 11 (omega (arith, origin-read given (omega arith) (origin .cell2 .ensures), origin-lower given)) (omega arith)
 
 put-requires-3 : tie.Need-put-requires-3
 unfolding nodeRow
 put-requires-3 c κs =
     let origin = c .before .before .before .before .before in
-    let given = origin .before .before .before .before .before .before .before .pre in
+    let given = entry origin .pre in
     let authored = bit-clear _ (authored-read given (omega arith) (origin .before .before .before .cell .ensures)) (origin .before .before .if1 .left) in
     next given 10 (omega arith) (given .filled)
     (root-from-origin given authored (origin-read given (omega arith) (origin .cell2 .ensures)) (c .before .before .before .cell3 .ensures))
@@ -57,7 +61,7 @@ unfolding nodeRow
 put-requires-4 c κs =
     let hops = c .before .before .before .before .before in
     let origin = hops .before .before .before .before in
-    let given = origin .before .before .before .before .before .before .before .pre in
+    let given = entry origin .pre in
     let authored = bit-clear _ (authored-read given (omega arith) (origin .before .before .before .cell .ensures)) (origin .before .before .if1 .left) in
     next given 11 (omega arith) (c .before .before .before .put3 .ensures)
     (hops-from-origin given authored (origin-read given (omega arith) (origin .cell2 .ensures)) (hops .cell4 .ensures))

@@ -54,10 +54,14 @@ put-requires-4 c κs =
     let given = c .before .before .before .before .before .before .before .pre in
     next given 7 (omega arith) (given .filled) (record { same = c .number .ensures .0 ∙ ap bit (c .before .is-implied .ensures); fits = omega (arith, c .number .ensures .1) })
 
+-- the other branch, where its second cell is written
+abbrev branch : tie.After-put-arg5 → tie.Else1
+branch c = c .before .before .before .before .before .before .before
+
 put-requires-5 : tie.Need-put-requires-5
 unfolding nodeRow
 put-requires-5 c κs =
-    let other = c .before .before .before .before .before .before .before in
+    let other = branch c in
     let given = other .before .before .before .before .pre in
     let told = sym (other .before .is-propagated-specializes .ensures) ∙ other .if1 .left in
     next given 8 (omega arith) (c .before .before .before .put4 .ensures) (record { same = sym (other-replaced _ _ told); fits = omega (arith, small (given .standing .readable)) })
@@ -69,7 +73,7 @@ put-requires-6 : tie.Need-put-requires-6
 unfolding nodeRow
 put-requires-6 c κs =
     let put = c .before .before .before .before in
-    let other = put .before .before .before .before .before .before .before .before in
+    let other = branch (put .before) in
     let given = other .before .before .before .before .pre in
     let told = sym (other .before .is-propagated-specializes .ensures) ∙ other .if1 .left in
     next given 9 (omega arith) (put .put5 .ensures)

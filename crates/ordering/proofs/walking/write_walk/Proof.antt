@@ -22,6 +22,10 @@ write-order-entry-requires c κs = let s = c .before .before in record { whole =
 begun : (c : tie.After-write-order-entry Inv-loop μ-loop) → Walkable (c .write-order-entry .last .0) (c .before .before .before .args .count)
 begun c = walk-begun _ _ (c .before .before .before .pre) _ (c .write-order-entry .ensures)
 
+-- the turn of the loop, once the next node is found
+abbrev turn : tie.After-next-of Inv-loop μ-loop → tie.In-loop Inv-loop μ-loop
+turn c = c .before .before .before .before
+
 sub-last : tie.Need-sub-last Inv-loop μ-loop
 sub-last c = omega (arith, c .before .before .before .before .before .pre .some-node)
 
@@ -41,16 +45,16 @@ next-of-requires c κs =
     (walking-climbs _ _ (begun (l .before .before .before)) _ _ _ (l .loop .inv .1), c .before .look-ahead .ensures)
 
 add-at : tie.Need-add-at Inv-loop μ-loop
-add-at c = omega (arith, c .before .before .before .before .loop-test .taken)
+add-at c = omega (arith, turn c .loop-test .taken)
 
 write-order-entry-requires-2 : tie.Need-write-order-entry-requires-2 Inv-loop μ-loop
 write-order-entry-requires-2 c κs =
-    let t = c .before .before .before .before .before in
+    let t = turn (c .before) in
     let s = t .before .before .before .before .before .before .before in
     record { whole = t .before .loop .inv .1 .long; within = omega (arith, t .loop-test .taken, s .pre .few) }
 
 loop-less : tie.Need-loop-less Inv-loop μ-loop
-loop-less c = omega (arith, c .before .before .before .before .before .before .before .before .loop-test .taken)
+loop-less c = omega (arith, turn (c .before .before .before .before) .loop-test .taken)
 
 loop-again : tie.Need-loop-again Inv-loop μ-loop
 loop-again c =

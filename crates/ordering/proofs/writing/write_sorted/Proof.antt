@@ -23,22 +23,26 @@ ready c =
       has-order = s .pre .0 .3;
     }
 
+-- what is known of the arena, once its flags are stored
+abbrev arena-known : tie.After-write-state → tie.After-slice-known
+arena-known c = c .before .before .before .before
+
 write-state-requires : tie.Need-write-state-requires
 write-state-requires c κs = search needs
 
 store-lists-requires : tie.Need-store-lists-requires
 store-lists-requires c κs =
     let marks = c .before .before .before in
-    let k = marks .before .before .before .before in
+    let k = arena-known marks in
     (marks .write-state .kept .0 ∙ k .before .pre .0 .0 .whole, few _ _ (ready k), parted _ _ (ready k) _ _ (k .before .pre .1))
 
 -- the arena once the links are stored
-stored : (c : tie.After-store-lists) → let k = c .before .before .before .before .before .before .before .before in
+stored : (c : tie.After-store-lists) → let k = arena-known (c .before .before .before .before) in
     c .store-lists .last .0 ≡ linked (k .before .args .arena .now) (k .before .args .count) (ready k)
 stored c =
     let known = c .before .before in
     let marks = known .before .before in
-    let k = marks .before .before .before .before in
+    let k = arena-known marks in
     let a = k .before .args in
     let marked = marks .write-state .ensures in
     c .store-lists .ensures ∙ ap (listsStored (a .sorted .now) (a .ends .now) (a .count)) marked
@@ -48,7 +52,7 @@ stored c =
 write-walk-requires : tie.Need-write-walk-requires
 write-walk-requires c κs =
     let lists = c .before .before .before in
-    let k = lists .before .before .before .before .before .before .before .before in
+    let k = arena-known (lists .before .before .before .before) in
     subst (λ (s : List ℕ). Walkable s (k .before .args .count)) (sym (stored lists)) (walkable _ _ (ready k))
 
 same-length : tie.Need-same-length
@@ -58,7 +62,7 @@ returns : tie.Need-returns
 returns c =
     let walk = c .before .before in
     let lists = walk .before .before .before .before in
-    let k = lists .before .before .before .before .before .before .before .before in
+    let k = arena-known (lists .before .before .before .before) in
     walk .write-walk .ensures ∙ ap (walkStored (k .before .args .count)) (stored lists) ∙ walk-written _ _ (ready k)
 
 pub write-sorted-spec : {M : Type 1} → statement M

@@ -13,6 +13,7 @@ use Rattle.model.specs.Path.{solidus}
 use Rattle.path.proofs.join.put_joined.Statement.{statement}
 use Rattle.path.proofs.join.put_joined.Tie as tie
 
+-- where the function begins, once the name is to be written
 abbrev entry : tie.After-write-bytes-arg2 → tie.Start
 entry c = c .before .before .before .before .before .before .before .before
 

@@ -27,8 +27,9 @@ ended-requires c κs = search needs
 
 returns-4 : tie.Need-returns-4
 returns-4 c =
+    let more = c .before .before in
     c .ended .ensures ∙ c .before .read-behind-slash .ensures .same
-    ∙ sym (rooted (c .before .before .before .before .before .before .before .before .before .args .path .now) (omega (arith, c .before .before .if3 .left, c .before .before .before .before .before .if1 .left)) (c .before .before .before .if2 .left))
+    ∙ sym (rooted (more .before .before .before .before .before .before .before .args .path .now) (omega (arith, more .if3 .left, more .before .before .before .if1 .left)) (more .before .if2 .left))
 
 pub read-path-spec : {M : Type 1} → statement M
 read-path-spec =

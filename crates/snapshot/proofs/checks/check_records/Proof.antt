@@ -24,13 +24,17 @@ here c = omega (arith, c .loop-test .taken, c .before .before .before .before .b
 long : (c : tie.After-record-at Inv-loop μ-loop) → (28 ≤ length (c .record-at .result .now)) × (length (c .record-at .result .now) ≤ 282)
 long c = piece-long _ _ _ (c .before .before .loop .inv .reached) (here (c .before)) (c .record-at .result .now) (c .record-at .ensures)
 
+-- where the turn's record was found, once it is checked
+abbrev found : tie.After-check-one Inv-loop μ-loop → tie.After-record-at Inv-loop μ-loop
+found c = c .before .before .before
+
 -- an accepted record's number is below 1,024
-small : (c : tie.After-known-told2 Inv-loop μ-loop) → c .before .before .before .before .before .before .before .before .loop .n < 1024
+small : (c : tie.After-known-told2 Inv-loop μ-loop) → found (c .before .before .before) .before .before .loop .n < 1024
 small c =
     let asked = c .before .before .before in
-    let found = asked .before .before .before in
-    let turn = found .before in
-    fits-prims _ _ _ _ _ _ (turn .before .loop .inv) (here turn) (found .record-at .result .now) (found .record-at .ensures)
+    let piece = found asked in
+    let turn = piece .before in
+    fits-prims _ _ _ _ _ _ (turn .before .loop .inv) (here turn) (piece .record-at .result .now) (piece .record-at .ensures)
     (asked .check-one .result) (asked .check-one .ensures) _ (c .before .checked2 .given .1)
 
 kinds-requires : tie.Need-kinds-requires Inv-loop μ-loop
@@ -61,14 +65,14 @@ enum-known-checked : tie.Need-enum-known-checked Inv-loop μ-loop
 enum-known-checked c = search needs
 
 same-length : tie.Need-same-length Inv-loop μ-loop
-same-length c = let l = c .before .before .before .before .before .before .before .before in l .loop .inv .whole ∙ sym (l .before .before .before .before .before .pre .1)
+same-length c = let l = found (c .before .before .before) .before .before in l .loop .inv .whole ∙ sym (l .before .before .before .before .before .pre .1)
 
 returns : tie.Need-returns Inv-loop μ-loop
 returns c =
     let asked = c .before .before .before in
-    let found = asked .before .before .before in
-    let turn = found .before in
-    refused-here _ _ _ _ _ _ (turn .before .loop .inv) (here turn) (found .record-at .result .now) (found .record-at .ensures)
+    let piece = found asked in
+    let turn = piece .before in
+    refused-here _ _ _ _ _ _ (turn .before .loop .inv) (here turn) (piece .record-at .result .now) (piece .record-at .ensures)
     (asked .check-one .result) (asked .check-one .ensures) _ (c .before .checked .given .1)
 
 enum-known-checked-2 : tie.Need-enum-known-checked-2 Inv-loop μ-loop
@@ -78,43 +82,43 @@ cast-prims : tie.Need-cast-prims Inv-loop μ-loop
 cast-prims c = search needs
 
 slice-write-prims : tie.Need-slice-write-prims Inv-loop μ-loop
-slice-write-prims c = omega (arith, small c, c .before .before .before .before .before .before .before .before .loop .inv .whole)
+slice-write-prims c = omega (arith, small c, found (c .before .before .before) .before .before .loop .inv .whole)
 
 shared-slice-read-with-root : tie.Need-shared-slice-read-with-root Inv-loop μ-loop
-shared-slice-read-with-root c = omega (arith, long (c .before .before .before .before .before .before .before) .0)
+shared-slice-read-with-root c = omega (arith, long (found (c .before .before .before .before)) .0)
 
 with-root-requires : tie.Need-with-root-requires Inv-loop μ-loop
 with-root-requires c κs = tt
 
 sub-path-bytes : tie.Need-sub-path-bytes Inv-loop μ-loop
-sub-path-bytes c = omega (arith, long (c .before .before .before .before .before .before .before .before) .0)
+sub-path-bytes c = omega (arith, long (found (c .before .before .before .before .before)) .0)
 
 add-path-bytes : tie.Need-add-path-bytes Inv-loop μ-loop
-add-path-bytes c = let found = c .before .before .before .before .before .before .before .before in omega (arith, long found .1, found .before .before .loop .inv .few-bytes)
+add-path-bytes c = let piece = found (c .before .before .before .before .before) in omega (arith, long piece .1, piece .before .before .loop .inv .few-bytes)
 
 add-at : tie.Need-add-at Inv-loop μ-loop
-add-at c = omega (arith, long (c .before .before .before .before .before .before .before .before) .1)
+add-at c = omega (arith, long (found (c .before .before .before .before .before)) .1)
 
 add-at-2 : tie.Need-add-at-2 Inv-loop μ-loop
 add-at-2 c =
-    let found = c .before .before .before .before .before .before .before .before in
-    let turn = found .before in
-    omega (arith, reached-more _ _ _ (turn .before .loop .inv .reached) (here turn) _ (found .record-at .ensures) .within)
+    let piece = found (c .before .before .before .before .before) in
+    let turn = piece .before in
+    omega (arith, reached-more _ _ _ (turn .before .loop .inv .reached) (here turn) _ (piece .record-at .ensures) .within)
 
 add-n : tie.Need-add-n Inv-loop μ-loop
-add-n c = omega (arith, c .before .before .before .before .before .before .before .before .before .loop-test .taken)
+add-n c = omega (arith, found (c .before .before .before .before .before) .before .loop-test .taken)
 
 loop-less : tie.Need-loop-less Inv-loop μ-loop
-loop-less c = omega (arith, c .before .before .before .before .before .before .before .before .before .loop-test .taken)
+loop-less c = omega (arith, found (c .before .before .before .before .before) .before .loop-test .taken)
 
 loop-again : tie.Need-loop-again Inv-loop μ-loop
 loop-again c =
     let told = c .before .before .before in
     let asked = told .before .before in
-    let found = asked .before .before .before in
-    let turn = found .before in
+    let piece = found asked in
+    let turn = piece .before in
     rw (c .with-root .ensures)
-    (checked-more _ _ _ _ _ _ (turn .before .loop .inv) (here turn) (found .record-at .result .now) (found .record-at .ensures)
+    (checked-more _ _ _ _ _ _ (turn .before .loop .inv) (here turn) (piece .record-at .result .now) (piece .record-at .ensures)
     (asked .check-one .result) (asked .check-one .ensures) _ (told .checked2 .given .1))
 
 same-length-2 : tie.Need-same-length-2 Inv-loop μ-loop

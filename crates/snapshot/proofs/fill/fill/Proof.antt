@@ -19,6 +19,7 @@ Inv-loop arena₀ bytes count prims at₀ n₀ arena at n = Filled arena₀ byte
 abbrev μ-loop : tie.MeasureT-loop
 μ-loop arena₀ bytes count prims at₀ n₀ arena at n = count - n
 
+-- where the function begins, from the loop
 abbrev entry : tie.At-loop Inv-loop μ-loop → tie.Start Inv-loop μ-loop
 entry c = c .before .before .before .before .before .before .before .before
 

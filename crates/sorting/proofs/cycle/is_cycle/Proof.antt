@@ -41,13 +41,14 @@ is-stronger-requires-3 c κs =
 
 returns-4 : tie.Need-returns-4
 returns-4 c e =
-    let s = c .before .before .before .before .before .before .before .before in
+    let last = c .before in
+    let s = last .before .before .before .before .before .before .before in
     let bs = s .args .arena .now in
-    let tree = tree-read bs (bytes-by-place bs (λ k. c .before .before .before .before .before .before .before .shared-slice-known .given k .fits)) (s .pre .0) in
-    let three = c .before .before .before .before .before .before .are-siblings .ensures (not-false _ (c .before .before .before .before .before .if1 .left)) in
+    let tree = tree-read bs (bytes-by-place bs (λ k. last .before .before .before .before .before .before .shared-slice-known .given k .fits)) (s .pre .0) in
+    let three = last .before .before .before .before .before .are-siblings .ensures (not-false _ (last .before .before .before .before .if1 .left)) in
     cycle-refutes bs (s .pre .0) tree _ _ _ three
-    (sym (c .before .before .before .before .is-stronger .ensures) ∙ not-false _ (c .before .before .before .if2 .left))
-    (sym (c .before .before .is-stronger2 .ensures) ∙ not-false _ (c .before .if3 .left))
+    (sym (last .before .before .before .is-stronger .ensures) ∙ not-false _ (last .before .before .if2 .left))
+    (sym (last .before .is-stronger2 .ensures) ∙ not-false _ (last .if3 .left))
     (sym (c .is-stronger3 .ensures) ∙ e)
 
 pub is-cycle-spec : {M : Type 1} → statement M

@@ -85,9 +85,10 @@ module _ (t : ℕ) where
 
   siblings-requires : nodes-lts.Need-compare-siblings-requires nodes-ask nodes-at nodes.Post
   siblings-requires c κs =
-      let given = c .before .before .before .before .before .before .before .before .pre in
-      let parted = parted-pair (given .1 .0) (given .1 .1) _ (c .before .before .before .before .x .given .1) (c .before .before .before .before .before .before .part-chains .ensures) in
-      (omega (arith, given .0, parted .1), (parted .0, left-open _ _ _ _ (c .enum-told4 .given .1) (c .before .before .by-rank .ensures)))
+      let ranked = c .before .before in
+      let given = ranked .before .before .before .before .before .before .pre in
+      let parted = parted-pair (given .1 .0) (given .1 .1) _ (ranked .before .before .x .given .1) (ranked .before .before .before .before .part-chains .ensures) in
+      (omega (arith, given .0, parted .1), (parted .0, left-open _ _ _ _ (c .enum-told4 .given .1) (ranked .by-rank .ensures)))
 
   returns-same : nodes-lts.Need-returns nodes-ask nodes-at nodes.Post
   returns-same c = nodes-compared _ _ _ _ _ (c .enum-told .given .1) (c .before .before .part-chains .ensures)
@@ -137,9 +138,10 @@ module _ (t : ℕ) where
 
   returns-asked : siblings-lts.Need-returns-3 siblings-ask siblings-at siblings.Post
   returns-asked c =
+      let asked = c .before .before .before .before in
       c .or-else .ensures
       ∙ rw (c .before .compare-node-strength .ensures)
-      (siblings-resolved (c .before .before .before .before .before .before .before .before .pre .1 .0) _ _ (c .before .before .before .before .x .given .1) (c .before .before .before .before .before .before .weigh .ensures))
+      (siblings-resolved (asked .before .before .before .before .pre .1 .0) _ _ (asked .x .given .1) (asked .before .before .weigh .ensures))
 
 pub +compare-node-strength+compare-siblings-spec : {M : Type 1} → statement M
 +compare-node-strength+compare-siblings-spec =

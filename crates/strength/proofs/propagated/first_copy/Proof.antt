@@ -18,9 +18,13 @@ Inv-loop arena root n count child₀ left₀ child left = copyFrom arena n left 
 abbrev μ-loop : tie.MeasureT-loop
 μ-loop arena root n count child₀ left₀ child left = left
 
+-- where the function begins, from the loop
+abbrev entry : tie.At-loop Inv-loop μ-loop → tie.Start Inv-loop μ-loop
+entry c = c .before .before .before .before
+
 -- a child that is below the count is a node
-child-read : (c : tie.Else1 Inv-loop μ-loop) → ValidNode (c .before .before .before .before .before .before .args .arena .now) (c .before .before .loop .child)
-child-read c = record { opened = c .before .before .before .before .before .before .pre .readable .opened; below = omega (arith, c .if1 .left, c .before .before .before .before .count .ensures) }
+child-read : (c : tie.Else1 Inv-loop μ-loop) → ValidNode (entry (c .before .before) .args .arena .now) (c .before .before .loop .child)
+child-read c = record { opened = entry (c .before .before) .pre .readable .opened; below = omega (arith, c .if1 .left, c .before .before .before .before .count .ensures) }
 
 count-requires : tie.Need-count-requires Inv-loop μ-loop
 count-requires c κs = c .before .pre .readable .opened .whole
@@ -36,16 +40,16 @@ loop-holds c =
 
 returns : tie.Need-returns Inv-loop μ-loop
 returns c =
-    let a = c .before .before .before .before .before .before .args in
+    let a = entry (c .before .before) .args in
     sym (copies-end (a .arena .now) (a .n) (c .before .before .loop .left) (c .before .before .loop .child) (omega (arith, c .if1 .taken, c .before .before .before .before .count .ensures)))
     ∙ c .before .before .loop .inv
 
 is-copy-requires : tie.Need-is-copy-requires Inv-loop μ-loop
-is-copy-requires c κs = record { readable = child-read c; root-read = c .before .before .before .before .before .before .pre .root-read }
+is-copy-requires c κs = record { readable = child-read c; root-read = entry (c .before .before) .pre .root-read }
 
 returns-2 : tie.Need-returns-2 Inv-loop μ-loop
 returns-2 c =
-    let a = c .before .before .before .before .before .before .before .before .args in
+    let a = entry (c .before .before .before .before) .args in
     let here = c .before .before .before .before .loop in
     copy-taken (a .arena .now) (a .n) (here .left) (here .child) (omega (arith, c .before .before .before .loop-test .taken)) (child-read (c .before .before) .below) (sym (c .before .is-copy .ensures) ∙ c .if2 .taken)
     ∙ here .inv
@@ -61,7 +65,7 @@ loop-less c = omega (arith, c .before .before .before .before .loop-test .taken)
 
 loop-again : tie.Need-loop-again Inv-loop μ-loop
 loop-again c =
-    let a = c .before .before .before .before .before .before .before .before .before .args in
+    let a = entry (c .before .before .before .before .before) .args in
     let here = c .before .before .before .before .before .loop in
     copy-passed (a .arena .now) (a .n) (here .left) (here .child) (c .next-sibling .result) (omega (arith, c .before .before .before .before .loop-test .taken)) (child-read (c .before .before .before) .below)
     (sym (c .before .before .is-copy .ensures) ∙ c .before .if2 .left) (c .next-sibling .ensures)
@@ -69,7 +73,7 @@ loop-again c =
 
 returns-3 : tie.Need-returns-3 Inv-loop μ-loop
 returns-3 c =
-    let a = c .before .before .before .before .before .args in
+    let a = entry (c .before) .args in
     let none : c .before .loop .left ≡ 0 = omega (arith, c .loop-test .left) in
     sym (ap (λ (k : ℕ). copyFrom (a .arena .now) (a .n) k (c .before .loop .child)) none) ∙ c .before .loop .inv
 

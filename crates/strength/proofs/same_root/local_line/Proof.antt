@@ -35,10 +35,11 @@ implied-over-requires c κs = search needs
 
 returns-5 : tie.Need-returns-5
 returns-5 c =
+    let neither = c .before .before .before .before .before in
     c .implied-over .ensures
     ∙ sym (both-local _ _ _
-    (sym (c .before .before .before .before .before .before .before .before .is-authored .ensures) ∙ c .before .before .before .before .before .before .before .if1 .left)
-    (sym (c .before .before .before .before .before .before .is-authored2 .ensures) ∙ c .before .before .before .before .before .if2 .left)
+    (sym (neither .before .before .before .is-authored .ensures) ∙ neither .before .before .if1 .left)
+    (sym (neither .before .is-authored2 .ensures) ∙ neither .if2 .left)
     (sym (c .before .before .before .before .in-local-stack .ensures) ∙ not-false _ (c .before .before .before .if3 .left))
     (sym (c .before .before .in-local-stack2 .ensures) ∙ not-false _ (c .before .if4 .left)))
 

@@ -15,6 +15,7 @@ use Rattle.validate.proofs.ArenaRecords.{too-short, too-long, numbers-l
 use Rattle.validate.proofs.graph.record_valid.Statement.{statement}
 use Rattle.validate.proofs.graph.record_valid.Tie as tie
 
+-- where the function begins, once the numbers are checked
 abbrev entry : tie.After-numbers-valid → tie.Start
 entry c = c .before .before .before .before .before .before .before .before
 

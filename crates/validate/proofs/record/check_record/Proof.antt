@@ -61,11 +61,12 @@ narrow-requires c κs = few-names _ _ (counted (c .before .before .before .befor
 
 returns-5 : tie.Need-returns-5
 returns-5 c =
-    accepted _ _ _ _ _ _ (linked (c .before .before .before .before .before .before .before .before))
-    (sym (counted-well-formed _ _ (counted (c .before .before .before .before .before))))
-    (sym (c .before .before .before .before .kind-allowed .ensures) ∙ not-false _ (c .before .before .before .if2 .left))
-    (sym (c .before .before .has-room .ensures) ∙ not-false _ (c .before .if3 .left))
-    (c .narrow .ensures ∙ counted-names _ _ (counted (c .before .before .before .before .before)))
+    let room = c .before in
+    accepted _ _ _ _ _ _ (linked (room .before .before .before .before .before .before .before))
+    (sym (counted-well-formed _ _ (counted (room .before .before .before .before))))
+    (sym (room .before .before .before .kind-allowed .ensures) ∙ not-false _ (room .before .before .if2 .left))
+    (sym (room .before .has-room .ensures) ∙ not-false _ (room .if3 .left))
+    (c .narrow .ensures ∙ counted-names _ _ (counted (room .before .before .before .before)))
 
 pub check-record-spec : {M : Type 1} → statement M
 check-record-spec =

@@ -56,12 +56,13 @@ is-culled-requires c κs = search needs
 
 returns-5 : tie.Need-returns-5
 returns-5 c =
-    let a = c .before .before .before .before .before .before .before .before .args in
+    let last = c .before in
+    let a = last .before .before .before .before .before .before .before .args in
     rw (
-      le-leb (a .numbers .arc) 6 (c .before .before .before .before .before .before .if1 .left),
-      le-leb (a .numbers .«has_specs») 1 (c .before .before .before .before .if2 .left),
-      ne-eqb (a .numbers .arc) 0 (c .before .before .if3 .left),
-      c .before .if4 .left,
+      le-leb (a .numbers .arc) 6 (last .before .before .before .before .before .if1 .left),
+      le-leb (a .numbers .«has_specs») 1 (last .before .before .before .if2 .left),
+      ne-eqb (a .numbers .arc) 0 (last .before .if3 .left),
+      last .if4 .left,
     ) (ap not (c .is-culled .ensures) ∙ sym (and-true (not (hasFlag culledFlag (a .numbers .flags)))))
 
 pub kind-allowed-spec : {M : Type 1} → statement M

@@ -14,6 +14,10 @@ Inv-loop arena root n instance₀ class-node₀ depth instance class-node = Risi
 abbrev μ-loop : tie.MeasureT-loop
 μ-loop arena root n instance₀ class-node₀ depth instance class-node = instance
 
+-- the turn of the loop, past the second test
+abbrev turn : tie.Else2 Inv-loop μ-loop → tie.In-loop Inv-loop μ-loop
+turn c = c .before .before .before .before .before
+
 replaced-requires : tie.Need-replaced-requires Inv-loop μ-loop
 replaced-requires c κs = search needs
 
@@ -44,25 +48,25 @@ returns-2 c =
     rising-by-depth walk (c .before .before .before .before .before .loop-test .taken) (c .before .depth-below2 .ensures .0) (c .if2 .taken)
 
 parent-requires : tie.Need-parent-requires Inv-loop μ-loop
-parent-requires c κs = c .before .before .before .before .before .before .loop .inv .standing .readable
+parent-requires c κs = turn c .before .loop .inv .standing .readable
 
 replaced-requires-2 : tie.Need-replaced-requires-2 Inv-loop μ-loop
 replaced-requires-2 c κs =
-    let walk = c .before .before .before .before .before .before .before .loop .inv in
-    parent-stands walk (c .before .before .before .before .before .before .loop-test .taken) (c .parent .ensures)
+    let here = turn (c .before) in
+    parent-stands (here .before .loop .inv) (here .loop-test .taken) (c .parent .ensures)
 
 loop-less : tie.Need-loop-less Inv-loop μ-loop
 loop-less c =
-    let walk = c .before .before .before .before .before .before .before .before .loop .inv in
-    rising-falls walk (c .before .before .before .before .before .before .before .loop-test .taken) (c .before .parent .ensures)
+    let here = turn (c .before .before) in
+    rising-falls (here .before .loop .inv) (here .loop-test .taken) (c .before .parent .ensures)
     (c .replaced2 .ensures)
 
 loop-again : tie.Need-loop-again Inv-loop μ-loop
 loop-again c =
-    let walk = c .before .before .before .before .before .before .before .before .loop .inv in
+    let here = turn (c .before .before) in
     let based =
     sym (c .before .before .before .before .before .is-class-based .ensures) ∙ not-false _ (c .before .before .before .before .if1 .left) in
-    rising-step walk (c .before .before .before .before .before .before .before .loop-test .taken) (c .before .parent .ensures)
+    rising-step (here .before .loop .inv) (here .loop-test .taken) (c .before .parent .ensures)
     (c .replaced2 .ensures) (c .before .before .before .before .before .before .arc .ensures) based
     (c .before .before .before .depth-below2 .ensures .0) (c .before .before .if2 .left)
 
