@@ -17,6 +17,10 @@ Inv-loop arena pairs siblings root n sum₀ i₀ sum i = (i ≤ n) × (sum ≡ p
 abbrev μ-loop : tie.MeasureT-loop
 μ-loop arena pairs siblings root n sum₀ i₀ sum i = n - i
 
+-- where the function begins, from the loop
+abbrev entry : tie.At-loop Inv-loop μ-loop → tie.Start Inv-loop μ-loop
+entry c = c .before .before .before .before
+
 local-root-requires : tie.Need-local-root-requires Inv-loop μ-loop
 local-root-requires c κs = passed _ _ _ (c .before .before .pre) .opened .whole
 
@@ -24,24 +28,25 @@ loop-holds : tie.Need-loop-holds Inv-loop μ-loop
 loop-holds c = (omega arith, refl, omega arith)
 
 mul-read-u32 : tie.Need-mul-read-u32 Inv-loop μ-loop
-mul-read-u32 c = omega (arith, passed _ _ _ (c .before .before .before .before .before .pre) .few, c .loop-test .taken)
+mul-read-u32 c = omega (arith, passed _ _ _ (entry (c .before) .pre) .few, c .loop-test .taken)
 
 read-u32-requires : tie.Need-read-u32-requires Inv-loop μ-loop
 read-u32-requires c κs = omega (arith, c .loop-test .taken)
 
 mul-read-u32-2 : tie.Need-mul-read-u32-2 Inv-loop μ-loop
-mul-read-u32-2 c = omega (arith, passed _ _ _ (c .before .before .before .before .before .before .pre) .few, c .before .loop-test .taken)
+mul-read-u32-2 c = omega (arith, passed _ _ _ (entry (c .before .before) .pre) .few, c .before .loop-test .taken)
 
 add-read-u32 : tie.Need-add-read-u32 Inv-loop μ-loop
-add-read-u32 c = omega (arith, passed _ _ _ (c .before .before .before .before .before .before .pre) .few, c .before .loop-test .taken)
+add-read-u32 c = omega (arith, passed _ _ _ (entry (c .before .before) .pre) .few, c .before .loop-test .taken)
 
 read-u32-requires-2 : tie.Need-read-u32-requires-2 Inv-loop μ-loop
 read-u32-requires-2 c κs = omega (arith, c .before .loop-test .taken)
 
 compare-pair-requires : tie.Need-compare-pair-requires Inv-loop μ-loop
 compare-pair-requires c κs =
-    let a = c .before .before .before .before .before .before .before .args in
-    let all = passed _ _ _ (c .before .before .before .before .before .before .before .pre) in
+    let s = entry (c .before .before .before) in
+    let a = s .args in
+    let all = passed _ _ _ (s .pre) in
     let refused = pairRefused (a .siblings) (a .arena .now) in (
       all .opened,
       c .before .before .before .before .local-root .ensures,
@@ -57,17 +62,20 @@ cast-sum c = omega arith
 
 add-sum : tie.Need-add-sum Inv-loop μ-loop
 add-sum c =
-    omega (arith, passed _ _ _ (c .before .before .before .before .before .before .before .before .before .pre) .few, c .before .before .before .before .loop-test .taken, c .before .before .before .before .before .loop .inv .2)
+    let turn = c .before .before .before .before in
+    omega (arith, passed _ _ _ (entry (turn .before) .pre) .few, turn .loop-test .taken, turn .before .loop .inv .2)
 
 add-i : tie.Need-add-i Inv-loop μ-loop
-add-i c = omega (arith, passed _ _ _ (c .before .before .before .before .before .before .before .before .before .pre) .few, c .before .before .before .before .loop-test .taken)
+add-i c =
+    let turn = c .before .before .before .before in
+    omega (arith, passed _ _ _ (entry (turn .before) .pre) .few, turn .loop-test .taken)
 
 loop-less : tie.Need-loop-less Inv-loop μ-loop
 loop-less c = omega (arith, c .before .before .before .before .loop-test .taken)
 
 loop-again : tie.Need-loop-again Inv-loop μ-loop
 loop-again c =
-    let a = c .before .before .before .before .before .before .before .before .before .args in (
+    let a = entry (c .before .before .before .before .before) .args in (
       omega (arith, c .before .before .before .before .loop-test .taken),
       one-more-added (comparison (a .siblings) (a .arena .now)) (a .pairs .now) (c .before .before .before .before .before .loop .i)
           (c .before .before .before .before .before .loop .inv .1) (c .before .before .before .read-u32 .ensures) (c .before .before .read-u322 .ensures)
@@ -77,7 +85,7 @@ loop-again c =
 
 returns : tie.Need-returns Inv-loop μ-loop
 returns c =
-    let a = c .before .before .before .before .before .args in
+    let a = entry (c .before) .args in
     let all : c .before .loop .i ≡ length (a .pairs .now) / 8 = omega (arith, c .before .loop .inv .0, c .loop-test .left) in
     c .before .loop .inv .1 ∙ ap (pairSum (comparison (a .siblings) (a .arena .now)) (a .pairs .now)) all
 
