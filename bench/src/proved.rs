@@ -19,6 +19,12 @@ unsafe extern "C" {
     fn bench_node(arena: *const u8, length: usize, n: u32) -> u64;
     fn bench_path(arena: *const u8, length: usize, n: u32) -> u64;
     fn bench_path_at_introduction(arena: *const u8, length: usize, n: u32) -> u64;
+    fn bench_intro_path(arena: *const u8, length: usize, n: u32) -> u64;
+    fn bench_is_due_to_ancestor(arena: *const u8, length: usize, n: u32) -> u64;
+    fn bench_mark(arena: *mut u8, length: usize, n: u32, flags: u8) -> u64;
+    fn bench_set_first_spec(arena: *mut u8, length: usize, n: u32, first: u16) -> u64;
+    fn bench_set_has_specs(arena: *mut u8, length: usize, n: u32, authored: bool) -> u64;
+    fn bench_set_restriction_depth(arena: *mut u8, length: usize, n: u32, depth: u16) -> u64;
     fn bench_depth_below_introduction(arena: *const u8, length: usize, n: u32) -> u64;
     fn bench_node_using_site(arena: *const u8, alen: usize, stack: u32, path: *const u8, plen: usize) -> u64;
     fn bench_is_ancestor_of(arena: *const u8, length: usize, x: u32, y: u32) -> u64;
@@ -119,14 +125,44 @@ pub fn node(arena: &[u8], n: u32) -> Result<u32, u32> {
     answer(unsafe { bench_node(arena.as_ptr(), arena.len(), n) })
 }
 
-/// The length, 0 where the call is refused.
+/// The length.
 pub fn path(arena: &[u8], n: u32) -> Result<u32, u32> {
     answer(unsafe { bench_path(arena.as_ptr(), arena.len(), n) })
 }
 
-/// The length, 0 where the call is refused.
+/// The length.
 pub fn path_at_introduction(arena: &[u8], n: u32) -> Result<u32, u32> {
     answer(unsafe { bench_path_at_introduction(arena.as_ptr(), arena.len(), n) })
+}
+
+/// The length.
+pub fn intro_path(arena: &[u8], n: u32) -> Result<u32, u32> {
+    answer(unsafe { bench_intro_path(arena.as_ptr(), arena.len(), n) })
+}
+
+/// 1 for yes, 0 for no.
+pub fn is_due_to_ancestor(arena: &[u8], n: u32) -> Result<u32, u32> {
+    answer(unsafe { bench_is_due_to_ancestor(arena.as_ptr(), arena.len(), n) })
+}
+
+/// 0, and the flags in the arena.
+pub fn mark(arena: &mut [u8], n: u32, flags: u8) -> Result<u32, u32> {
+    answer(unsafe { bench_mark(arena.as_mut_ptr(), arena.len(), n, flags) })
+}
+
+/// 0, and the position in the arena.
+pub fn set_first_spec(arena: &mut [u8], n: u32, first: u16) -> Result<u32, u32> {
+    answer(unsafe { bench_set_first_spec(arena.as_mut_ptr(), arena.len(), n, first) })
+}
+
+/// 0, and whether there are specs in the arena.
+pub fn set_has_specs(arena: &mut [u8], n: u32, authored: bool) -> Result<u32, u32> {
+    answer(unsafe { bench_set_has_specs(arena.as_mut_ptr(), arena.len(), n, authored) })
+}
+
+/// 0, and the depth in the arena.
+pub fn set_restriction_depth(arena: &mut [u8], n: u32, depth: u16) -> Result<u32, u32> {
+    answer(unsafe { bench_set_restriction_depth(arena.as_mut_ptr(), arena.len(), n, depth) })
 }
 
 /// The depth.

@@ -78,7 +78,7 @@ fn accepted(answer: Result<u32, u32>) {
 }
 
 /// The public calls that `crates/bench_api` has, each with what is called of it on a graph.
-const CALLS: [Call<Graph>; 22] = [
+const CALLS: [Call<Graph>; 28] = [
     ("init_root", |_| accepted(proved::init_root(&mut vec![0; ARENA_BYTES], 0, 0, &path_of(MAX_BYTES)))),
     ("add_child", |graph| {
         accepted(proved::add_child(&mut graph.fewer.clone(), graph.last().parent, &graph.last().path));
@@ -107,6 +107,12 @@ const CALLS: [Call<Graph>; 22] = [
     ("path", |graph| graph.each(proved::path)),
     ("depth_below_introduction", |graph| graph.each(proved::depth_below_introduction)),
     ("path_at_introduction", |graph| graph.each(proved::path_at_introduction)),
+    ("intro_path", |graph| graph.each(proved::intro_path)),
+    ("is_due_to_ancestor", |graph| graph.each(proved::is_due_to_ancestor)),
+    ("mark", |graph| accepted(proved::mark(&mut graph.arena.clone(), 0, 5))),
+    ("set_first_spec", |graph| accepted(proved::set_first_spec(&mut graph.arena.clone(), 0, 1))),
+    ("set_has_specs", |graph| accepted(proved::set_has_specs(&mut graph.arena.clone(), 0, true))),
+    ("set_restriction_depth", |graph| accepted(proved::set_restriction_depth(&mut graph.arena.clone(), 0, 1))),
     ("node_using_site", |graph| {
         accepted(proved::node_using_site(&graph.arena, graph.last().stack, &graph.last().path));
     }),

@@ -2,21 +2,23 @@
 -- that carry no refusal, what two calls leave of a buffer, and the node that is added.
 use mathlib.Core.Path.{_≡_}
 use mathlib.Core.Bool.{_&&_, cond}
-use mathlib.Core.Option.{none}
+use mathlib.Core.Option.{none, some}
 use mathlib.Core.List.{List}
 use Prim.Native.Nat.{ℕ}
 use lib.Dec.{eqb}
 use lib.ListN.{length}
 use Rattle.model.specs.Lists.{bit}
 use Rattle.model.specs.Bytes.{stored}
-use Rattle.model.specs.Refusals.{refusal}
+use Rattle.model.specs.Answers.{nodeOption, nodeNumber}
+use Rattle.model.specs.Refusals.{refusalNumber, refusal}
 use Rattle.model.specs.Order.{hasOrder}
 use Rattle.model.specs.Erasing.{erasable}
 use Rattle.model.specs.Snapshot.{writeSnapshot}
 use Rattle.model.specs.Arena.{decode, holdsGraph}
 use Rattle.model.specs.ArenaCalls.{isArena}
 use Rattle.model.specs.Calls as calls
-use Rattle.model.specs.Node.{invalid}
+use Rattle.model.specs.declared.NodeResult.{NodeResult}
+use Rattle.model.specs.declared.NodeResult.the-variants.{Found, Refused}
 use Rattle.model.specs.declared.PrimCount.{PrimCount}
 use Rattle.model.specs.declared.PrimCount.the-variants.{Names, Malformed}
 use Rattle.c_api.specs.Carried.{carried, carriedAnswer}
@@ -26,6 +28,11 @@ use Rattle.erasing.specs.Erasures.{setQuestions}
 abbrev pub countNumber : PrimCount → ℕ
 countNumber (Names n) = n
 countNumber Malformed = 65536
+
+-- a node that was looked for
+abbrev pub carriedNode : NodeResult → ℕ
+carriedNode (Found node) = nodeNumber (nodeOption node)
+carriedNode (Refused r) = carried (refusalNumber r) 0
 
 abbrev pub graphNumber : List ℕ → ℕ
 graphNumber bs = bit (isArena bs && holdsGraph bs)
@@ -54,8 +61,8 @@ referenceDesc parent path = record {
     flags = 0;
     stack = 0;
     layer = 0;
-    parent = parent;
-    origin = invalid;
+    parent = 0;
+    origin = 0;
     depth = 0;
     sibling = 0;
     restriction = 0;
@@ -63,5 +70,7 @@ referenceDesc parent path = record {
     hasSpecs = 0;
     path = path;
   };
+  parent = some parent;
+  origin = none;
   depth = none;
 }

@@ -1,12 +1,15 @@
-// C functions for the programs in bench/, and for nothing else: each is one call of the library
+// C functions for the programs in bench/, and not open to others: each is one call of the library
 // below it, with its answer as a number, which carries refusal and value where the call may be
-// refused (crates/c_api).
+// refused (crates/c_api). Those on many pairs put questions 1, 2, 4 and 8 to all of them at once,
+// and not 3; the calls themselves are in crates/prim_graph.
 mod reading;
+mod setting;
 mod sums;
 
 use model::NodeId;
+use model::NodeOption;
 use model::PrimCount;
-use prim_graph::Depth;
+use model::U16Option;
 use prim_graph::NodeDesc;
 ghost use mathlib.Core.Path.{_≡_};
 ghost use mathlib.Core.Bool.{true, false};
@@ -87,9 +90,9 @@ pub extern "C" fn bench_add_child(arena: &mut [u8], parent: u32, path: &[u8]) ->
         flags: 0,
         stack: 0,
         layer: 0,
-        parent: NodeId(parent),
-        origin: NodeId::INVALID,
-        depth: Depth::Missing,
+        parent: NodeOption::Some(NodeId(parent)),
+        origin: NodeOption::None,
+        depth: U16Option::None,
         sibling: 0,
         restriction: 0,
         spec_from: 0,

@@ -2,7 +2,7 @@
 -- widths (`starting-keeps`, `adding-keeps`). Assumes nothing.
 use mathlib.Core.Path.{_≡_, refl}
 use mathlib.Core.Logic.{_⊎_, inl, inr}
-use mathlib.Core.Bool.{Bool, true, false, _&&_, cond}
+use mathlib.Core.Bool.{_&&_}
 use mathlib.Core.Option.{Option, none, some}
 use mathlib.Core.List.{List, [], _∷_}
 use Prim.Native.Nat.{ℕ, zero, suc, _^_, _≤_, _<_}
@@ -14,7 +14,7 @@ use Rattle.model.specs.Path.{wellFormed, primCount}
 use Rattle.model.specs.Node.{Node}
 use Rattle.model.specs.Graph.{Graph, size, nodeAt, withNode}
 use Rattle.model.specs.Refusals.{ask, hasRoom, addedKind}
-use Rattle.model.specs.Calls.{hasNodeZero, rootNode, initRoot, NodeDesc, given, depthOr, defaultDepth, addedNode, givenBelow, addChild}
+use Rattle.model.specs.Calls.{hasNodeZero, rootNode, initRoot, NodeDesc, givenOr, primsOver, defaultDepth, addedNode, givenBelow, addChild}
 use Rattle.laws.proofs.BigEndianLaws.{Bytes}
 use Rattle.laws.proofs.PathGrammar.{well-formed-decides}
 use Rattle.laws.proofs.SnapshotLaws.{NodesFit}
@@ -85,13 +85,13 @@ DepthFits (some d) = d < 256 ^ 2
 module _ (d : NodeDesc) (fit : NumbersFit (d .fields)) (deep : DepthFits (d .depth)) (g : Graph) (ok : Encodable g) where
   -- a missing depth is a prim count: of the path that is given, or of a node's
   default-fits : wellFormed (d .fields .path) ≡ true → defaultDepth g d < 256 ^ 2
-  default-fits e = go (given (d .fields .parent))
+  default-fits e = go (d .parent)
     where
-      go : (t : Bool) → cond t (primCount (nodeAt (g .nodes) (d .fields .parent) .path)) (primCount (d .fields .path)) < 256 ^ 2
-      go true = prims-fit (nodeAt (g .nodes) (d .fields .parent) .path) (path-short (g .nodes) (ok .fit) (d .fields .parent))
-      go false = prims-fit (d .fields .path) (well-formed-decides (d .fields .path) .0 e .2)
+      go : (parent : Option ℕ) → primsOver (g .nodes) parent (d .fields .path) < 256 ^ 2
+      go (some parent) = prims-fit (nodeAt (g .nodes) parent .path) (path-short (g .nodes) (ok .fit) parent)
+      go none = prims-fit (d .fields .path) (well-formed-decides (d .fields .path) .0 e .2)
 
-  depth-fits : (o : Option ℕ) → DepthFits o → wellFormed (d .fields .path) ≡ true → depthOr o (defaultDepth g d) < 256 ^ 2
+  depth-fits : (o : Option ℕ) → DepthFits o → wellFormed (d .fields .path) ≡ true → givenOr o (defaultDepth g d) < 256 ^ 2
   depth-fits none f e = default-fits e
   depth-fits (some n) f e = f
 
@@ -111,7 +111,6 @@ module _ (d : NodeDesc) (fit : NumbersFit (d .fields)) (deep : DepthFits (d .dep
   unfolding addChild withNode
   adding-keeps =
       decided-encodable
-      (hasNodeZero g ∷ ask 4 (givenBelow (size g) (d .fields .parent) && givenBelow (size g) (d .fields .origin)) ∷ ask 5 (wellFormed (d .fields .path))
-      ∷ ask 6 (addedKind g (addedNode g d)) ∷ ask 7 (hasRoom g (addedNode g d)) ∷ [])
+      (hasNodeZero g ∷ ask 4 (givenBelow (size g) (d .parent) && givenBelow (size g) (d .origin)) ∷ ask 5 (wellFormed (d .fields .path)) ∷ ask 6 (addedKind g (addedNode g d)) ∷ ask 7 (hasRoom g (addedNode g d)) ∷ [])
       g (size g) (withNode g (addedNode g d)) refl (adding-keeps-legal d (unordered g) (ok .legal))
       (λ a. more-encodable g (addedNode g d) ok (numbers-added (a 5))) ok

@@ -13,7 +13,6 @@ use lib.ListN.{replicate}
 use borrow.Author.Tests.{ltb-true}
 use Rattle.model.specs.Lists.{every, filter}
 use Rattle.model.specs.Path.{isNameStart, isWordByte, wellFormed, primCount, beforeName, nameStart, lastName, endsInName, separator, appendName, pathAtIntroDepth}
-use Rattle.model.specs.Node.{invalid}
 use Rattle.model.specs.Graph.{Graph, emptyGraph, size, withNode, depthBelowIntroduction, pathAtIntroduction, isLocalRoot, inLocalStack}
 use Rattle.model.specs.Strength.{smaller, plainLines, siblingLines, nodesBy, compareSiblingNodeStrength}
 use Rattle.model.specs.Order.{isStronger, hasOrder}
@@ -29,11 +28,13 @@ use Rattle.model.proofs.Text.{bytes}
 use Rattle.laws.specs.Demand3Clauses.{Deepened}
 use Rattle.laws.proofs.SnapshotLaws.{written-bytes}
 use Rattle.laws.proofs.ListLaws.{all-imp, every-all}
-use Rattle.nodes.specs.declared.description.Depth.{Depth}
-use Rattle.nodes.specs.declared.description.Depth.the-variants.{Given, Missing}
+use Rattle.model.specs.declared.NodeOption.{NodeOption}
+use Rattle.model.specs.declared.NodeOption.the-variants.{Some as SomeNode, None as NoNode}
+use Rattle.model.specs.declared.U16Option.{U16Option}
+use Rattle.model.specs.declared.U16Option.the-variants.{Some as SomeNumber, None as NoNumber}
 use Rattle.snapshot.proofs.ReadBack.{written-reads-back}
 use Rattle.call_sequences.proofs.KeepEncodable.{Arena, arena-encodable, ArenaOf}
-use Rattle.call_sequences.specs.Demand3.{Slice, DepthFits, Write, starting, adding, ordering, culling, erasing, deepening, reading, step, steps, Lent, seeding, Start, empty, read, seeded, rest, Demand3}
+use Rattle.call_sequences.specs.Demand3.{Slice, NodeFits, DepthFits, Write, starting, adding, ordering, culling, erasing, deepening, reading, step, steps, Lent, seeding, Start, empty, read, seeded, rest, Demand3}
 use Rattle.call_sequences.proofs.StepGraphs.{graphSteps, into-whole, steps-arena}
 use Rattle.call_sequences.proofs.ReachedArenas.{no-node, seed-whole}
 use Rattle.call_sequences.proofs.Demand3Proof.{demand3}
@@ -47,14 +48,15 @@ slice bs e = record {
 }
 
 -- a node of stack 0 without flags, with its parent for origin
-abbrev add : (parent arc hasSpecs : ℕ) (depth : Depth) → (parent < 4294967296) × (arc < 256) × (hasSpecs < 256) × DepthFits depth → Slice → Write
+abbrev add : (parent : NodeOption) (arc hasSpecs : ℕ) (depth : U16Option) → NodeFits parent × (arc < 256) × (hasSpecs < 256) × DepthFits depth
+    → Slice → Write
 add parent arc hasSpecs depth fits path = adding (record {
   arc = arc;
   flags = 0;
   stack = 0;
   layer = 0;
-  parent = record { 0 = parent };
-  origin = record { 0 = invalid };
+  parent = parent;
+  origin = NoNode;
   depth = depth;
   sibling = 0;
   restriction = 0;
@@ -66,7 +68,7 @@ add parent arc hasSpecs depth fits path = adding (record {
   stack = omega arith;
   layer = omega arith;
   parent = fits .0;
-  origin = omega arith;
+  origin = tt;
   depth = fits .3;
   sibling = omega arith;
   restriction = omega arith;
@@ -74,16 +76,20 @@ add parent arc hasSpecs depth fits path = adding (record {
   has-specs = fits .2;
 }) path
 
+-- the local root
+abbrev local : NodeOption
+local = SomeNode (record { 0 = 1 })
+
 -- Nodes 0 and 1 `/M/a`; under 1 the References 2 and 3, of which 2 has no specs, and the Inherit 4.
 -- Culling marks 2. An erase set with node 1, the parent of the others, is refused 11, and bytes
 -- that are no snapshot 12.
 unfoldable ten : List Write
 ten =
     starting (record { number = 0; small = omega arith }) (record { number = 0; small = omega arith }) (slice (bytes "/M/a") refl)
-    ∷ add invalid 0 1 Missing (omega arith, omega arith, omega arith, tt) (slice (bytes "/M/a") refl)
-    ∷ add 1 4 0 (Given 1) (omega arith, omega arith, omega arith, omega arith) (slice (bytes "/R/a") refl)
-    ∷ add 1 4 1 (Given 1) (omega arith, omega arith, omega arith, omega arith) (slice (bytes "/Q/a") refl)
-    ∷ add 1 1 1 (Given 1) (omega arith, omega arith, omega arith, omega arith) (slice (bytes "/C/a") refl)
+    ∷ add NoNode 0 1 NoNumber (tt, omega arith, omega arith, tt) (slice (bytes "/M/a") refl)
+    ∷ add local 4 0 (SomeNumber 1) (omega arith, omega arith, omega arith, omega arith) (slice (bytes "/R/a") refl)
+    ∷ add local 4 1 (SomeNumber 1) (omega arith, omega arith, omega arith, omega arith) (slice (bytes "/Q/a") refl)
+    ∷ add local 1 1 (SomeNumber 1) (omega arith, omega arith, omega arith, omega arith) (slice (bytes "/C/a") refl)
     ∷ ordering
     ∷ culling
     ∷ erasing (slice (0 ∷ 1 ∷ replicate 1022 0) refl)

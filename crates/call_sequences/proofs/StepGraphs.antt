@@ -15,10 +15,11 @@ use Rattle.model.specs.Calls.{Outcome, unchanged, Call, call, readInto, eraseSe
 use Rattle.model.specs.Arena.{arenaBytes, decode, encode}
 use Rattle.model.specs.ArenaCalls.{onArena, intoArena, arenaAfter}
 use Rattle.laws.proofs.SnapshotReadLaws.{accepted-read, grown-read, refused-read-keeps}
-use Rattle.nodes.specs.Describing.{depthOption, descOf}
+use Rattle.model.specs.Answers.{numberOption}
+use Rattle.model.specs.declared.U16Option.{U16Option}
+use Rattle.model.specs.declared.U16Option.the-variants.{Some as SomeNumber, None as NoNumber}
+use Rattle.nodes.specs.Describing.{descOf}
 use Rattle.nodes.specs.declared.description.NodeDesc.{NodeDesc}
-use Rattle.nodes.specs.declared.description.Depth.{Depth}
-use Rattle.nodes.specs.declared.description.Depth.the-variants.{Given, Missing}
 use Rattle.erasing.specs.Erasures.{eraseIn}
 use Rattle.call_sequences.proofs.AddingKeeps.{DepthFits}
 use Rattle.call_sequences.proofs.ReadingKeeps.{reading-encodable}
@@ -69,9 +70,9 @@ desc-fits d fits path = (
   deep (d .depth) (fits .depth),
 )
   where
-    deep : (x : Depth) → bytes.DepthFits x → DepthFits (depthOption x)
-    deep (Given n) h = h
-    deep Missing h = tt
+    deep : (x : U16Option) → bytes.DepthFits x → DepthFits (numberOption x)
+    deep (SomeNumber n) h = h
+    deep NoNumber h = tt
 
 pub call-fits : (c : Write) → CallFits (callOf c)
 call-fits (starting stack layer path) = (stack .small, layer .small, path .each)

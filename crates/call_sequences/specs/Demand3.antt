@@ -14,11 +14,13 @@ use Rattle.model.specs.Erasing.{erasable}
 use Rattle.model.specs.Calls.{Outcome, initRoot, addChild, finalizeStrengthOrder, cull, appendChildName, readInto}
 use Rattle.model.specs.Arena.{arenaBytes, countIn, decode, holdsGraph}
 use Rattle.model.specs.ArenaCalls.{ValidArena, onArena, intoArena, arenaAfter}
+use Rattle.model.specs.declared.NodeOption.{NodeOption}
+use Rattle.model.specs.declared.NodeOption.the-variants.{Some as SomeNode, None as NoNode}
+use Rattle.model.specs.declared.U16Option.{U16Option}
+use Rattle.model.specs.declared.U16Option.the-variants.{Some as SomeNumber, None as NoNumber}
 use Rattle.laws.specs.Demand3Clauses.{Listed, Erased, Deepened}
 use Rattle.nodes.specs.Describing.{descOf}
 use Rattle.nodes.specs.declared.description.NodeDesc.{NodeDesc}
-use Rattle.nodes.specs.declared.description.Depth.{Depth}
-use Rattle.nodes.specs.declared.description.Depth.the-variants.{Given, Missing}
 use Rattle.erasing.specs.Erasures.{eraseIn}
 use Rattle.deepening.specs.ChildNames.{seedFrom}
 
@@ -35,9 +37,13 @@ pub record Slice : Type 0 where
   pub bytes : List ℕ
   pub each : All (λ b. b < 256) bytes
 
-abbrev pub DepthFits : Depth → Type 0
-DepthFits (Given d) = d < 65536
-DepthFits Missing = Unit {0}
+abbrev pub NodeFits : NodeOption → Type 0
+NodeFits (SomeNode n) = n .0 < 4294967296
+NodeFits NoNode = Unit {0}
+
+abbrev pub DepthFits : U16Option → Type 0
+DepthFits (SomeNumber d) = d < 65536
+DepthFits NoNumber = Unit {0}
 
 -- crates/nodes's `NodeDesc`
 pub record DescFits (d : NodeDesc) : Type 0 where
@@ -45,8 +51,8 @@ pub record DescFits (d : NodeDesc) : Type 0 where
   pub flags : d .flags < 256
   pub stack : d .stack < 4294967296
   pub layer : d .layer < 4294967296
-  pub parent : d .parent .0 < 4294967296
-  pub origin : d .origin .0 < 4294967296
+  pub parent : NodeFits (d .parent)
+  pub origin : NodeFits (d .origin)
   pub depth : DepthFits (d .depth)
   pub sibling : d .sibling < 65536
   pub restriction : d .restriction < 65536

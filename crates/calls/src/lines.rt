@@ -1,6 +1,6 @@
 // The answer to any line, the two arenas that the lines work on, and a third where one of them is
 // saved. The lines about more than one arena are here; the others are answered by the crates
-// `calls_make`, `calls_change`, `calls_look`, `calls_compare` and `calls_paths`.
+// `calls_read` and `calls_write`.
 use calls_text::Answered;
 use calls_text::bad_line;
 use calls_text::is_call;

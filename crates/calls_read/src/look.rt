@@ -8,7 +8,9 @@ use calls_text::put;
 use calls_text::put_bytes;
 use calls_text::put_found;
 use calls_text::put_numbered;
+use calls_text::put_path;
 use calls_text::put_refusal;
+use calls_text::put_tested;
 use calls_text::read_number;
 use calls_text::word;
 use model::NumberResult;
@@ -44,8 +46,19 @@ fn answer_of_node(line: &[u8], arena: &[u8], out: &mut [u8], used: usize) -> Ans
     if is_call(line, b"below", 2) {
         return Answered::Used(below_line(line, arena, out, used));
     }
+    if is_call(line, b"due", 2) {
+        return Answered::Used(due_line(line, arena, out, used));
+    }
+    answer_of_introduction(line, arena, out, used)
+}
+
+// The answer to a line about a path where a node was introduced.
+fn answer_of_introduction(line: &[u8], arena: &[u8], out: &mut [u8], used: usize) -> Answered {
     if is_call(line, b"intro", 2) {
         return Answered::Used(intro_line(line, arena, out, used));
+    }
+    if is_call(line, b"introduced", 2) {
+        return Answered::Used(introduced_line(line, arena, out, used));
     }
     Answered::Unknown
 }
@@ -115,14 +128,27 @@ fn intro_line(line: &[u8], arena: &[u8], out: &mut [u8], used: usize) -> usize {
     let Number::Value(n) = read else {
         return bad_line(out, used);
     };
-    put_intro(arena, n, out, used)
+    let mut path = [0u8; 255];
+    let found = prim_graph::path_at_introduction(arena, n, &mut path);
+    put_path(out, used, found, &path)
 }
 
-// The path, or where it has no bytes the refusal, which is that of the depth.
-fn put_intro(arena: &[u8], n: u32, out: &mut [u8], used: usize) -> usize {
-    let path = prim_graph::path_at_introduction(arena, n);
-    if path.len() == 0 {
-        return put_numbered(out, used, prim_graph::depth_below_introduction(arena, n));
-    }
-    put(out, used, path)
+// `introduced N`: the path of the site that introduced the node.
+fn introduced_line(line: &[u8], arena: &[u8], out: &mut [u8], used: usize) -> usize {
+    let read = read_number(word(line, 1));
+    let Number::Value(n) = read else {
+        return bad_line(out, used);
+    };
+    let mut path = [0u8; 255];
+    let found = prim_graph::intro_path(arena, n, &mut path);
+    put_path(out, used, found, &path)
+}
+
+// `due N`: whether the node was introduced above this prim.
+fn due_line(line: &[u8], arena: &[u8], out: &mut [u8], used: usize) -> usize {
+    let read = read_number(word(line, 1));
+    let Number::Value(n) = read else {
+        return bad_line(out, used);
+    };
+    put_tested(out, used, prim_graph::is_due_to_ancestor(arena, n))
 }

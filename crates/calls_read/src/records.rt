@@ -3,6 +3,7 @@ use arena::Node;
 use calls_text::put;
 use calls_text::put_between;
 use calls_text::put_number;
+use calls_text::put_path;
 use calls_text::put_refusal;
 use model::NumberResult;
 use prim_graph::NodeRead;
@@ -31,16 +32,26 @@ fn put_nodes(arena: &[u8], count: u32, out: &mut [u8], used: usize) -> usize {
 fn put_node(arena: &[u8], n: u32, out: &mut [u8], used: usize) -> usize {
     let read = prim_graph::node(arena, n);
     match read {
-        NodeRead::Node(node) => put_record(node, prim_graph::path(arena, n), out, used),
+        NodeRead::Node(node) => {
+            let start = put_record(node, out, used);
+            put_node_path(arena, n, out, start)
+        }
         NodeRead::Refused(refusal) => put_refusal(out, used, refusal),
     }
 }
 
-fn put_record(node: Node, path: &[u8], out: &mut [u8], used: usize) -> usize {
+fn put_node_path(arena: &[u8], n: u32, out: &mut [u8], used: usize) -> usize {
+    let mut path = [0u8; 255];
+    let read = prim_graph::path(arena, n, &mut path);
+    put_path(out, used, read, &path)
+}
+
+// The record's numbers, each with a comma.
+fn put_record(node: Node, out: &mut [u8], used: usize) -> usize {
     let before_parent = put_head(node.arc, node.flags, node.stack, node.layer, out, used);
     let before_origin = put_link(node.parent.0, out, before_parent);
     let before_rest = put_link(node.origin.0, out, before_origin);
-    let before_path = put_rest(
+    put_rest(
         node.depth,
         node.sibling,
         node.restriction,
@@ -48,8 +59,7 @@ fn put_record(node: Node, path: &[u8], out: &mut [u8], used: usize) -> usize {
         node.has_specs,
         out,
         before_rest,
-    );
-    put(out, before_path, path)
+    )
 }
 
 fn put_head(arc: u8, flags: u8, stack: u32, layer: u32, out: &mut [u8], used: usize) -> usize {

@@ -11,9 +11,9 @@ use calls_text::put_found;
 use calls_text::put_node;
 use calls_text::put_number;
 use calls_text::put_refusal;
+use calls_text::put_tested;
 use calls_text::read_number;
 use calls_text::word;
-use model::BoolResult;
 use strength::calls::HierarchyRead;
 
 // The answer to such a line.
@@ -45,7 +45,7 @@ fn answer_of_node(line: &[u8], arena: &[u8], out: &mut [u8], used: usize) -> Ans
 fn ancestor_line(line: &[u8], arena: &[u8], out: &mut [u8], used: usize) -> usize {
     let pair = read_pair(line);
     match pair {
-        Pair::Nodes(x, y) => put_tested(prim_graph::is_ancestor_of(arena, x, y), out, used),
+        Pair::Nodes(x, y) => put_tested(out, used, prim_graph::is_ancestor_of(arena, x, y)),
         Pair::Bad => bad_line(out, used),
     }
 }
@@ -54,7 +54,7 @@ fn ancestor_line(line: &[u8], arena: &[u8], out: &mut [u8], used: usize) -> usiz
 fn site_line(line: &[u8], arena: &[u8], out: &mut [u8], used: usize) -> usize {
     let pair = read_pair(line);
     match pair {
-        Pair::Nodes(a, b) => put_tested(prim_graph::same_site(arena, a, b), out, used),
+        Pair::Nodes(a, b) => put_tested(out, used, prim_graph::same_site(arena, a, b)),
         Pair::Bad => bad_line(out, used),
     }
 }
@@ -65,7 +65,7 @@ fn propagated_line(line: &[u8], arena: &[u8], out: &mut [u8], used: usize) -> us
     let Number::Value(n) = read else {
         return bad_line(out, used);
     };
-    put_tested(prim_graph::is_propagated_specializes(arena, n), out, used)
+    put_tested(out, used, prim_graph::is_propagated_specializes(arena, n))
 }
 
 // `copy N`: the node's copy under the local root, or `-`.
@@ -89,16 +89,8 @@ fn class_line(line: &[u8], arena: &[u8], out: &mut [u8], used: usize) -> usize {
         HierarchyRead::Hierarchy(instance, class_node) => {
             let end = put_number(out, used, instance.0 as u64);
             let next = put(out, end, b" ");
-            put_node(out, next, class_node.0)
+            put_node(out, next, class_node)
         }
         HierarchyRead::Refused(refusal) => put_refusal(out, used, refusal),
-    }
-}
-
-// 1 for yes and 0 for no.
-fn put_tested(tested: BoolResult, out: &mut [u8], used: usize) -> usize {
-    match tested {
-        BoolResult::Is(yes) => put_number(out, used, yes as u64),
-        BoolResult::Refused(refusal) => put_refusal(out, used, refusal),
     }
 }

@@ -1,7 +1,10 @@
 // The answers that every kind of line shares.
+use crate::output::front;
 use crate::output::put;
 use crate::output::put_number;
-use model::NodeId;
+use model::BoolResult;
+use model::NodeOption;
+use model::NodeResult;
 use model::NumberResult;
 use model::Refusal;
 use model::UnitResult;
@@ -41,17 +44,33 @@ pub fn put_numbered(out: &mut [u8], used: usize, answer: NumberResult) -> usize 
 }
 
 // A node's number, `-` for none.
-pub fn put_node(out: &mut [u8], used: usize, number: u32) -> usize {
-    if number == NodeId::INVALID.0 {
-        return put(out, used, b"-");
+pub fn put_node(out: &mut [u8], used: usize, node: NodeOption) -> usize {
+    match node {
+        NodeOption::Some(found) => put_number(out, used, found.0 as u64),
+        NodeOption::None => put(out, used, b"-"),
     }
-    put_number(out, used, number as u64)
 }
 
-// The answer to a call that gives a node's number, or none.
-pub fn put_found(out: &mut [u8], used: usize, answer: NumberResult) -> usize {
+// The answer to a call that looks for a node.
+pub fn put_found(out: &mut [u8], used: usize, answer: NodeResult) -> usize {
     match answer {
-        NumberResult::Number(number) => put_node(out, used, number),
+        NodeResult::Found(node) => put_node(out, used, node),
+        NodeResult::Refused(refusal) => put_refusal(out, used, refusal),
+    }
+}
+
+// The answer to a test: 1 for yes and 0 for no.
+pub fn put_tested(out: &mut [u8], used: usize, answer: BoolResult) -> usize {
+    match answer {
+        BoolResult::Is(test) => put_number(out, used, test as u64),
+        BoolResult::Refused(refusal) => put_refusal(out, used, refusal),
+    }
+}
+
+// The answer to a call that put a path at the front of `path`.
+pub fn put_path(out: &mut [u8], used: usize, answer: NumberResult, path: &[u8]) -> usize {
+    match answer {
+        NumberResult::Number(length) => put(out, used, front(path, length as usize)),
         NumberResult::Refused(refusal) => put_refusal(out, used, refusal),
     }
 }

@@ -14,6 +14,14 @@ pub enum ShortNumber {
     Bad,
 }
 
+// Whether the word is `-`, which stands for what is missing.
+pub fn is_dash(word: &[u8]) -> bool {
+    if word.len() != 1 {
+        return false;
+    }
+    word[0] == b'-'
+}
+
 // Whether `name` stands at the line's front, with a space or nothing after it.
 fn begins(line: &[u8], name: &[u8]) -> bool {
     if line.len() < name.len() {

@@ -29,7 +29,7 @@ fn answer_of_order(line: &[u8], arena: &mut [u8], out: &mut [u8], used: usize) -
     if is_call(line, b"erase", 2) {
         return Answered::Used(crate::erasures::erase_line(line, arena, out, used));
     }
-    Answered::Unknown
+    crate::setting::answer(line, arena, out, used)
 }
 
 // `order`: every child list sorted.

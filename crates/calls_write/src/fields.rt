@@ -1,10 +1,21 @@
 // The eleven numbers of an `add` line, in the order of the line: parent, arc, flags, stack, layer,
 // origin, depth, sibling, restriction, spec_from, has-specs.
 use calls_text::Number;
+use calls_text::is_dash;
 use calls_text::read_number;
 use model::NodeId;
-use prim_graph::Depth;
+use model::NodeOption;
+use model::U16Option;
 use prim_graph::NodeDesc;
+
+// What is read of a field's word: a number, `MISSING` for `-`, or that it is none.
+enum Field {
+    Value(u64),
+    Bad,
+}
+
+// Larger than every number of a field.
+const MISSING: u64 = 4294967296;
 
 // The largest number that field k holds.
 fn most(k: usize) -> u32 {
@@ -15,40 +26,32 @@ fn most(k: usize) -> u32 {
     }
 }
 
-// What `-` stands for in field k: no node, or a number that is no depth.
-fn missing(k: usize) -> Number {
+// What `-` is in field k: parent, origin and depth may be missing.
+fn missing(k: usize) -> Field {
     match k {
-        0 | 5 => Number::Value(NodeId::INVALID.0),
-        6 => Number::Value(65536),
-        _ => Number::Bad,
+        0 | 5 | 6 => Field::Value(MISSING),
+        _ => Field::Bad,
     }
-}
-
-fn is_dash(word: &[u8]) -> bool {
-    if word.len() != 1 {
-        return false;
-    }
-    word[0] == b'-'
 }
 
 // Field k.
-fn read_field(word: &[u8], k: usize) -> Number {
+fn read_field(word: &[u8], k: usize) -> Field {
     if is_dash(word) {
         return missing(k);
     }
     let read = read_number(word);
     let Number::Value(number) = read else {
-        return Number::Bad;
+        return Field::Bad;
     };
     if most(k) < number {
-        return Number::Bad;
+        return Field::Bad;
     }
-    Number::Value(number)
+    Field::Value(number as u64)
 }
 
 // Fills `numbers` from the words after the first, and answers whether each is a number of its
 // field.
-pub(crate) fn read(line: &[u8], numbers: &mut [u32]) -> bool {
+pub(crate) fn read(line: &[u8], numbers: &mut [u64]) -> bool {
     let mut at = bytes::scan::find(line, 0, line.len(), b' ');
     let mut k: usize = 0;
     while k < numbers.len() {
@@ -58,7 +61,7 @@ pub(crate) fn read(line: &[u8], numbers: &mut [u32]) -> bool {
         let start = at + 1;
         at = bytes::scan::find(line, start, line.len(), b' ');
         let field = read_field(&line[start..at], k);
-        let Number::Value(number) = field else {
+        let Field::Value(number) = field else {
             return false;
         };
         numbers[k] = number;
@@ -68,7 +71,7 @@ pub(crate) fn read(line: &[u8], numbers: &mut [u32]) -> bool {
 }
 
 // The number in 8 bits, which hold it.
-fn short8(number: u32) -> u8 {
+fn short8(number: u64) -> u8 {
     if 255 < number {
         return 255;
     }
@@ -76,30 +79,49 @@ fn short8(number: u32) -> u8 {
 }
 
 // The number in 16 bits, which hold it.
-fn short16(number: u32) -> u16 {
+fn short16(number: u64) -> u16 {
     if 65535 < number {
         return 65535;
     }
     number as u16
 }
 
-fn depth(number: u32) -> Depth {
-    if 65535 < number {
-        return Depth::Missing;
+// The number in 32 bits, which hold it.
+fn short32(number: u64) -> u32 {
+    if 4294967295 < number {
+        return 4294967295;
     }
-    Depth::Given(number as u16)
+    number as u32
+}
+
+// A node, or that it is missing.
+fn node(number: u64) -> NodeOption {
+    if number == MISSING {
+        return NodeOption::None;
+    }
+    NodeOption::Some(NodeId(short32(number)))
+}
+
+// A depth, or that it is missing.
+fn depth(number: u64) -> U16Option {
+    if number == MISSING {
+        return U16Option::None;
+    }
+    U16Option::Some(short16(number))
 }
 
 // The node that the numbers describe.
-pub(crate) fn desc(numbers: [u32; 11]) -> NodeDesc {
+pub(crate) fn desc(numbers: [u64; 11]) -> NodeDesc {
+    let parent = node(numbers[0]);
+    let origin = node(numbers[5]);
     let depth = depth(numbers[6]);
     NodeDesc {
         arc: short8(numbers[1]),
         flags: short8(numbers[2]),
-        stack: numbers[3],
-        layer: numbers[4],
-        parent: NodeId(numbers[0]),
-        origin: NodeId(numbers[5]),
+        stack: short32(numbers[3]),
+        layer: short32(numbers[4]),
+        parent,
+        origin,
         depth,
         sibling: short16(numbers[7]),
         restriction: short16(numbers[8]),

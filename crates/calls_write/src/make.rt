@@ -41,7 +41,7 @@ fn init_line(line: &[u8], arena: &mut [u8], out: &mut [u8], used: usize) -> usiz
 // `add PARENT ARC FLAGS STACK LAYER ORIGIN DEPTH SIBLING RESTRICTION SPECFROM HASSPECS PATH`: the
 // new node's number.
 fn add_line(line: &[u8], arena: &mut [u8], out: &mut [u8], used: usize) -> usize {
-    let mut numbers = [0u32; 11];
+    let mut numbers = [0u64; 11];
     if !crate::fields::read(line, &mut numbers) {
         return bad_line(out, used);
     }

@@ -40,10 +40,11 @@ impl NodeOption {
     pub fn of(number: u32) -> NodeOption
         ensures { λ r. ⌜ nodeOption r ≡ optional number ⌝ }
     {
-        if number == NodeId::INVALID.0 {
-            return NodeOption::None;
+        let node = NodeId::new(number);
+        if node.is_valid() {
+            return NodeOption::Some(node);
         }
-        NodeOption::Some(NodeId(number))
+        NodeOption::None
     }
 
     // The node's number, or the number that no node has.

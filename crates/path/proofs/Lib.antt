@@ -1,3 +1,5 @@
+-- The answers by number and value.
+pub mod AnswerLaws
 -- Reading from the front, of one path and by tables.
 pub mod ReadingLaws
 pub mod PathTables

@@ -3,18 +3,16 @@
 // puts its questions in document 01's order; the first whose answer is no is the refusal, and then
 // every lent byte is as it was. What a call answers and leaves is its one function of
 // model/specs/Calls.antt, made a call on bytes by model/specs/ArenaCalls.antt.
-// Starting and adding are in crates/nodes, the count in crates/validate, what is read of the header
-// or one node in crates/nodes, the node that uses a site in crates/nodes, the comparisons in
-// crates/strength, class hierarchies in crates/strength, ordering in crates/ordering, reading the
-// order in crates/ordering, culling in crates/culling, erasing in crates/erasing, appending a
-// child's name in crates/deepening, reading and writing a snapshot in crates/snapshot. Nothing is
-// defined here.
+// Nodes are in crates/nodes: starting, adding, setting fields of one node, what is read of the header
+// or of one node, the node that uses a site. The count is in crates/validate, comparisons and class
+// hierarchies in crates/strength, the order in crates/ordering, culling in crates/culling, erasing in
+// crates/erasing, appending a child's name in crates/deepening, snapshots in crates/snapshot. Nothing
+// is defined here.
 pub use culling::calls::cull_subtrees_without_opinions;
 pub use deepening::calls::append_child_name_to_all_sites;
 pub use deepening::calls::seed_child;
 pub use erasing::calls::erasable;
 pub use erasing::calls::erase;
-pub use nodes::Depth;
 pub use nodes::NodeDesc;
 pub use nodes::calls::GraphInfo;
 pub use nodes::calls::GraphRead;
@@ -23,10 +21,12 @@ pub use nodes::calls::add_child;
 pub use nodes::calls::depth_below_introduction;
 pub use nodes::calls::graph_info;
 pub use nodes::calls::init_root;
+pub use nodes::calls::is_due_to_ancestor;
 pub use nodes::calls::node;
 pub use nodes::calls::node_using_site;
-pub use nodes::calls::path;
-pub use nodes::calls::path_at_introduction;
+pub use nodes::paths::intro_path;
+pub use nodes::paths::path;
+pub use nodes::paths::path_at_introduction;
 pub use ordering::calls::finalize_strength_order;
 pub use ordering::calls::order_entry;
 pub use ordering::calls::strength_order;

@@ -1,4 +1,4 @@
--- `calls_look::children::put_each` is safe and ends. The invariant of its loop: the lent buffer
+-- `children::put_each` is safe and ends. The invariant of its loop: the lent buffer
 -- keeps its length. The measure is how many nodes are left. Assumes nothing.
 use Prim.Native.Nat.{_-_}
 use mathlib.Core.Path.{_≡_}

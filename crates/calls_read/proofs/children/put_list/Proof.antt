@@ -1,4 +1,4 @@
--- `calls_look::children::put_list` is safe and ends. The invariant of its loop: the lent buffer
+-- `children::put_list` is safe and ends. The invariant of its loop: the lent buffer
 -- keeps its length, and `left` is a number of nodes. The measure is how many nodes the list can
 -- still have. Assumes nothing.
 use Prim.Native.Nat.{_≤_}

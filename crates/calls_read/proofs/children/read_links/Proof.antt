@@ -1,4 +1,4 @@
--- `calls_look::children::read_links` is safe and ends. The invariant of its loop: the lent links
+-- `children::read_links` is safe and ends. The invariant of its loop: the lent links
 -- keep their lengths. The measure is how many nodes are left. Assumes nothing.
 use Prim.Native.Nat.{_-_}
 use mathlib.Core.Path.{_≡_}

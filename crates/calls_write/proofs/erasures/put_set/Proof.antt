@@ -1,4 +1,4 @@
--- `calls_change::erasures::put_set` is safe and ends. The invariant of its loop: the lent buffer
+-- `erasures::put_set` is safe and ends. The invariant of its loop: the lent buffer
 -- keeps its length. The measure is how many nodes are left. Assumes nothing.
 use mathlib.Core.Path.{_≡_}
 use Prim.Native.Nat.{_-_}

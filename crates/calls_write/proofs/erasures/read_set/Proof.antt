@@ -1,4 +1,4 @@
--- `calls_change::erasures::read_set` is safe and ends. The invariant of its loop: the lent buffer
+-- `erasures::read_set` is safe and ends. The invariant of its loop: the lent buffer
 -- keeps its length. The measure is how many digits are left. Assumes nothing.
 use mathlib.Core.Path.{_≡_}
 use Prim.Native.Nat.{_-_}

@@ -1,4 +1,4 @@
--- `calls_make::fields::read` is safe and ends. The invariant of its loop: `at` is within the line,
+-- `fields::read` is safe and ends. The invariant of its loop: `at` is within the line,
 -- and the numbers keep their length. The measure is how many numbers are left. Assumes nothing.
 use Prim.Native.Nat.{_-_, _≤_}
 use mathlib.Core.Path.{_≡_}

@@ -1,4 +1,4 @@
--- `calls_change::orders::put_entries` is safe and ends. The invariant of its loop: the lent buffer
+-- `orders::put_entries` is safe and ends. The invariant of its loop: the lent buffer
 -- keeps its length. The measure is how many entries are left. Assumes nothing.
 use Prim.Native.Nat.{_-_}
 use mathlib.Core.Path.{_≡_}
