@@ -85,11 +85,13 @@ root-found ns (suc k) = go (isLocalRoot ns k) refl (root-found ns k)
     go false e below = below
 
 -- two lists of nodes of one length that have it at one place
-root-below-kept : (ns ms : List Node) (k : ℕ) → ((n : ℕ) → isLocalRoot ms n ≡ isLocalRoot ns n) → localRootBelow ms k ≡ localRootBelow ns k
+root-below-kept : (ns ms : List Node) (k : ℕ) → ((n : ℕ) → isLocalRoot ms n ≡ isLocalRoot ns n)
+    → localRootBelow ms k ≡ localRootBelow ns k
 root-below-kept ns ms zero same = refl
 root-below-kept ns ms (suc k) same = λ i. cond (same k i) k (root-below-kept ns ms k same i)
 
-pub root-kept : (ns ms : List Node) → length ms ≡ length ns → ((n : ℕ) → isLocalRoot ms n ≡ isLocalRoot ns n) → localRootOf ms ≡ localRootOf ns
+pub root-kept : (ns ms : List Node) → length ms ≡ length ns → ((n : ℕ) → isLocalRoot ms n ≡ isLocalRoot ns n)
+    → localRootOf ms ≡ localRootOf ns
 root-kept ns ms long same = root-below-kept ns ms (length ms) same ∙ ap (localRootBelow ns) long
 
 pub root-held : (bs : List ℕ) → ValidArena bs → 0 < countIn bs → localRootIn bs ≡ localRootOf (decode bs .nodes)

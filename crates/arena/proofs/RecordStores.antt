@@ -49,7 +49,8 @@ module _ (bs : List ℕ) (bytes : Bytes bs) (o : ValidArena bs) (n : ℕ) (here 
 
   -- ---- Another record of node n, with its arc and its parent
 
-  module _ (x : Node) (arc : x .arc ≡ nodeAt (decode bs .nodes) n .arc) (parent : x .parent ≡ nodeAt (decode bs .nodes) n .parent) where
+  module _ (x : Node) (arc : x .arc ≡ nodeAt (decode bs .nodes) n .arc)
+      (parent : x .parent ≡ nodeAt (decode bs .nodes) n .parent) where
     abbrev h : Graph
     h = withRecord g n x
 
@@ -72,8 +73,8 @@ module _ (bs : List ℕ) (bytes : Bytes bs) (o : ValidArena bs) (n : ℕ) (here 
     same-links : (k : ℕ) → linkBytes h k ≡ linkBytes g k
     unfolding withRecord
     same-links k =
-        ap (λ (p : ℕ). bigEndian 4 (firstOf (childrenOf g k)) ++ (bigEndian 4 (lastOf (childrenOf g k)) ++ bigEndian 4 (afterIn k (childrenOf g p))))
-        (same-parent k)
+        ap (λ (p : ℕ). bigEndian 4 (firstOf (childrenOf g k)) ++ (bigEndian 4 (lastOf (childrenOf g k))
+        ++ bigEndian 4 (afterIn k (childrenOf g p)))) (same-parent k)
 
     same-marks : bs ≡ marksStored (h .ordered) (h .finalized) (h .shallow) bs
     unfolding withRecord
@@ -94,7 +95,8 @@ module _ (bs : List ℕ) (bytes : Bytes bs) (o : ValidArena bs) (n : ℕ) (here 
     -- ---- The bytes m in its site, from the place a on
 
     module _ (a : ℕ) (m : List ℕ) (within : a + length m ≤ length (siteBytes (decode bs) n))
-        (site : siteOf x ≡ take a (siteBytes (decode bs) n) ++ (m ++ drop (a + length m) (siteBytes (decode bs) n))) where
+        (site : siteOf x ≡ take a (siteBytes (decode bs) n)
+        ++ (m ++ drop (a + length m) (siteBytes (decode bs) n))) where
       -- stored in slot n, and nothing in the others
       abbrev piece : ℕ → List ℕ
       piece k = cond (eqb k n) m []
@@ -110,7 +112,13 @@ module _ (bs : List ℕ) (bytes : Bytes bs) (o : ValidArena bs) (n : ℕ) (here 
       short = site-short g ok n here
 
       run : SlotRun done at piece (size g)
-      run = record { whole = o .whole; few = ok .legal .few-nodes; step = λ k. refl; low = λ k. omega arith; high = λ k l. high k }
+      run = record {
+        whole = o .whole;
+        few = ok .legal .few-nodes;
+        step = λ k. refl;
+        low = λ k. omega arith;
+        high = λ k l. high k;
+      }
         where
           high : (k : ℕ) → at k + length (piece k) ≤ slotAt k + 320
           high k = go (eqb k n)
@@ -145,9 +153,11 @@ module _ (bs : List ℕ) (bytes : Bytes bs) (o : ValidArena bs) (n : ℕ) (here 
           let front = take a (siteBytes g n) in
           let rest = drop end (siteBytes g n) in
           let front-long : length front ≡ a = length-take-le a (siteBytes g n) (omega (arith, within)) in
-          let rest-long : end + length rest ≡ length (siteBytes g n) = omega (arith, within, length-drop end (siteBytes g n)) in
+          let rest-long : end + length rest ≡ length (siteBytes g n) =
+          omega (arith, within, length-drop end (siteBytes g n)) in
           ap (λ (p : List ℕ). stored (slotAt n + 16) p (done n)) (new-site ∙ site)
-          ∙ stored-middle (slotAt n + 16) (at n) (slotAt n + (16 + end)) front m rest (done n) (omega arith) (omega arith)
+          ∙ stored-middle (slotAt n + 16) (at n) (slotAt n + (16 + end)) front m rest (done n)
+          (omega arith) (omega arith)
           (omega (arith, short, run-length run n (omega (arith, here)), ok .legal .few-nodes))
           (ap (λ (w : ℕ). take w (drop (slotAt n + 16) (done n))) front-long
           ∙ untouched n here (slotAt n + 16) a (omega arith) ∙ parts .site-part n here 0 a (omega (arith, within)))
@@ -157,10 +167,11 @@ module _ (bs : List ℕ) (bytes : Bytes bs) (o : ValidArena bs) (n : ℕ) (here 
       site-stored : (k : ℕ) → k < size g → stored (slotAt k + 16) (siteBytes h k) (done k) ≡ done (suc k)
       site-stored k l = go (eqb k n) refl
         where
-          go : (t : Bool) → eqb k n ≡ t → stored (slotAt k + 16) (siteBytes h k) (done k) ≡ stored (at k) (cond t m []) (done k)
+          go : (t : Bool) → eqb k n ≡ t
+              → stored (slotAt k + 16) (siteBytes h k) (done k) ≡ stored (at k) (cond t m []) (done k)
           go true e =
-              subst (λ (j : ℕ). stored (slotAt j + 16) (siteBytes h j) (done j) ≡ stored (at j) m (done j)) (sym (eqb-true k n e))
-              new-stored
+              subst (λ (j : ℕ). stored (slotAt j + 16) (siteBytes h j) (done j) ≡ stored (at j) m (done j))
+              (sym (eqb-true k n e)) new-stored
           go false e =
               let other = eqb-false k n e in
               ap (λ (p : List ℕ). stored (slotAt k + 16) p (done k)) (other-site k other)
@@ -176,27 +187,33 @@ module _ (bs : List ℕ) (bytes : Bytes bs) (o : ValidArena bs) (n : ℕ) (here 
 
       pub encode-set : stored (slotAt n + (16 + a)) m bs ≡ encode (withRecord (decode bs) n x) bs
       encode-set =
-          sym (encode-run-kept bs bytes o h same-size same-root run same-marks (λ k. omega arith) (inl same-order) slot-step
-          ∙ done-after (size g) here)
+          sym (encode-run-kept bs bytes o h same-size same-root run same-marks (λ k. omega arith) (inl same-order)
+          slot-step ∙ done-after (size g) here)
 
   -- ---- The flags, the restriction depth, and spec_from with has-specs
 
+  -- the graph with these of node n
+  abbrev pub withOther : ℕ → ℕ → ℕ → ℕ → Graph
+  withOther flags restriction specFrom hasSpecs =
+      withRecord (decode bs) n (withSite flags restriction specFrom hasSpecs (nodeAt (decode bs .nodes) n))
+
   pub encode-flags : (flags : ℕ)
-      → flagsStored n flags bs ≡ encode (withRecord g n (withSite flags (old .restriction) (old .specFrom) (old .hasSpecs) old)) bs
+      → flagsStored n flags bs ≡ encode (withOther flags (old .restriction) (old .specFrom) (old .hasSpecs)) bs
   unfolding recordBody
   encode-flags flags =
-      encode-set (withSite flags (old .restriction) (old .specFrom) (old .hasSpecs) old) refl refl 4 (bigEndian 1 flags) (omega arith)
-      refl
+      encode-set (withSite flags (old .restriction) (old .specFrom) (old .hasSpecs) old) refl refl
+      4 (bigEndian 1 flags) (omega arith) refl
 
   pub encode-restriction : (depth : ℕ)
-      → restrictionStored n depth bs ≡ encode (withRecord g n (withSite (old .flags) depth (old .specFrom) (old .hasSpecs) old)) bs
+      → restrictionStored n depth bs ≡ encode (withOther (old .flags) depth (old .specFrom) (old .hasSpecs)) bs
   unfolding recordBody
   encode-restriction depth =
-      encode-set (withSite (old .flags) depth (old .specFrom) (old .hasSpecs) old) refl refl 25 (bigEndian 2 depth) (omega arith) refl
+      encode-set (withSite (old .flags) depth (old .specFrom) (old .hasSpecs) old) refl refl
+      25 (bigEndian 2 depth) (omega arith) refl
 
   pub encode-specs : (specFrom hasSpecs : ℕ)
-      → specsStored n specFrom hasSpecs bs ≡ encode (withRecord g n (withSite (old .flags) (old .restriction) specFrom hasSpecs old)) bs
+      → specsStored n specFrom hasSpecs bs ≡ encode (withOther (old .flags) (old .restriction) specFrom hasSpecs) bs
   unfolding recordBody
   encode-specs specFrom hasSpecs =
-      encode-set (withSite (old .flags) (old .restriction) specFrom hasSpecs old) refl refl 27
-      (bigEndian 2 specFrom ++ bigEndian 1 hasSpecs) (omega arith) refl
+      encode-set (withSite (old .flags) (old .restriction) specFrom hasSpecs old) refl refl
+      27 (bigEndian 2 specFrom ++ bigEndian 1 hasSpecs) (omega arith) refl

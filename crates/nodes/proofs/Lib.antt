@@ -5,3 +5,5 @@ pub mod AddingLaws
 pub mod ReadableLaws
 pub mod QueryLaws
 mod SiteSearch
+-- The calls that set.
+mod SettingLaws
