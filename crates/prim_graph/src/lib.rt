@@ -3,12 +3,12 @@
 // puts its questions in document 01's order; the first whose answer is no is the refusal, and then
 // every lent byte is as it was. What a call answers and leaves is its one function of
 // model/specs/Calls.antt, made a call on bytes by model/specs/ArenaCalls.antt.
-// Starting and adding are in crates/nodes, the count in crates/validate, what is read of the header
-// or one node in crates/nodes, the node that uses a site in crates/nodes, the comparisons in
-// crates/strength, class hierarchies in crates/strength, ordering in crates/ordering, reading the
-// order in crates/ordering, culling in crates/culling, erasing in crates/erasing, appending a
-// child's name in crates/deepening, reading and writing a snapshot in crates/snapshot. Nothing is
-// defined here.
+// Starting, adding and setting fields of a node are in crates/nodes, the count in crates/validate,
+// what is read of the header or one node in crates/nodes, the node that uses a site in
+// crates/nodes, the comparisons in crates/strength, class hierarchies in crates/strength, ordering
+// in crates/ordering, reading the order in crates/ordering, culling in crates/culling, erasing in
+// crates/erasing, appending a child's name in crates/deepening, reading and writing a snapshot in
+// crates/snapshot. Nothing is defined here.
 pub use culling::calls::cull_subtrees_without_opinions;
 pub use deepening::calls::append_child_name_to_all_sites;
 pub use deepening::calls::seed_child;
@@ -27,6 +27,10 @@ pub use nodes::calls::node;
 pub use nodes::calls::node_using_site;
 pub use nodes::calls::path;
 pub use nodes::calls::path_at_introduction;
+pub use nodes::setting::mark;
+pub use nodes::setting::set_first_spec;
+pub use nodes::setting::set_has_specs;
+pub use nodes::setting::set_restriction_depth;
 pub use ordering::calls::finalize_strength_order;
 pub use ordering::calls::order_entry;
 pub use ordering::calls::strength_order;
