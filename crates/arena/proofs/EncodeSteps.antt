@@ -59,6 +59,13 @@ held-parts bs bytes o =
     subst (HasParts (decode bs)) (encode-decode bs bytes (o .whole) (o .holds))
     (encoded-parts (decode bs) bs (held-encodable bs bytes (o .whole) (o .holds)) (o .whole))
 
+-- the marks
+pub marks-there : (bs : List ℕ) → Bytes bs → ValidArena bs
+    → bs ≡ marksStored (decode bs .ordered) (decode bs .finalized) (decode bs .shallow) bs
+marks-there bs bytes o =
+    let marks = bit (decode bs .ordered) ∷ bit (decode bs .finalized) ∷ bit (decode bs .shallow) ∷ [] in
+    sym (stored-there 4 3 marks bs (held-parts bs bytes o .header 4 3 (omega arith)))
+
 -- ---- Slots that stand
 
 pub record SlotStands (h : Graph) (k : ℕ) (s : List ℕ) : Type 0 where

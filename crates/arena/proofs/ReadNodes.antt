@@ -1,6 +1,6 @@
 -- What the fields of a node say of the graph that an arena holds, where questions 1 to 4 pass:
 -- `node-read`, `fields-read`; and of its local root: `root-found`, `root-held`. Assumes nothing.
-use mathlib.Core.Path.{_≡_, refl}
+use mathlib.Core.Path.{_≡_, refl, ap, _∙_}
 use mathlib.Core.Bool.{Bool, true, false, not, _||_, cond}
 use mathlib.Core.List.{List, [], _∷_}
 use Prim.Native.Nat.{ℕ, zero, suc, _-_, _<_}
@@ -83,6 +83,16 @@ root-found ns (suc k) = go (isLocalRoot ns k) refl (root-found ns k)
         → not (eqb (cond t k (localRootBelow ns k)) 0) ≡ (t || anyBelow (isLocalRoot ns) k)
     go true e below = rw (ne-eqb k 0 (root-above ns k e))
     go false e below = below
+
+-- two lists of nodes of one length that have it at one place
+root-below-kept : (ns ms : List Node) (k : ℕ) → ((n : ℕ) → isLocalRoot ms n ≡ isLocalRoot ns n)
+    → localRootBelow ms k ≡ localRootBelow ns k
+root-below-kept ns ms zero same = refl
+root-below-kept ns ms (suc k) same = λ i. cond (same k i) k (root-below-kept ns ms k same i)
+
+pub root-kept : (ns ms : List Node) → length ms ≡ length ns → ((n : ℕ) → isLocalRoot ms n ≡ isLocalRoot ns n)
+    → localRootOf ms ≡ localRootOf ns
+root-kept ns ms long same = root-below-kept ns ms (length ms) same ∙ ap (localRootBelow ns) long
 
 pub root-held : (bs : List ℕ) → ValidArena bs → 0 < countIn bs → localRootIn bs ≡ localRootOf (decode bs .nodes)
 unfolding decode

@@ -154,3 +154,9 @@ orderEntryStored n entry bs = stored (slotAt n + 12) (bigEndian 4 entry) bs
 
 abbrev pub flagsStored : ℕ → ℕ → List ℕ → List ℕ
 flagsStored n flags bs = stored (slotAt n + 20) (bigEndian 1 flags) bs
+
+abbrev pub restrictionStored : ℕ → ℕ → List ℕ → List ℕ
+restrictionStored n depth bs = stored (slotAt n + 41) (bigEndian 2 depth) bs
+
+abbrev pub specsStored : ℕ → ℕ → ℕ → List ℕ → List ℕ
+specsStored n specFrom hasSpecs bs = stored (slotAt n + 43) (bigEndian 2 specFrom ++ bigEndian 1 hasSpecs) bs

@@ -52,6 +52,8 @@ pub use slot::spec_from;
 pub use slot::stack;
 pub use slot::write_flags;
 pub use slot::write_order_entry;
+pub use slot::write_restriction;
+pub use slot::write_specs;
 ghost use mathlib.Core.Path.{_≡_};
 ghost use Prim.Native.Nat.{_+_, _≤_};
 ghost use lib.ListN.{length};

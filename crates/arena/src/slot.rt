@@ -9,7 +9,7 @@ ghost use Rattle.model.specs.Arena.{recordLengthIn, nodeIn};
 ghost use Rattle.model.specs.Snapshot.{field};
 ghost use Rattle.arena.specs.Slot.{HasSlot, HasPath, arcIn, flagsIn, stackIn, layerIn, parentIn, originIn};
 ghost use Rattle.arena.specs.Slot.{depthIn, siblingIn, restrictionIn, specFromIn, hasSpecsIn, orderEntryStored};
-ghost use Rattle.arena.specs.Slot.{flagsStored};
+ghost use Rattle.arena.specs.Slot.{flagsStored, restrictionStored, specsStored};
 
 // How many bytes the header has.
 pub(crate) const HEADER: usize = 64;
@@ -216,5 +216,35 @@ pub fn write_flags(arena: &mut [u8], n: u32, flags: u8)
         arena,
         HEADER + (n as usize) * SLOT + (offsets::RECORD + offsets::FLAGS),
         flags,
+    );
+}
+
+// Stores the restriction depth of node n.
+pub fn write_restriction(arena: &mut [u8], n: u32, depth: u16)
+    requires { ⌜ HasSlot (now arena) n ⌝ }
+    ensures { λ _. ⌜ now (arena .exit) ≡ restrictionStored n depth (now (arena .entry)) ⌝ }
+{
+    big_endian::write_u16(
+        arena,
+        HEADER + (n as usize) * SLOT + (offsets::RECORD + offsets::RESTRICTION),
+        depth,
+    );
+}
+
+// Stores the `spec_from` of node n and whether it has specs, 1 or 0.
+pub fn write_specs(arena: &mut [u8], n: u32, spec_from: u16, has_specs: u8)
+    requires { ⌜ HasSlot (now arena) n ⌝ }
+    ensures { λ _. ⌜ now (arena .exit) ≡ specsStored n «spec_from» «has_specs» (now (arena .entry)) ⌝ }
+{
+    let at = HEADER + (n as usize) * SLOT;
+    big_endian::write_u16(
+        arena,
+        at + (offsets::RECORD + offsets::SPEC_FROM),
+        spec_from,
+    );
+    big_endian::write_u8(
+        arena,
+        at + (offsets::RECORD + offsets::HAS_SPECS),
+        has_specs,
     );
 }

@@ -12,7 +12,7 @@ use lib.ListN.{length, getD, set, replicate, length-set}
 use lib.Seq.{getD-set-same, getD-set-other}
 use borrow.Author.Tests.{eqb-true, eqb-false, eq-eqb, ne-eqb}
 use Rattle.model.specs.Lists.{bit, count, every}
-use Rattle.model.specs.Node.{rootArc, culledFlag, Node, hasFlag, isInert, isCulled}
+use Rattle.model.specs.Node.{rootArc, culledFlag, Node, hasFlag, withFlag, isInert, isCulled}
 use Rattle.model.specs.Graph.{Graph, size, nodeAt, childrenOf, depthBelowIntroduction, hasLocalRoot}
 use Rattle.model.specs.Arena.{countIn, localRootOf, decode}
 use Rattle.model.specs.Culling.{keepsInherit, culled, cullSubtreesWithoutOpinions}
@@ -23,7 +23,7 @@ use Rattle.arena.proofs.HeldArenas.{held}
 use Rattle.arena.proofs.HeldEncodable.{held-encodable}
 use Rattle.arena.proofs.ReadNodes.{sizes, root-found, root-held}
 use Rattle.view.specs.View.{viewIn, ValidNodeAndRoot}
-use Rattle.culling.specs.Culled.{Rooted, isKept, canCullUnder, withCulled, flagsLeft, HasFlagsFrom, Clear}
+use Rattle.culling.specs.Culled.{Rooted, isKept, canCullUnder, flagsLeft, HasFlagsFrom, Clear}
 
 -- ---- Tests
 
@@ -78,8 +78,7 @@ decided-culled : (x : Node) (b : Bool) → (b ≡ false → isCulled x ≡ false
 decided-culled x true h = culled-set x
 decided-culled x false h = h refl
 
-decided-flags : (x : Node) (b : Bool) → cond b (culled x) x .flags ≡ cond b (withCulled (x .flags)) (x .flags)
-unfolding withCulled
+decided-flags : (x : Node) (b : Bool) → cond b (culled x) x .flags ≡ cond b (withFlag culledFlag (x .flags)) (x .flags)
 decided-flags x true = refl
 decided-flags x false = refl
 
@@ -200,12 +199,12 @@ module _ (bs : List ℕ) (bytes : Bytes bs) (nodes root : ℕ) (r : Rooted bs no
     unfolding canCullUnder
     culled-after = ap isCulled node-after ∙ decided-culled (nodeAt (g .nodes) here) decision (λ e. or-left (isCulled (nodeAt (g .nodes) here)) _ e)
 
-    flags-after : flagsLeft bs here ≡ cond decision (withCulled (nodeAt (g .nodes) here .flags)) (nodeAt (g .nodes) here .flags)
+    flags-after : flagsLeft bs here ≡ cond decision (withFlag culledFlag (nodeAt (g .nodes) here .flags)) (nodeAt (g .nodes) here .flags)
     flags-after = ap (λ (x : Node). x .flags) node-after ∙ decided-flags (nodeAt (g .nodes) here) decision
 
-    flags-as : (t : Bool) → decision ≡ t → cond t (withCulled (nodeAt (g .nodes) here .flags)) (nodeAt (g .nodes) here .flags) ≡ flagsLeft bs here
+    flags-as : (t : Bool) → decision ≡ t → cond t (withFlag culledFlag (nodeAt (g .nodes) here .flags)) (nodeAt (g .nodes) here .flags) ≡ flagsLeft bs here
     flags-as t e =
-        sym (flags-after ∙ ap (λ (s : Bool). cond s (withCulled (nodeAt (g .nodes) here .flags)) (nodeAt (g .nodes) here .flags)) e)
+        sym (flags-after ∙ ap (λ (s : Bool). cond s (withFlag culledFlag (nodeAt (g .nodes) here .flags)) (nodeAt (g .nodes) here .flags)) e)
 
     found-more : (f : ℕ) → f ≡ flagsLeft bs here → HasFlagsFrom bs here (set flags here f)
     found-more f e k l h = go (eqb k here) refl
@@ -217,7 +216,7 @@ module _ (bs : List ℕ) (bytes : Bytes bs) (nodes root : ℕ) (r : Rooted bs no
         go false q =
             let other = eqb-false k here q in getD-set-other flags here k f 0 other ∙ d .found k (omega arith) h
 
-    pub step-culled : decision ≡ true → (f : ℕ) → f ≡ withCulled (nodeAt (g .nodes) here .flags) → Deciding bs unculled (set flags here f) here
+    pub step-culled : decision ≡ true → (f : ℕ) → f ≡ withFlag culledFlag (nodeAt (g .nodes) here .flags) → Deciding bs unculled (set flags here f) here
     step-culled e f q = record {
       some = omega arith;
       within = omega (arith, here-below);

@@ -3,48 +3,37 @@
 -- `encode-empty`, `encode-unrooted`. Assumes nothing.
 use mathlib.Core.Path.{_≡_, refl, sym, ap, _∙_}
 use mathlib.Core.Logic.{inl}
-use mathlib.Core.Bool.{false, not, cond}
-use mathlib.Core.List.{List, [], _∷_, _++_}
-use Prim.Native.Nat.{ℕ, zero, suc, _+_, _≤_, _<_}
+use mathlib.Core.Bool.{false, not}
+use mathlib.Core.List.{List, _∷_, _++_}
+use Prim.Native.Nat.{ℕ, suc, _+_, _≤_, _<_}
 use native.Mathlib.Omega.{arith}
-use lib.ListN.{length, take, drop, getD, length-append}
+use lib.ListN.{length, take, drop, getD}
 use lib.Seq.{take-length}
 use borrow.Author.Tests.{eq-eqb}
 use Rattle.model.specs.Bytes.{stored}
-use Rattle.model.specs.Lists.{bit, anyBelow}
+use Rattle.model.specs.Lists.{anyBelow}
 use Rattle.model.specs.Path.{primCount}
 use Rattle.model.specs.Node.{Node, changed}
 use Rattle.model.specs.Graph.{Graph, size, nodeAt, childrenOf, isLocalRoot, hasLocalRoot}
 use Rattle.model.specs.Strength.{View}
 use Rattle.model.specs.Snapshot.{bigEndian, recordBody, recordBytes}
-use Rattle.model.specs.Arena.{slotAt, countIn, firstOf, lastOf, afterIn, linkBytes, siteBytes, slotStored, localRootIn, localRootBelow, localRootOf, decode, encode}
+use Rattle.model.specs.Arena.{slotAt, countIn, firstOf, lastOf, afterIn, linkBytes, siteBytes, slotStored, localRootIn, localRootOf, decode, encode}
 use Rattle.model.specs.ArenaCalls.{ValidArena}
 use Rattle.model.specs.Culling.{cullSubtreesWithoutOpinions}
 use Rattle.laws.proofs.BigEndianLaws.{Bytes}
-use Rattle.laws.proofs.StoredLaws.{part-after-stored, stored-next, stored-there}
+use Rattle.laws.proofs.StoredLaws.{stored-middle}
 use Rattle.laws.proofs.CullingLaws.{OnlyCulled, culling-only-culls, culling-keeps-view}
 use Rattle.arena.specs.Header.{marksStored}
 use Rattle.arena.specs.Slot.{flagsStored}
 use Rattle.arena.proofs.Encodable.{Encodable}
 use Rattle.arena.proofs.ArenaParts.{site-short}
 use Rattle.arena.proofs.ArenaBack.{encode-decode}
-use Rattle.arena.proofs.EncodeSteps.{HasParts, held-parts, SlotRun, run-length, slot-before, links-there, encode-run-kept}
+use Rattle.arena.proofs.EncodeSteps.{HasParts, held-parts, marks-there, SlotRun, run-length, slot-before, links-there, encode-run-kept}
 use Rattle.arena.proofs.HeldEncodable.{held-encodable}
-use Rattle.arena.proofs.ReadNodes.{sizes, root-found, root-held}
+use Rattle.arena.proofs.ReadNodes.{sizes, root-found, root-kept, root-held}
 use Rattle.culling.specs.Culled.{HasFlagsFrom, flagsWritten}
 
 -- ---- A site
-
--- bytes that are there but in the middle, between the places `mid` and `end`
-stored-middle : (at mid end : ℕ) (a m b s : List ℕ) → mid ≡ at + length a → end ≡ mid + length m
-    → end + length b ≤ length s → take (length a) (drop at s) ≡ a → take (length b) (drop end s) ≡ b
-    → stored at (a ++ (m ++ b)) s ≡ stored mid m s
-stored-middle at mid end a m b s e d fits front back =
-    sym (stored-next at a (m ++ b) s (omega (arith, length-append m b)))
-    ∙ (λ i. stored (sym e i) (m ++ b) (stored-there at (length a) a s front i))
-    ∙ sym (stored-next mid m b s (omega arith)) ∙ ap (λ (k : ℕ). stored k b (stored mid m s)) (sym d)
-    ∙ stored-there end (length b) b (stored mid m s)
-    (part-after-stored mid m s (omega arith) end (length b) (omega arith) ∙ back)
 
 -- a node that is culled has other flags only
 flagged : (x y : Node) → OnlyCulled x y → y ≡ changed (y .flags) (x .parent) (x .origin) (x .path) x
@@ -64,10 +53,6 @@ flagged x y same = λ i. record {
 }
 
 -- ---- The graph
-
-root-below-kept : (ns ms : List Node) (k : ℕ) → ((n : ℕ) → isLocalRoot ms n ≡ isLocalRoot ns n) → localRootBelow ms k ≡ localRootBelow ns k
-root-below-kept ns ms zero same = refl
-root-below-kept ns ms (suc k) same = λ i. cond (same k i) k (root-below-kept ns ms k same i)
 
 module _ (bs : List ℕ) (bytes : Bytes bs) (o : ValidArena bs) where
   abbrev g : Graph
@@ -89,19 +74,15 @@ module _ (bs : List ℕ) (bytes : Bytes bs) (o : ValidArena bs) where
   same-size = culling-only-culls g .same-length
 
   same-root : localRootOf (h .nodes) ≡ localRootOf (g .nodes)
-  same-root =
-      root-below-kept (g .nodes) (h .nodes) (size h) (λ n. ap (λ (u : View). u .localRoot n) (culling-keeps-view g))
-      ∙ ap (localRootBelow (g .nodes)) same-size
+  same-root = root-kept (g .nodes) (h .nodes) same-size (λ n. ap (λ (u : View). u .localRoot n) (culling-keeps-view g))
 
   same-order : h .order ≡ g .order
   unfolding cullSubtreesWithoutOpinions
   same-order = refl
 
-  marks-there : bs ≡ marksStored (h .ordered) (h .finalized) (h .shallow) bs
+  same-marks : bs ≡ marksStored (h .ordered) (h .finalized) (h .shallow) bs
   unfolding cullSubtreesWithoutOpinions
-  marks-there =
-      let marks = bit (g .ordered) ∷ bit (g .finalized) ∷ bit (g .shallow) ∷ [] in
-      sym (stored-there 4 3 marks bs (parts .header 4 3 (omega arith)))
+  same-marks = marks-there bs bytes o
 
   same-links : (k : ℕ) → linkBytes h k ≡ linkBytes g k
   unfolding cullSubtreesWithoutOpinions
@@ -122,7 +103,7 @@ module _ (bs : List ℕ) (bytes : Bytes bs) (o : ValidArena bs) where
     module _ (k : ℕ) (here : k < size g) where
       -- what lies in slot k is as it was
       untouched : (a w : ℕ) → slotAt k ≤ a → take w (drop a (done k)) ≡ take w (drop a bs)
-      untouched = slot-before bs bytes o h same-size same-root run marks-there k here
+      untouched = slot-before bs bytes o h same-size same-root run same-marks k here
 
       site-flags : stored (slotAt k + 16) (siteBytes h k) (done k) ≡ flagsStored k (nodeAt (h .nodes) k .flags) (done k)
       unfolding recordBody
@@ -143,14 +124,14 @@ module _ (bs : List ℕ) (bytes : Bytes bs) (o : ValidArena bs) where
       slot-flags : slotStored h k (done k) ≡ done (suc k)
       slot-flags =
           ap (stored (slotAt k + 16) (siteBytes h k))
-          (links-there bs bytes o h same-size same-root run marks-there k here (same-links k))
+          (links-there bs bytes o h same-size same-root run same-marks k here (same-links k))
           ∙ site-flags
           ∙ ap (λ (f : ℕ). flagsStored k f (done k)) (sym (found k (omega arith) (omega (arith, sizes bs o))))
 
     pub encode-culled : (count : ℕ) → count ≡ countIn bs → flagsWritten flags count bs ≡ encode h bs
     encode-culled count counted =
         ap done (counted ∙ sym (sizes bs o))
-        ∙ sym (encode-run-kept bs bytes o h same-size same-root run marks-there (λ k. omega arith) (inl same-order)
+        ∙ sym (encode-run-kept bs bytes o h same-size same-root run same-marks (λ k. omega arith) (inl same-order)
         slot-flags)
 
   -- ---- With no local root

@@ -1,11 +1,11 @@
 -- What culling leaves of an arena, and what its parts decide.
 use mathlib.Core.Path.{_≡_}
-use mathlib.Core.Bool.{Bool, not, _||_, _&&_, cond}
+use mathlib.Core.Bool.{Bool, not, _||_, _&&_}
 use mathlib.Core.List.{List}
-use Prim.Native.Nat.{ℕ, zero, suc, _+_, _≤_, _<_}
+use Prim.Native.Nat.{ℕ, zero, suc, _≤_, _<_}
 use lib.Dec.{eqb}
 use lib.ListN.{getD}
-use Rattle.model.specs.Node.{Node, rootArc, culledFlag, hasFlag, isInert, isCulled}
+use Rattle.model.specs.Node.{Node, rootArc, isInert, isCulled}
 use Rattle.model.specs.Graph.{nodeAt, depthBelowIntroduction}
 use Rattle.model.specs.Arena.{countIn, localRootIn, decode, encode}
 use Rattle.model.specs.ArenaCalls.{ValidArena}
@@ -35,10 +35,6 @@ isKept ns n =
 -- `canCull`, where it is known whether a child is unculled
 unfoldable pub canCullUnder : Bool → List Node → ℕ → Bool
 canCullUnder unculled ns n = isCulled (nodeAt ns n) || (not (isKept ns n) && not unculled)
-
--- the flags with CULLED set
-unfoldable pub withCulled : ℕ → ℕ
-withCulled flags = cond (hasFlag culledFlag flags) flags (flags + culledFlag)
 
 -- ---- All nodes
 

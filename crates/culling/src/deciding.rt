@@ -1,11 +1,11 @@
-// Whether one node is culled, and its flags then.
+// Whether one node is culled.
 ghost use mathlib.Core.Path.{_≡_};
 ghost use Prim.Native.Nat.{_≤_};
 ghost use Rattle.model.specs.Arena.{decode};
 ghost use Rattle.model.specs.ArenaCalls.{ValidNode};
 ghost use Rattle.model.specs.Culling.{introducer, keepsInherit};
 ghost use Rattle.view.specs.View.{ValidNodeAndRoot};
-ghost use Rattle.culling.specs.Culled.{isKept, canCullUnder, withCulled};
+ghost use Rattle.culling.specs.Culled.{isKept, canCullUnder};
 
 // t of document 01: node n if it is authored, else where its origins begin.
 fn introducer(arena: &[u8], n: u32) -> u32
@@ -68,14 +68,4 @@ pub(crate) fn can_cull(arena: &[u8], root: u32, n: u32, unculled: bool) -> bool
         return false;
     }
     !unculled
-}
-
-// The flags with CULLED set.
-pub(crate) fn with_culled(flags: u8) -> u8
-    ensures { λ r. ⌜ r ≡ withCulled flags ⌝ }
-{
-    if validate::is_culled(flags) {
-        return flags;
-    }
-    flags + 2
 }

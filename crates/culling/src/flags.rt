@@ -22,7 +22,7 @@ fn find_flags(arena: &[u8], count: u32, root: u32, unculled: &mut [u8], flags: &
         let i = n as usize;
         let old = arena::flags(arena, n);
         if crate::deciding::can_cull(arena, root, n, unculled[i] != 0) {
-            flags[i] = crate::deciding::with_culled(old);
+            flags[i] = validate::with_culled(old);
         } else {
             flags[i] = old;
             unculled[view::parent(arena, n) as usize] = 1;

@@ -205,3 +205,15 @@ stored-again at bs cs s h fits =
     let end = at + length cs in
     ap (λ (l : List ℕ). l ++ (cs ++ drop end (stored at bs s))) (take-before-stored at bs s (omega arith) at (omega arith))
     ∙ ap (λ (l : List ℕ). take at s ++ (cs ++ l)) (drop-after-stored at bs s (omega arith) end (omega arith))
+
+-- ---- Bytes that are there but in the middle, between the places `mid` and `end`
+
+pub stored-middle : (at mid end : ℕ) (a m b s : List ℕ) → mid ≡ at + length a → end ≡ mid + length m
+    → end + length b ≤ length s → take (length a) (drop at s) ≡ a → take (length b) (drop end s) ≡ b
+    → stored at (a ++ (m ++ b)) s ≡ stored mid m s
+stored-middle at mid end a m b s e d fits front back =
+    sym (stored-next at a (m ++ b) s (omega (arith, length-append m b)))
+    ∙ (λ i. stored (sym e i) (m ++ b) (stored-there at (length a) a s front i))
+    ∙ sym (stored-next mid m b s (omega arith)) ∙ ap (λ (k : ℕ). stored k b (stored mid m s)) (sym d)
+    ∙ stored-there end (length b) b (stored mid m s)
+    (part-after-stored mid m s (omega arith) end (length b) (omega arith) ∙ back)

@@ -6,3 +6,5 @@ pub mod ReadableLaws
 pub mod QueryLaws
 pub mod PathCalls
 mod SiteSearch
+-- The calls that set.
+mod SettingLaws

@@ -1,3 +1,4 @@
 pub mod Adding
 pub mod Describing
 pub mod Queries
+pub mod Setting

@@ -18,3 +18,4 @@ pub use record::RecordNumbers;
 pub use record::check_record;
 pub use record::is_culled;
 pub use record::is_inert;
+pub use record::with_culled;

@@ -8,7 +8,7 @@ use model::Refusal;
 ghost use mathlib.Core.Path.{_≡_};
 ghost use Prim.Native.Nat.{_≤_};
 ghost use Rattle.model.specs.Path.{countPrims};
-ghost use Rattle.model.specs.Node.{hasFlag, inertFlag, culledFlag};
+ghost use Rattle.model.specs.Node.{hasFlag, withFlag, inertFlag, culledFlag};
 ghost use Rattle.validate.specs.RecordCheck.{rootAt, linksAt, rootKindAt, kindAt};
 ghost use Rattle.validate.specs.RecordCheck.{roomAt, questionsAt, RecordChecked};
 
@@ -48,6 +48,16 @@ pub fn is_culled(flags: u8) -> bool
     ensures { λ r. ⌜ r ≡ hasFlag culledFlag flags ⌝ }
 {
     flags / 2 % 2 == 1
+}
+
+// The flags with CULLED set.
+pub fn with_culled(flags: u8) -> u8
+    ensures { λ r. ⌜ r ≡ withFlag culledFlag flags ⌝ }
+{
+    if is_culled(flags) {
+        return flags;
+    }
+    flags + 2
 }
 
 // Whether these are the numbers of node 0.

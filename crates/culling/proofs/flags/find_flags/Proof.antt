@@ -7,10 +7,10 @@ use borrow.Author.Needs.{needs}
 use lib.ListN.{length-set}
 use Rattle.laws.proofs.BigEndianLaws.{Bytes}
 use Rattle.laws.proofs.StoredLaws.{bytes-by-place}
+use Rattle.model.specs.Node.{culledFlag, withFlag}
 use Rattle.arena.proofs.ReadNodes.{has-slot}
 use Rattle.view.specs.View.{ValidNodeAndRoot}
 use Rattle.view.proofs.ViewLaws.{seen}
-use Rattle.culling.specs.Culled.{withCulled}
 use Rattle.culling.proofs.DecidingLaws.{Deciding, stands, deciding-start, here-below, parent-below, step-culled, step-left, deciding-end}
 use Rattle.culling.proofs.flags.find_flags.Statement.{statement}
 use Rattle.culling.proofs.flags.find_flags.Tie as tie
@@ -70,7 +70,7 @@ loop-again c =
     let known = l .before .before .before .before in
     step-culled _ (bytes known) _ _ (known .before .pre .0) _ _ _ (l .before .loop .inv) (l .loop-test .taken)
     (sym (c .before .before .can-cull .ensures) ∙ c .before .if1 .taken) _
-    (c .with-culled .ensures ∙ ap withCulled (c .before .before .before .before .flags .ensures ∙ sym (seen _ _ (reads l .readable) .flags)))
+    (c .with-culled .ensures ∙ ap (withFlag culledFlag) (c .before .before .before .before .flags .ensures ∙ sym (seen _ _ (reads l .readable) .flags)))
 
 slice-write-flags-2 : tie.Need-slice-write-flags-2 Inv-loop μ-loop
 slice-write-flags-2 c =

@@ -4,15 +4,13 @@ use native.Mathlib.Omega.{arith}
 use borrow.Author.Needs.{needs}
 use Prim.Native.Nat.{_/_, _%_}
 use borrow.Author.Tests.{eqb-false}
-use Rattle.culling.specs.Culled.{withCulled}
-use Rattle.culling.proofs.deciding.with_culled.Statement.{statement}
-use Rattle.culling.proofs.deciding.with_culled.Tie as tie
+use Rattle.validate.proofs.record.with_culled.Statement.{statement}
+use Rattle.validate.proofs.record.with_culled.Tie as tie
 
 is-culled-requires : tie.Need-is-culled-requires
 is-culled-requires c κs = search needs
 
 returns : tie.Need-returns
-unfolding withCulled
 returns c = rw (sym (c .before .is-culled .ensures) ∙ c .if1 .taken)
 
 add-result : tie.Need-add-result
@@ -21,7 +19,6 @@ add-result c =
     let clear = eqb-false (flags / 2 % 2) 1 (sym (c .before .is-culled .ensures) ∙ c .if1 .left) in omega (arith, c .before .before .fits)
 
 returns-2 : tie.Need-returns-2
-unfolding withCulled
 returns-2 c = rw (sym (c .before .is-culled .ensures) ∙ c .if1 .left)
 
 pub with-culled-spec : {M : Type 1} → statement M
