@@ -9,7 +9,7 @@ use lib.Dec.{eqb}
 use lib.ListN.{length}
 use borrow.Author.Tests.{eqb-false}
 use Rattle.model.specs.Graph.{Graph}
-use Rattle.model.specs.Calls.{Outcome, Call, starting, adding, orders, culls, erasing, deepening, reading, call}
+use Rattle.model.specs.Calls.{Outcome, Call, starting, adding, orders, culls, erasing, deepening, reading, marking, settingFirstSpec, settingHasSpecs, settingRestriction, call}
 use Rattle.model.specs.Arena.{arenaBytes, decode, encode, holdsGraph}
 use Rattle.model.specs.ArenaCalls.{ValidArena, onArena, arenaAfter}
 use Rattle.laws.proofs.BigEndianLaws.{Bytes}
@@ -28,12 +28,13 @@ use Rattle.call_sequences.proofs.CullingKeeps.{culling-keeps}
 use Rattle.call_sequences.proofs.ErasingKeeps.{erasing-keeps}
 use Rattle.call_sequences.proofs.DeepeningKeeps.{deepening-keeps}
 use Rattle.call_sequences.proofs.ReadingKeeps.{reading-keeps}
+use Rattle.call_sequences.proofs.SettingKeeps.{marking-keeps, first-spec-keeps, has-specs-keeps, restriction-keeps}
 
 -- ---- The numbers that a call is given
 
--- u32 for stack and layer, u16 for a depth, bytes for a path; of a node to be added what
--- `NumbersFit` says. Arc, links and has-specs are judged by the questions, and so is every byte of
--- an erase set.
+-- u32 for stack and layer, u16 for a depth and a position, bytes for a path; of a node to be added
+-- what `NumbersFit` says. Arc, links and has-specs are judged by the questions, and so are every
+-- byte of an erase set and the flags that are marked.
 abbrev pub CallFits : Call → Type 0
 CallFits (starting stack layer path) = (stack < 256 ^ 4) × (layer < 256 ^ 4) × Bytes path
 CallFits (adding d) = NumbersFit (d .fields) × DepthFits (d .depth)
@@ -42,6 +43,10 @@ CallFits culls = Unit {0}
 CallFits (erasing bytes) = Unit {0}
 CallFits (deepening child) = Bytes child
 CallFits (reading bytes) = Bytes bytes
+CallFits (marking n flags) = Unit {0}
+CallFits (settingFirstSpec n first) = DepthFits first
+CallFits (settingHasSpecs n authored) = Unit {0}
+CallFits (settingRestriction n depth) = depth < 256 ^ 2
 
 -- ---- The graph
 
@@ -54,6 +59,10 @@ call-keeps culls g fits ok = culling-keeps g ok
 call-keeps (erasing bytes) g fits ok = erasing-keeps bytes g ok
 call-keeps (deepening child) g fits ok = deepening-keeps child fits g ok
 call-keeps (reading bytes) g fits ok = reading-keeps bytes fits g ok
+call-keeps (marking n flags) g fits ok = marking-keeps n g ok flags
+call-keeps (settingFirstSpec n first) g fits ok = first-spec-keeps n g ok first fits
+call-keeps (settingHasSpecs n authored) g fits ok = has-specs-keeps n g ok authored
+call-keeps (settingRestriction n depth) g fits ok = restriction-keeps n g ok depth fits
 
 pub call-keeps-encodable : (c : Call) (g : Graph) → CallFits c → Encodable g → Encodable (call c g .graph)
 call-keeps-encodable c g fits ok = call-keeps c g fits ok .encodable

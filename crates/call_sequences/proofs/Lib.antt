@@ -7,6 +7,7 @@ mod CullingKeeps
 mod ErasingKeeps
 pub mod DeepeningKeeps
 pub mod ReadingKeeps
+mod SettingKeeps
 mod ArenaBytes
 pub mod KeepEncodable
 -- What the two calls on erase sets leave of an arena.
@@ -16,5 +17,6 @@ mod StepGraphs
 mod ReachedArenas
 pub mod Demand3Proof
 mod Demand3Examples
+mod SettingExamples
 -- What ties demand 3 to the code.
 pub mod StepTies

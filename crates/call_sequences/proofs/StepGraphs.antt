@@ -3,6 +3,7 @@
 -- them holds what they make of the graph: `steps-arena`. Assumes nothing.
 use mathlib.Core.Path.{_≡_, refl, sym, ap, subst, _∙_}
 use mathlib.Core.Bool.{Bool, true, false, cond}
+use mathlib.Core.Option.{Option, none, some}
 use mathlib.Core.List.{List, [], _∷_}
 use Prim.Native.Nat.{ℕ, zero, suc}
 use native.Mathlib.Omega.{arith}
@@ -25,7 +26,7 @@ use Rattle.call_sequences.proofs.AddingKeeps.{DepthFits}
 use Rattle.call_sequences.proofs.ReadingKeeps.{reading-encodable}
 use Rattle.call_sequences.proofs.KeepEncodable.{CallFits, Arena, ArenaOf, encoded-arena, call-arena}
 use Rattle.call_sequences.specs.Demand3 as bytes
-use Rattle.call_sequences.specs.Demand3.{Slice, DescFits, Write, starting, adding, ordering, culling, erasing, deepening, reading, step, steps}
+use Rattle.call_sequences.specs.Demand3.{U16, numberIn, Slice, DescFits, Write, starting, adding, ordering, culling, erasing, deepening, reading, marking, settingFirstSpec, settingHasSpecs, settingRestriction, step, steps}
 
 abbrev pub callOf : Write → Call
 callOf (starting stack layer path) = calls.starting (stack .number) (layer .number) (path .bytes)
@@ -35,6 +36,10 @@ callOf culling = calls.culls
 callOf (erasing set) = calls.erasing (set .bytes)
 callOf (deepening child) = calls.deepening (child .bytes)
 callOf (reading snapshot) = calls.reading (snapshot .bytes)
+callOf (marking n flags) = calls.marking (n .number) (flags .number)
+callOf (settingFirstSpec n first) = calls.settingFirstSpec (n .number) (numberIn first)
+callOf (settingHasSpecs n authored) = calls.settingHasSpecs (n .number) authored
+callOf (settingRestriction n depth) = calls.settingRestriction (n .number) (depth .number)
 
 -- question 1 of a second buffer
 abbrev pub isSized : Write → Bool
@@ -45,6 +50,10 @@ isSized culling = true
 isSized (erasing set) = eqb (length (set .bytes)) 1024
 isSized (deepening child) = true
 isSized (reading snapshot) = true
+isSized (marking n flags) = true
+isSized (settingFirstSpec n first) = true
+isSized (settingHasSpecs n authored) = true
+isSized (settingRestriction n depth) = true
 
 abbrev pub graphStep : Write → Graph → Graph
 graphStep c g = cond (isSized c) (call (callOf c) g .graph) g
@@ -74,6 +83,10 @@ desc-fits d fits path = (
     deep (SomeNumber n) h = h
     deep NoNumber h = tt
 
+first-fits : (first : Option U16) → DepthFits (numberIn first)
+first-fits none = tt
+first-fits (some n) = n .small
+
 pub call-fits : (c : Write) → CallFits (callOf c)
 call-fits (starting stack layer path) = (stack .small, layer .small, path .each)
 call-fits (adding desc fits path) = desc-fits desc fits path
@@ -82,6 +95,10 @@ call-fits culling = tt
 call-fits (erasing set) = tt
 call-fits (deepening child) = child .each
 call-fits (reading snapshot) = snapshot .each
+call-fits (marking n flags) = tt
+call-fits (settingFirstSpec n first) = first-fits first
+call-fits (settingHasSpecs n authored) = tt
+call-fits (settingRestriction n depth) = depth .small
 
 -- ---- Reading: what was there does not matter
 
@@ -138,6 +155,10 @@ step-arena culling bs a = call-arena calls.culls bs tt a
 step-arena (erasing set) bs a = erase-arena set bs a
 step-arena (deepening child) bs a = call-arena (callOf (deepening child)) bs (call-fits (deepening child)) a
 step-arena (reading snapshot) bs a = read-arena snapshot bs a
+step-arena (marking n flags) bs a = call-arena (callOf (marking n flags)) bs tt a
+step-arena (settingFirstSpec n first) bs a = call-arena (callOf (settingFirstSpec n first)) bs (first-fits first) a
+step-arena (settingHasSpecs n authored) bs a = call-arena (callOf (settingHasSpecs n authored)) bs tt a
+step-arena (settingRestriction n depth) bs a = call-arena (callOf (settingRestriction n depth)) bs (depth .small) a
 
 pub steps-arena : (cs : List Write) (bs : List ℕ) → Arena bs → ArenaOf (graphSteps cs (decode bs)) (steps cs bs)
 steps-arena [] bs a = record { arena = a; graph = refl }

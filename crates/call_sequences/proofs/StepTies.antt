@@ -1,21 +1,23 @@
 -- What ties demand 3 to the code: a call's contract leaves the arena that its step in
 -- specs/Demand3.antt does. Each law takes the contract as the source has it: crates/nodes's
--- `init_root` and `add_child`, crates/ordering's `finalize_strength_order`, crates/culling's
--- `cull_subtrees_without_opinions`, crates/erasing's `erase`, crates/deepening's
+-- `init_root`, `add_child` and the calls that set, crates/ordering's `finalize_strength_order`,
+-- crates/culling's `cull_subtrees_without_opinions`, crates/erasing's `erase`, crates/deepening's
 -- `append_child_name_to_all_sites` and `seed_child`, crates/snapshot's `read_snapshot`. Where the
 -- code reads or seeds and is not refused, a list may begin; and the set that demand 3 erases is the
 -- one that crates/erasing's `erasable` writes. Assumes nothing.
 use mathlib.Core.Path.{_≡_, sym, ap, _∙_}
+use mathlib.Core.Bool.{Bool}
 use mathlib.Core.List.{List}
 use Prim.Native.Nat.{ℕ, _<_}
 use lib.ListN.{length}
 use borrow.Author.Tests.{eq-eqb, lt-ltb}
 use Rattle.model.specs.Graph.{emptyGraph, size}
 use Rattle.model.specs.Refusals.{refusal}
-use Rattle.model.specs.Calls.{initRoot, addChild, readInto}
+use Rattle.model.specs.Calls.{initRoot, addChild, readInto, mark, setFirstSpec, setHasSpecs, setRestrictionDepth}
 use Rattle.model.specs.Arena.{arenaBytes, decode}
-use Rattle.model.specs.Answers.{unitRefusal, numberRefusal}
-use Rattle.model.specs.ArenaCalls.{ValidArena, onArena, intoArena, Wrote}
+use Rattle.model.specs.Answers.{numberOption, unitRefusal, numberRefusal}
+use Rattle.model.specs.ArenaCalls.{ValidArena, onArena, intoArena, Wrote, Finishes}
+use Rattle.model.specs.declared.U16Option.{U16Option}
 use Rattle.model.specs.declared.UnitResult.{UnitResult}
 use Rattle.model.specs.declared.NumberResult.{NumberResult}
 use Rattle.nodes.specs.Describing.{descOf}
@@ -25,7 +27,7 @@ use Rattle.culling.specs.CullCalls.{Culled}
 use Rattle.erasing.specs.Erasures.{setQuestions, ErasableWritten, eraseIn, Erased}
 use Rattle.deepening.specs.ChildNames.{Deepened, Seeded}
 use Rattle.call_sequences.specs.Demand3.{Slice, Write, steps, Lent, Start, read, seeded, erasingAll}
-use Rattle.call_sequences.specs.Steps.{Starts, Adds, Orders, Culls, Erases, Deepens, Reads, Seeds}
+use Rattle.call_sequences.specs.Steps.{Starts, Adds, Orders, Culls, Erases, Deepens, Reads, Marks, SetsFirstSpec, SetsHasSpecs, SetsRestriction, Seeds}
 
 pub init-root-starts : (stack layer : ℕ) (path before : List ℕ) (r : NumberResult) (after : List ℕ)
     → Wrote (onArena (initRoot stack layer path) before) before r after → Starts stack layer path before after
@@ -50,6 +52,22 @@ append-deepens child before r after deepened = λ c e. rw e (deepened .arena)
 pub read-snapshot-reads : (snapshot before : List ℕ) (r : NumberResult) (after : List ℕ)
     → Wrote (intoArena (readInto snapshot emptyGraph) before) before r after → Reads snapshot before after
 read-snapshot-reads snapshot before r after wrote = λ s e. rw e (wrote .arena)
+
+pub mark-marks : (n flags : ℕ) (before : List ℕ) (r : UnitResult) (after : List ℕ)
+    → Finishes (onArena (mark n flags) before) before r after → Marks n flags before after
+mark-marks n flags before r after finishes = λ m f d e. rw (d, e) (finishes .arena)
+
+pub set-first-spec-sets : (n : ℕ) (first : U16Option) (before : List ℕ) (r : UnitResult) (after : List ℕ)
+    → Finishes (onArena (setFirstSpec n (numberOption first)) before) before r after → SetsFirstSpec n first before after
+set-first-spec-sets n first before r after finishes = λ m f d e. rw (d, e) (finishes .arena)
+
+pub set-has-specs-sets : (n : ℕ) (authored : Bool) (before : List ℕ) (r : UnitResult) (after : List ℕ)
+    → Finishes (onArena (setHasSpecs n authored) before) before r after → SetsHasSpecs n authored before after
+set-has-specs-sets n authored before r after finishes = λ m d. rw d (finishes .arena)
+
+pub set-restriction-sets : (n depth : ℕ) (before : List ℕ) (r : UnitResult) (after : List ℕ)
+    → Finishes (onArena (setRestrictionDepth n depth) before) before r after → SetsRestriction n depth before after
+set-restriction-sets n depth before r after finishes = λ m k d e. rw (d, e) (finishes .arena)
 
 pub seed-child-seeds : (child from before : List ℕ) (r : UnitResult) (after : List ℕ) → Seeded child from before r after → Seeds child from before r after
 seed-child-seeds child from before r after finishes = λ c e. rw e finishes

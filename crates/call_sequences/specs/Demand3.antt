@@ -4,14 +4,15 @@
 -- contract cites (crates/call_sequences); what an arena holds is `decode`. The theorem is `demand3`
 -- in proofs/Demand3Proof.antt.
 use mathlib.Core.Path.{_≡_}
-use mathlib.Core.Bool.{true}
+use mathlib.Core.Bool.{Bool, true}
+use mathlib.Core.Option.{Option, none, some}
 use mathlib.Core.List.{List, [], _∷_}
 use Prim.Native.Nat.{ℕ, _<_}
 use lib.ListN.{length}
 use Rattle.model.specs.Lists.{All}
 use Rattle.model.specs.Graph.{emptyGraph, size}
 use Rattle.model.specs.Erasing.{erasable}
-use Rattle.model.specs.Calls.{Outcome, initRoot, addChild, finalizeStrengthOrder, cull, appendChildName, readInto}
+use Rattle.model.specs.Calls.{Outcome, initRoot, addChild, finalizeStrengthOrder, cull, appendChildName, readInto, mark, setFirstSpec, setHasSpecs, setRestrictionDepth}
 use Rattle.model.specs.Arena.{arenaBytes, countIn, decode, holdsGraph}
 use Rattle.model.specs.ArenaCalls.{ValidArena, onArena, intoArena, arenaAfter}
 use Rattle.model.specs.declared.NodeOption.{NodeOption}
@@ -30,8 +31,19 @@ pub record Below (m : ℕ) : Type 0 where
   pub number : ℕ
   pub small : number < m
 
+abbrev pub U8 : Type 0
+U8 = Below 256
+
+abbrev pub U16 : Type 0
+U16 = Below 65536
+
 abbrev pub U32 : Type 0
 U32 = Below 4294967296
+
+-- a number that may be missing
+abbrev pub numberIn : Option U16 → Option ℕ
+numberIn none = none
+numberIn (some n) = some (n .number)
 
 pub record Slice : Type 0 where
   pub bytes : List ℕ
@@ -61,6 +73,8 @@ pub record DescFits (d : NodeDesc) : Type 0 where
 
 -- ---- "The calls that write a graph (starting, adding, ordering, culling, erasing, deepening, reading a snapshot)"
 
+-- "new calls that write the room join the list" (document 01): those that set fields of a node
+
 pub data Write : Type 0 where
   starting : (stack layer : U32) (path : Slice) → Write
   adding : (desc : NodeDesc) → DescFits desc → (path : Slice) → Write
@@ -69,6 +83,10 @@ pub data Write : Type 0 where
   erasing : (set : Slice) → Write
   deepening : (child : Slice) → Write
   reading : (snapshot : Slice) → Write
+  marking : (n : U32) (flags : U8) → Write
+  settingFirstSpec : (n : U32) (first : Option U16) → Write
+  settingHasSpecs : (n : U32) (authored : Bool) → Write
+  settingRestriction : (n : U32) (depth : U16) → Write
 
 -- what a call comes to on an arena: refusal, value and graph
 abbrev pub outcome : Write → List ℕ → Outcome
@@ -79,6 +97,10 @@ outcome culling bs = onArena cull bs
 outcome (erasing set) bs = eraseIn (set .bytes) bs
 outcome (deepening child) bs = onArena (appendChildName (child .bytes)) bs
 outcome (reading snapshot) bs = intoArena (readInto (snapshot .bytes) emptyGraph) bs
+outcome (marking n flags) bs = onArena (mark (n .number) (flags .number)) bs
+outcome (settingFirstSpec n first) bs = onArena (setFirstSpec (n .number) (numberIn first)) bs
+outcome (settingHasSpecs n authored) bs = onArena (setHasSpecs (n .number) authored) bs
+outcome (settingRestriction n depth) bs = onArena (setRestrictionDepth (n .number) (depth .number)) bs
 
 -- the arena after a call, refused ones included, and after a list: "Each call, with any arguments,
 -- gets the room as the last left it"

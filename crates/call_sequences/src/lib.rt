@@ -4,9 +4,11 @@
 // list (specs/Steps.antt).
 
 use model::NumberResult;
+use model::U16Option;
 use model::UnitResult;
 use nodes::NodeDesc;
 ghost use Rattle.call_sequences.specs.Steps.{Starts, Adds, Orders, Culls, Erases, Deepens, Reads, Seeds};
+ghost use Rattle.call_sequences.specs.Steps.{Marks, SetsFirstSpec, SetsHasSpecs, SetsRestriction};
 
 // The call `starting`.
 pub fn start(arena: &mut [u8], stack: u32, layer: u32, path: &[u8]) -> NumberResult
@@ -55,6 +57,34 @@ pub fn read(arena: &mut [u8], snapshot: &[u8]) -> NumberResult
     ensures { λ _. ⌜ Reads (now (snapshot .entry)) (now (arena .entry)) (now (arena .exit)) ⌝ }
 {
     prim_graph::read_snapshot(arena, snapshot)
+}
+
+// The call `marking`.
+pub fn mark(arena: &mut [u8], n: u32, flags: u8) -> UnitResult
+    ensures { λ _. ⌜ Marks n flags (now (arena .entry)) (now (arena .exit)) ⌝ }
+{
+    prim_graph::mark(arena, n, flags)
+}
+
+// The call `settingFirstSpec`.
+pub fn set_first_spec(arena: &mut [u8], n: u32, first: U16Option) -> UnitResult
+    ensures { λ _. ⌜ SetsFirstSpec n first (now (arena .entry)) (now (arena .exit)) ⌝ }
+{
+    prim_graph::set_first_spec(arena, n, first)
+}
+
+// The call `settingHasSpecs`.
+pub fn set_has_specs(arena: &mut [u8], n: u32, authored: bool) -> UnitResult
+    ensures { λ _. ⌜ SetsHasSpecs n authored (now (arena .entry)) (now (arena .exit)) ⌝ }
+{
+    prim_graph::set_has_specs(arena, n, authored)
+}
+
+// The call `settingRestriction`.
+pub fn set_restriction_depth(arena: &mut [u8], n: u32, depth: u16) -> UnitResult
+    ensures { λ _. ⌜ SetsRestriction n depth (now (arena .entry)) (now (arena .exit)) ⌝ }
+{
+    prim_graph::set_restriction_depth(arena, n, depth)
 }
 
 // Seeding, which fills a second arena: where it is done, that one is where a list may begin.
