@@ -1,10 +1,11 @@
--- Ten calls, two of them refused, run by computation at the graph; and of every arena without a
--- node that is not marked shallow, that it holds this graph after them (`ten-arena`). It is
+-- Sixteen calls, three of them refused, run by computation at the graph; and of every arena without a
+-- node that is not marked shallow, that it holds this graph after them (`sample-arena`). It is
 -- ordered, finalized and has a node to erase, so every clause of demand 3 says something of it. An
--- arena that its snapshot is read into and one that is seeded from it are starts (`ten-read`,
--- `ten-seeded`). Assumes nothing.
+-- arena that its snapshot is read into and one that is seeded from it are starts (`sample-read`,
+-- `sample-seeded`). Assumes nothing.
 use mathlib.Core.Path.{_≡_, refl, sym, ap, subst, _∙_}
 use mathlib.Core.Bool.{Bool, true, false}
+use mathlib.Core.Option.{none, some}
 use mathlib.Core.List.{List, [], _∷_, map}
 use Prim.Native.Nat.{ℕ, _<_}
 use native.Mathlib.Omega.{arith}
@@ -13,7 +14,7 @@ use lib.ListN.{replicate}
 use borrow.Author.Tests.{ltb-true}
 use Rattle.model.specs.Lists.{every, filter}
 use Rattle.model.specs.Path.{isNameStart, isWordByte, wellFormed, primCount, beforeName, nameStart, lastName, endsInName, separator, appendName, pathAtIntroDepth}
-use Rattle.model.specs.Graph.{Graph, emptyGraph, size, withNode, depthBelowIntroduction, pathAtIntroduction, isLocalRoot, inLocalStack}
+use Rattle.model.specs.Graph.{Graph, emptyGraph, size, nodeAt, withNode, depthBelowIntroduction, pathAtIntroduction, isLocalRoot, inLocalStack}
 use Rattle.model.specs.Strength.{smaller, plainLines, siblingLines, nodesBy, compareSiblingNodeStrength}
 use Rattle.model.specs.Order.{isStronger, hasOrder}
 use Rattle.model.specs.Order as order
@@ -21,20 +22,21 @@ use Rattle.model.specs.Culling.{keepsInherit, canCull, cullSubtreesWithoutOpini
 use Rattle.model.specs.Erasing.{stays, canErase, erasable, newNumber}
 use Rattle.model.specs.Deepening.{deepen}
 use Rattle.model.specs.Snapshot.{writeSnapshot, readSnapshot}
-use Rattle.model.specs.Calls.{Outcome, initRoot, addChild, finalizeStrengthOrder, cull, eraseSet, appendChildName, seedChild, readInto}
+use Rattle.model.specs.Calls.{Outcome, initRoot, addChild, finalizeStrengthOrder, cull, eraseSet, appendChildName, seedChild, readInto, mark, setFirstSpec, setHasSpecs, setRestrictionDepth}
+use Rattle.model.specs.Setting.{withRecord}
 use Rattle.model.specs.Arena.{countIn, decode, holdsGraph}
 use Rattle.model.specs.ArenaCalls.{arenaAfter}
 use Rattle.model.proofs.Text.{bytes}
 use Rattle.laws.specs.Demand3Clauses.{Deepened}
-use Rattle.laws.proofs.SnapshotLaws.{written-bytes}
+use Rattle.laws.proofs.SnapshotLaws.{writsample-bytes}
 use Rattle.laws.proofs.ListLaws.{all-imp, every-all}
 use Rattle.model.specs.declared.NodeOption.{NodeOption}
 use Rattle.model.specs.declared.NodeOption.the-variants.{Some as SomeNode, None as NoNode}
 use Rattle.model.specs.declared.U16Option.{U16Option}
 use Rattle.model.specs.declared.U16Option.the-variants.{Some as SomeNumber, None as NoNumber}
-use Rattle.snapshot.proofs.ReadBack.{written-reads-back}
+use Rattle.snapshot.proofs.ReadBack.{writsample-reads-back}
 use Rattle.call_sequences.proofs.KeepEncodable.{Arena, arena-encodable, ArenaOf}
-use Rattle.call_sequences.specs.Demand3.{Slice, NodeFits, DepthFits, Write, starting, adding, ordering, culling, erasing, deepening, reading, step, steps, Lent, seeding, Start, empty, read, seeded, rest, Demand3}
+use Rattle.call_sequences.specs.Demand3.{Below, Slice, NodeFits, DepthFits, Write, starting, adding, ordering, culling, erasing, deepening, reading, marking, settingFirstSpec, settingHasSpecs, settingRestriction, step, steps, Lent, seeding, Start, empty, read, seeded, rest, Demand3}
 use Rattle.call_sequences.proofs.StepGraphs.{graphSteps, into-whole, steps-arena}
 use Rattle.call_sequences.proofs.ReachedArenas.{no-node, seed-whole}
 use Rattle.call_sequences.proofs.Demand3Proof.{demand3}
@@ -46,6 +48,9 @@ slice bs e = record {
   bytes = bs;
   each = all-imp (λ b. ltb b 256 ≡ true) (λ b. b < 256) bs (λ b. ltb-true b 256) (every-all (λ b. ltb b 256) bs .0 e);
 }
+
+abbrev number : {m : ℕ} (n : ℕ) → ltb n m ≡ true → Below m
+number {m} n e = record { number = n; small = ltb-true n m e }
 
 -- a node of stack 0 without flags, with its parent for origin
 abbrev add : (parent : NodeOption) (arc hasSpecs : ℕ) (depth : U16Option) → NodeFits parent × (arc < 256) × (hasSpecs < 256) × DepthFits depth
@@ -81,11 +86,11 @@ abbrev local : NodeOption
 local = SomeNode (record { 0 = 1 })
 
 -- Nodes 0 and 1 `/M/a`; under 1 the References 2 and 3, of which 2 has no specs, and the Inherit 4.
--- Culling marks 2. An erase set with node 1, the parent of the others, is refused 11, and bytes
--- that are no snapshot 12.
-unfoldable ten : List Write
-ten =
-    starting (record { number = 0; small = omega arith }) (record { number = 0; small = omega arith }) (slice (bytes "/M/a") refl)
+-- Culling marks 2. An erase set with node 1, the parent of the others, is refused 11, bytes that are
+-- no snapshot 12, and CULLED on the local root 6.
+unfoldable sample : List Write
+sample =
+    starting (number 0 refl) (number 0 refl) (slice (bytes "/M/a") refl)
     ∷ add NoNode 0 1 NoNumber (tt, omega arith, omega arith, tt) (slice (bytes "/M/a") refl)
     ∷ add local 4 0 (SomeNumber 1) (omega arith, omega arith, omega arith, omega arith) (slice (bytes "/R/a") refl)
     ∷ add local 4 1 (SomeNumber 1) (omega arith, omega arith, omega arith, omega arith) (slice (bytes "/Q/a") refl)
@@ -95,38 +100,51 @@ ten =
     ∷ erasing (slice (0 ∷ 1 ∷ replicate 1022 0) refl)
     ∷ deepening (slice (bytes "/b") refl)
     ∷ reading (slice (bytes "no snapshot") refl)
+    ∷ marking (number 3 refl) (number 5 refl)
+    ∷ marking (number 1 refl) (number 2 refl)
+    ∷ settingFirstSpec (number 4 refl) (some (number 2 refl))
+    ∷ settingFirstSpec (number 2 refl) none
+    ∷ settingHasSpecs (number 3 refl) true
+    ∷ settingRestriction (number 1 refl) (number 1 refl)
     ∷ []
 
 -- ---- The graph, by computation
 
-record TenCalls (g : Graph) : Type 0 where
+record SampleCalls (g : Graph) : Type 0 where
   pub some-node : 0 < size g
   pub ordered : g .ordered ≡ true
   pub finalized : g .finalized ≡ true
   pub order : g .order ≡ 0 ∷ 1 ∷ 4 ∷ 2 ∷ 3 ∷ []
   pub one-goes : (stays (erasable g) 1 ≡ true) × (stays (erasable g) 2 ≡ false) × (stays (erasable g) 3 ≡ true) × (stays (erasable g) 4 ≡ true)
   pub order-left : map (newNumber (stays (erasable g))) (filter (stays (erasable g)) (g .order)) ≡ 0 ∷ 1 ∷ 3 ∷ 2 ∷ []
+  -- what was set
+  pub flags-set : (nodeAt (g .nodes) 3 .flags ≡ 5) × (nodeAt (g .nodes) 1 .flags ≡ 0)
+  pub specs-set : (nodeAt (g .nodes) 4 .specFrom ≡ 2) × (nodeAt (g .nodes) 4 .hasSpecs ≡ 1) × (nodeAt (g .nodes) 2 .hasSpecs ≡ 0)
+  pub restriction-set : nodeAt (g .nodes) 1 .restriction ≡ 1
 
 -- no node, and not shallow
 abbrev bare : Bool → Bool → Graph
 bare ordered finalized = record { nodes = []; children = []; order = []; ordered = ordered; finalized = finalized; shallow = false }
 
-ten-graph : (ordered finalized : Bool) → TenCalls (graphSteps ten (bare ordered finalized))
-unfolding ten initRoot addChild finalizeStrengthOrder cull eraseSet canErase appendChildName readInto readSnapshot withNode wellFormed primCount isNameStart isWordByte
+sample-graph : (ordered finalized : Bool) → SampleCalls (graphSteps sample (bare ordered finalized))
+unfolding sample initRoot addChild finalizeStrengthOrder cull mark setFirstSpec setHasSpecs setRestrictionDepth eraseSet canErase appendChildName readInto readSnapshot withNode withRecord wellFormed primCount isNameStart isWordByte
     beforeName nameStart lastName endsInName separator appendName pathAtIntroDepth depthBelowIntroduction pathAtIntroduction isLocalRoot
     inLocalStack smaller plainLines siblingLines nodesBy compareSiblingNodeStrength hasOrder order.ordering isStronger keepsInherit canCull
     cullSubtreesWithoutOpinions isMarked isErasable erasable deepen
-ten-graph ordered finalized = record {
+sample-graph ordered finalized = record {
   some-node = omega arith;
   ordered = refl;
   finalized = refl;
   order = refl;
   one-goes = (refl, refl, refl, refl);
   order-left = refl;
+  flags-set = (refl, refl);
+  specs-set = (refl, refl, refl);
+  restriction-set = refl;
 }
 
-seed-accepted : (ordered finalized : Bool) → seedChild (bytes "/c") (graphSteps ten (bare ordered finalized)) emptyGraph .refused ≡ 0
-unfolding ten initRoot addChild finalizeStrengthOrder cull eraseSet canErase appendChildName seedChild readInto readSnapshot withNode wellFormed primCount isNameStart
+seed-accepted : (ordered finalized : Bool) → seedChild (bytes "/c") (graphSteps sample (bare ordered finalized)) emptyGraph .refused ≡ 0
+unfolding sample initRoot addChild finalizeStrengthOrder cull mark setFirstSpec setHasSpecs setRestrictionDepth eraseSet canErase appendChildName seedChild readInto readSnapshot withNode withRecord wellFormed primCount isNameStart
     isWordByte beforeName nameStart lastName endsInName separator appendName pathAtIntroDepth depthBelowIntroduction pathAtIntroduction
     isLocalRoot inLocalStack smaller plainLines siblingLines nodesBy compareSiblingNodeStrength hasOrder order.ordering isStronger keepsInherit
     canCull cullSubtreesWithoutOpinions deepen
@@ -135,7 +153,7 @@ seed-accepted ordered finalized = refl
 -- ---- The arena after them, and demand 3 of it
 
 -- from an empty arena that is not marked shallow; the other marks go where node 0 is made
-module _ (bs : List ℕ) (lent : Lent bs) (holds : holdsGraph bs ≡ true) (none : countIn bs ≡ 0) (deep : decode bs .shallow ≡ false) where
+module _ (bs : List ℕ) (lent : Lent bs) (holds : holdsGraph bs ≡ true) (no-nodes : countIn bs ≡ 0) (deep : decode bs .shallow ≡ false) where
   arena : Arena bs
   arena = record { bytes = lent .bytes; opened = record { whole = lent .whole; holds = holds } }
 
@@ -144,7 +162,7 @@ module _ (bs : List ℕ) (lent : Lent bs) (holds : holdsGraph bs ≡ true) (none
 
   start-bare : decode bs ≡ start
   start-bare =
-      let held = no-node bs arena none in
+      let held = no-node bs arena no-nodes in
       λ i. record {
         nodes = held .no-nodes i;
         children = held .no-children i;
@@ -154,43 +172,43 @@ module _ (bs : List ℕ) (lent : Lent bs) (holds : holdsGraph bs ≡ true) (none
         shallow = deep i;
       }
 
-  after : ArenaOf (graphSteps ten start) (steps ten bs)
-  after = subst (λ (g : Graph). ArenaOf (graphSteps ten g) (steps ten bs)) start-bare (steps-arena ten bs arena)
+  after : ArenaOf (graphSteps sample start) (steps sample bs)
+  after = subst (λ (g : Graph). ArenaOf (graphSteps sample g) (steps sample bs)) start-bare (steps-arena sample bs arena)
 
-  ten-arena : TenCalls (decode (steps ten bs))
-  ten-arena = subst TenCalls (sym (after .graph)) (ten-graph (decode bs .ordered) (decode bs .finalized))
+  sample-arena : SampleCalls (decode (steps sample bs))
+  sample-arena = subst SampleCalls (sym (after .graph)) (sample-graph (decode bs .ordered) (decode bs .finalized))
 
-  ten-demand : Demand3 (steps ten bs)
-  ten-demand = demand3 bs (empty lent holds none) ten
+  sample-demand : Demand3 (steps sample bs)
+  sample-demand = demand3 bs (empty lent holds no-nodes) sample
 
   -- the list without node 2, the rest renumbered
-  ten-erased : decode (rest (steps ten bs)) .order ≡ 0 ∷ 1 ∷ 3 ∷ 2 ∷ []
-  ten-erased = ten-demand .erased (ten-arena .some-node) .list-stands (ten-arena .ordered) .1 ∙ ten-arena .order-left
+  sample-erased : decode (rest (steps sample bs)) .order ≡ 0 ∷ 1 ∷ 3 ∷ 2 ∷ []
+  sample-erased = sample-demand .erased (sample-arena .some-node) .list-stands (sample-arena .ordered) .1 ∙ sample-arena .order-left
 
-  ten-deepened : (child : Slice) → Deepened (decode (steps ten bs)) (decode (step (deepening child) (steps ten bs)))
-  ten-deepened = ten-demand .deepened (ten-arena .finalized)
+  sample-deepened : (child : Slice) → Deepened (decode (steps sample bs)) (decode (step (deepening child) (steps sample bs)))
+  sample-deepened = sample-demand .deepened (sample-arena .finalized)
 
   -- ---- The other starts, in an arena of any content
 
   module _ (into : List ℕ) (room : Lent into) where
     abbrev snapshot : Slice
     snapshot = record {
-      bytes = writeSnapshot (decode (steps ten bs));
-      each = written-bytes (decode (steps ten bs)) (arena-encodable (steps ten bs) (after .arena) .fit);
+      bytes = writeSnapshot (decode (steps sample bs));
+      each = writsample-bytes (decode (steps sample bs)) (arena-encodable (steps sample bs) (after .arena) .fit);
     }
 
-    ten-read : Start (step (reading snapshot) into)
-    ten-read =
+    sample-read : Start (step (reading snapshot) into)
+    sample-read =
         let opened = after .arena .opened in
         read snapshot into room
         (ap (λ (o : Outcome). o .refused) (into-whole (readInto (snapshot .bytes) emptyGraph) into (room .whole))
-        ∙ written-reads-back (steps ten bs) (after .arena .bytes) (opened .whole) (opened .holds) .accepted) refl
+        ∙ writsample-reads-back (steps sample bs) (after .arena .bytes) (opened .whole) (opened .holds) .accepted) refl
 
     abbrev child : Slice
     child = slice (bytes "/c") refl
 
-    ten-seeded : Start (arenaAfter (seeding child (steps ten bs) into) into)
-    ten-seeded =
-        seeded bs ten child into (empty lent holds none) room
-        (ap (λ (o : Outcome). o .refused) (seed-whole child (steps ten bs) into (after .arena .opened) (room .whole))
+    sample-seeded : Start (arenaAfter (seeding child (steps sample bs) into) into)
+    sample-seeded =
+        seeded bs sample child into (empty lent holds no-nodes) room
+        (ap (λ (o : Outcome). o .refused) (seed-whole child (steps sample bs) into (after .arena .opened) (room .whole))
         ∙ ap (λ (g : Graph). seedChild (bytes "/c") g emptyGraph .refused) (after .graph) ∙ seed-accepted (decode bs .ordered) (decode bs .finalized)) refl

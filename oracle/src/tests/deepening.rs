@@ -1,4 +1,4 @@
-//! Deepening and seeding: an example for each rule, each refusal and each limit; and the ten calls on which demand 3 is
+//! Deepening and seeding: an example for each rule, each refusal and each limit; and the sixteen calls on which demand 3 is
 //! computed.
 
 use super::check;
@@ -302,9 +302,10 @@ fn seeding_from_what_was_erased_from() {
     ));
 }
 
-/// The ten calls of `crates/call_sequences/proofs/Demand3Examples.antt`: the graph is ordered, finalized and has a node to erase.
+/// The sixteen calls of `crates/call_sequences/proofs/Demand3Examples.antt`: the graph is ordered, finalized and has a
+/// node to erase.
 #[test]
-fn the_ten_calls_of_demand_3() {
+fn the_sixteen_calls_of_demand_3() {
     check(&format!(
         "{CELL}
         order => ok
@@ -312,11 +313,17 @@ fn the_ten_calls_of_demand_3() {
         erase 01 => refused 11
         deepen /b => ok
         read 6e6f20736e617073686f74 => refused 12
+        mark 3 5 => ok
+        mark 1 2 => refused 6
+        spec 4 2 => ok
+        spec 2 - => ok
+        specs 3 1 => ok
+        restrict 1 1 => ok
         marks => 1 1 0
         list => 0 1 4 2 3
         chains => 1;4,2,3;;;
-        dump => 0,1,0,0,-,-,2,0,0,0,1,/M/a/b;0,0,0,0,0,0,2,0,0,0,1,/M/a/b;4,2,0,0,1,1,1,0,0,0,0,/R/a/b;\
-4,0,0,0,1,1,1,0,0,0,1,/Q/a/b;1,0,0,0,1,1,1,0,0,0,1,/C/a/b
+        dump => 0,1,0,0,-,-,2,0,0,0,1,/M/a/b;0,0,0,0,0,0,2,0,1,0,1,/M/a/b;4,2,0,0,1,1,1,0,0,0,0,/R/a/b;\
+4,5,0,0,1,1,1,0,0,0,1,/Q/a/b;1,0,0,0,1,1,1,0,0,2,1,/C/a/b
         compares => ELLLL GELLL GGELG GGGEG GGLLE
         erasable => 00100
         seed /c => ok
