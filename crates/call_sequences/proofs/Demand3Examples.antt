@@ -28,13 +28,13 @@ use Rattle.model.specs.Arena.{countIn, decode, holdsGraph}
 use Rattle.model.specs.ArenaCalls.{arenaAfter}
 use Rattle.model.proofs.Text.{bytes}
 use Rattle.laws.specs.Demand3Clauses.{Deepened}
-use Rattle.laws.proofs.SnapshotLaws.{writsample-bytes}
+use Rattle.laws.proofs.SnapshotLaws.{written-bytes}
 use Rattle.laws.proofs.ListLaws.{all-imp, every-all}
 use Rattle.model.specs.declared.NodeOption.{NodeOption}
 use Rattle.model.specs.declared.NodeOption.the-variants.{Some as SomeNode, None as NoNode}
 use Rattle.model.specs.declared.U16Option.{U16Option}
 use Rattle.model.specs.declared.U16Option.the-variants.{Some as SomeNumber, None as NoNumber}
-use Rattle.snapshot.proofs.ReadBack.{writsample-reads-back}
+use Rattle.snapshot.proofs.ReadBack.{written-reads-back}
 use Rattle.call_sequences.proofs.KeepEncodable.{Arena, arena-encodable, ArenaOf}
 use Rattle.call_sequences.specs.Demand3.{Below, Slice, NodeFits, DepthFits, Write, starting, adding, ordering, culling, erasing, deepening, reading, marking, settingFirstSpec, settingHasSpecs, settingRestriction, step, steps, Lent, seeding, Start, empty, read, seeded, rest, Demand3}
 use Rattle.call_sequences.proofs.StepGraphs.{graphSteps, into-whole, steps-arena}
@@ -194,7 +194,7 @@ module _ (bs : List ℕ) (lent : Lent bs) (holds : holdsGraph bs ≡ true) (no-n
     abbrev snapshot : Slice
     snapshot = record {
       bytes = writeSnapshot (decode (steps sample bs));
-      each = writsample-bytes (decode (steps sample bs)) (arena-encodable (steps sample bs) (after .arena) .fit);
+      each = written-bytes (decode (steps sample bs)) (arena-encodable (steps sample bs) (after .arena) .fit);
     }
 
     sample-read : Start (step (reading snapshot) into)
@@ -202,7 +202,7 @@ module _ (bs : List ℕ) (lent : Lent bs) (holds : holdsGraph bs ≡ true) (no-n
         let opened = after .arena .opened in
         read snapshot into room
         (ap (λ (o : Outcome). o .refused) (into-whole (readInto (snapshot .bytes) emptyGraph) into (room .whole))
-        ∙ writsample-reads-back (steps sample bs) (after .arena .bytes) (opened .whole) (opened .holds) .accepted) refl
+        ∙ written-reads-back (steps sample bs) (after .arena .bytes) (opened .whole) (opened .holds) .accepted) refl
 
     abbrev child : Slice
     child = slice (bytes "/c") refl

@@ -17,6 +17,5 @@ mod StepGraphs
 mod ReachedArenas
 pub mod Demand3Proof
 mod Demand3Examples
-mod SettingExamples
 -- What ties demand 3 to the code.
 pub mod StepTies

@@ -1,7 +1,7 @@
 -- Setting fields of one node leaves a graph encodable where what is set fits its field
 -- (`marking-keeps`, `first-spec-keeps`, `has-specs-keeps`, `restriction-keeps`): flags joined are
 -- still a byte, whatever is given. Assumes nothing.
-use mathlib.Core.Path.{_≡_, refl, sym, _∙_}
+use mathlib.Core.Path.{_≡_, refl}
 use mathlib.Core.Bool.{Bool, true, false, cond}
 use mathlib.Core.Option.{Option, none, some}
 use mathlib.Core.List.{[], _∷_}
@@ -74,7 +74,6 @@ module _ (n : ℕ) (g : Graph) (ok : Encodable g) where
     final = ok .final;
     no-order = ok .no-order;
     each-once = λ e. rw (length-set (g .nodes) n y) (ok .each-once e);
-    empty-unmarked = λ none. ok .empty-unmarked (sym (length-set (g .nodes) n y) ∙ none);
   }
 
   pub marking-keeps : (flags : ℕ) → Keeps g (mark n flags g)

@@ -10,7 +10,9 @@ same-length : tie.Need-same-length
 same-length c = c .before .before .set-first-spec .kept .0
 
 returns : tie.Need-returns
-returns c = set-first-spec-sets _ _ _ _ _ (c .before .before .set-first-spec .ensures)
+returns c =
+    let a = c .before .before .before .before .before .args in
+    set-first-spec-sets (a .n) (a .first) _ _ _ (c .before .before .set-first-spec .ensures)
 
 pub set-first-spec-spec : {M : Type 1} → statement M
 set-first-spec-spec = tie.close (tie.spec set-first-spec-requires same-length returns)
