@@ -99,7 +99,11 @@ fn specs_line(line: &[u8], arena: &mut [u8], out: &mut [u8], used: usize) -> usi
     if 1 < authored {
         return bad_line(out, used);
     }
-    put_finished(out, used, prim_graph::set_has_specs(arena, n, authored == 1))
+    put_finished(
+        out,
+        used,
+        prim_graph::set_has_specs(arena, n, authored == 1),
+    )
 }
 
 // `restrict N DEPTH`: the restriction depth.
@@ -108,5 +112,9 @@ fn restrict_line(line: &[u8], arena: &mut [u8], out: &mut [u8], used: usize) -> 
     let Setting::Of(n, depth) = setting else {
         return bad_line(out, used);
     };
-    put_finished(out, used, prim_graph::set_restriction_depth(arena, n, depth))
+    put_finished(
+        out,
+        used,
+        prim_graph::set_restriction_depth(arena, n, depth),
+    )
 }

@@ -62,7 +62,10 @@ pub fn path_at_introduction(arena: &[u8], n: u32, buffer: &mut [u8]) -> NumberRe
     match asked {
         UnitResult::Done => {
             let depth = view::depth_below(arena, n);
-            put(path::path_at_intro_depth(arena::path(arena, n), depth), buffer)
+            put(
+                path::path_at_intro_depth(arena::path(arena, n), depth),
+                buffer,
+            )
         }
         UnitResult::Refused(refusal) => NumberResult::Refused(refusal),
     }
@@ -83,7 +86,10 @@ pub fn intro_path(arena: &[u8], n: u32, buffer: &mut [u8]) -> NumberResult
             }
             let depth = view::depth_below(arena, n);
             let parent = view::parent(arena, n);
-            put(path::path_at_intro_depth(arena::path(arena, parent), depth), buffer)
+            put(
+                path::path_at_intro_depth(arena::path(arena, parent), depth),
+                buffer,
+            )
         }
         UnitResult::Refused(refusal) => NumberResult::Refused(refusal),
     }

@@ -1,7 +1,8 @@
 -- `bench_graph_info` meets its contract, case by case. Assumes nothing.
 use borrow.Author.Needs.{needs}
 use mathlib.Core.Path.{sym, ap, _∙_}
-use Rattle.nodes.specs.Queries.{graphReadRefusal}
+use Rattle.model.specs.Answers.{nodeNumber}
+use Rattle.nodes.specs.Queries.{graphReadRefusal, graphReadValue}
 use Rattle.bench_api.proofs.ReadLaws.{accepted-number, refused-number}
 use Rattle.bench_api.proofs.reading.bench_graph_info.Statement.{statement}
 use Rattle.bench_api.proofs.reading.bench_graph_info.Tie as tie
@@ -11,6 +12,9 @@ graph-info-requires c κs = search needs
 
 enum-known-read : tie.Need-enum-known-read
 enum-known-read c = search needs
+
+number-requires : tie.Need-number-requires
+number-requires c κs = search needs
 
 cast-result : tie.Need-cast-result
 cast-result c = search needs
@@ -25,7 +29,8 @@ returns : tie.Need-returns
 returns c =
     let answer = c .before .before .before .before .graph-info .ensures in
     let case = c .before .before .read .given .1 in
-    accepted-number (sym (ap graphReadRefusal case) ∙ answer .refused) (answer .graph _ case .«local-root»)
+    accepted-number (sym (ap graphReadRefusal case) ∙ answer .refused)
+    (c .number .ensures ∙ ap nodeNumber (answer .graph _ (ap graphReadValue case) .«local-root»))
 
 returns-2 : tie.Need-returns-2
 returns-2 c =
@@ -38,6 +43,7 @@ bench-graph-info-spec =
     (tie.spec
     graph-info-requires
     enum-known-read
+    number-requires
     cast-result
     enum-known-read-2
     carry-refusal-requires

@@ -1,7 +1,7 @@
 -- `bench_node` meets its contract, case by case. Assumes nothing.
 use borrow.Author.Needs.{needs}
 use mathlib.Core.Path.{sym, ap, _∙_}
-use Rattle.nodes.specs.Queries.{nodeReadRefusal}
+use Rattle.nodes.specs.Queries.{nodeReadRefusal, nodeReadValue}
 use Rattle.bench_api.proofs.ReadLaws.{accepted-number, refused-number}
 use Rattle.bench_api.proofs.reading.bench_node.Statement.{statement}
 use Rattle.bench_api.proofs.reading.bench_node.Tie as tie
@@ -25,7 +25,7 @@ returns : tie.Need-returns
 returns c =
     let answer = c .before .before .before .before .node .ensures in
     let case = c .before .before .read .given .1 in
-    accepted-number (sym (ap nodeReadRefusal case) ∙ answer .refused) (answer .node _ case .«first-child»)
+    accepted-number (sym (ap nodeReadRefusal case) ∙ answer .refused) (answer .node _ (ap nodeReadValue case) .«first-child»)
 
 returns-2 : tie.Need-returns-2
 returns-2 c =
