@@ -1,7 +1,7 @@
 // C functions for the programs in bench/, and not open to others: each is one call of the library
 // below it, with its answer as a number, which carries refusal and value where the call may be
-// refused (crates/c_api). Those on many pairs put questions 1, 2, 4 and 8 to all of them at once,
-// and not 3; the calls themselves are in crates/prim_graph.
+// refused (crates/c_api). Those on many pairs put the questions of all pairs first, without 3 and so
+// that node 0 has no sibling, itself neither; the calls themselves are in crates/prim_graph.
 mod reading;
 mod setting;
 mod sums;
