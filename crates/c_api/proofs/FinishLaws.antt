@@ -55,7 +55,7 @@ sets-value n questions f g =
 pub mark-value : (n flags : ℕ) (bs : List ℕ) → onArena (mark n flags) bs .value ≡ 0
 unfolding mark
 mark-value n flags =
-    on-arena-no-value (mark n flags) (λ g. sets-value n (ask 6 (mayMark flags (nodeAt (g .nodes) n)) ∷ []) (marked flags) g)
+    on-arena-no-value (mark n flags) (λ g. sets-value n (ask 6 (mayMark flags (nodeAt (g .nodes) n .arc)) ∷ []) (marked flags) g)
 
 pub first-spec-value : (n : ℕ) (first : Option ℕ) (bs : List ℕ) → onArena (setFirstSpec n first) bs .value ≡ 0
 unfolding setFirstSpec

@@ -79,7 +79,7 @@ module _ (n : ℕ) (g : Graph) (ok : Encodable g) where
   pub marking-keeps : (flags : ℕ) → Keeps g (mark n flags g)
   unfolding mark withRecord
   marking-keeps flags =
-      decided-encodable (hasNodeZero g ∷ ask 4 (ltb n (size g)) ∷ ask 6 (mayMark flags x) ∷ []) g 0
+      decided-encodable (hasNodeZero g ∷ ask 4 (ltb n (size g)) ∷ ask 6 (mayMark flags (x .arc)) ∷ []) g 0
       (withRecord g n (marked flags x)) refl (marking-keeps-legal n flags (unordered g) (ok .legal))
       (λ a. set-encodable (marked flags x)
       (numbers-with x (withFlags flags (x .flags)) (x .restriction) (x .specFrom) (x .hasSpecs) (numbers n)

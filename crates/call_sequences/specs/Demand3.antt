@@ -73,8 +73,7 @@ pub record DescFits (d : NodeDesc) : Type 0 where
 
 -- ---- "The calls that write a graph (starting, adding, ordering, culling, erasing, deepening, reading a snapshot)"
 
--- "new calls that write the room join the list" (document 01): those that set fields of a node
-
+-- "new calls that write the room join the list" (document 01): those that set fields of one node
 pub data Write : Type 0 where
   starting : (stack layer : U32) (path : Slice) → Write
   adding : (desc : NodeDesc) → DescFits desc → (path : Slice) → Write

@@ -146,13 +146,13 @@ site-settable g n restriction specFrom hasSpecs legal l small = record {
 pub marking-keeps-legal : (n flags : ℕ) (g : Graph) → Legal g → Legal (mark n flags g .graph)
 unfolding mark
 marking-keeps-legal n flags g =
-    sets-keeps-legal n (ask 6 (mayMark flags (nodeAt (g .nodes) n)) ∷ []) (marked flags) g refl
+    sets-keeps-legal n (ask 6 (mayMark flags (nodeAt (g .nodes) n .arc)) ∷ []) (marked flags) g refl
     (λ a legal. settable legal (ltb-true n (size g) (a 4)) (a 6))
   where
     x : Node
     x = nodeAt (g .nodes) n
 
-    settable : Legal g → n < size g → mayMark flags x ≡ true → Settable g n (marked flags x)
+    settable : Legal g → n < size g → mayMark flags (x .arc) ≡ true → Settable g n (marked flags x)
     settable legal l may = record {
       below = l;
       seen = record {

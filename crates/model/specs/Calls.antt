@@ -125,7 +125,7 @@ sets n questions f g =
     decided (hasNodeZero g ∷ ask 4 (ltb n (size g)) ∷ questions) g 0 (withRecord g n (f (nodeAt (g .nodes) n)))
 
 unfoldable pub mark : ℕ → ℕ → Graph → Outcome
-mark n flags g = sets n (ask 6 (mayMark flags (nodeAt (g .nodes) n)) ∷ []) (marked flags) g
+mark n flags g = sets n (ask 6 (mayMark flags (nodeAt (g .nodes) n .arc)) ∷ []) (marked flags) g
 
 unfoldable pub setFirstSpec : ℕ → Option ℕ → Graph → Outcome
 setFirstSpec n first g = sets n [] (withFirstSpec first) g

@@ -39,10 +39,10 @@ withFlags given flags = withGiven prohibitedChildrenFlag given (withGiven culled
 abbrev pub marked : ℕ → Node → Node
 marked flags x = withSite (withFlags flags (x .flags)) (x .restriction) (x .specFrom) (x .hasSpecs) x
 
--- question 6 of `mark`: only INERT, CULLED and PROHIBITED_CHILDREN may be given, and "CULLED is
--- allowed unless the arc is Root"
-abbrev pub mayMark : ℕ → Node → Bool
-mayMark flags x = ltb flags 8 && not (eqb (x .arc) rootArc && hasFlag culledFlag flags)
+-- question 6 of `mark`, by the flags and the node's arc: only INERT, CULLED and PROHIBITED_CHILDREN
+-- may be given, and "CULLED is allowed unless the arc is Root"
+abbrev pub mayMark : ℕ → ℕ → Bool
+mayMark flags arc = ltb flags 8 && not (eqb arc rootArc && hasFlag culledFlag flags)
 
 -- "the position in the node's stack of the strongest layer that authors a spec at its path, `None`
 -- when no layer does"

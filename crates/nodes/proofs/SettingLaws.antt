@@ -23,7 +23,7 @@ use Rattle.laws.proofs.ArenaCallLaws.{refused-before, asked-on, on-arena-asks, 
 use Rattle.arena.specs.Slot.{arcIn, flagsIn, flagsStored, restrictionStored}
 use Rattle.arena.proofs.ReadNodes.{sizes, node-zero, node-read, fields-read}
 use Rattle.arena.proofs.RecordStores.{encode-flags, encode-restriction, encode-specs}
-use Rattle.nodes.specs.Setting.{mayMarkArc, firstSpecStored}
+use Rattle.nodes.specs.Setting.{firstSpecStored}
 
 -- ---- A call f of the graph that sets node n, with questions of its own
 
@@ -73,7 +73,7 @@ module _ (bs : List ℕ) (n : ℕ) where
 
   module _ (flags : ℕ) where
     abbrev markAsks : List Question
-    markAsks = ask 6 (mayMark flags (nodeAt (decode bs .nodes) n)) ∷ []
+    markAsks = ask 6 (mayMark flags (nodeAt (decode bs .nodes) n .arc)) ∷ []
 
     pub mark-refused-first : (r : Refusal) → refusalNumber r ≡ refusal (askArena bs (readsNode (decode bs) n))
         → Finishes (onArena (mark n flags) bs) bs (Refused r) bs
@@ -86,20 +86,20 @@ module _ (bs : List ℕ) (n : ℕ) where
     flags-read : ValidNode bs n → old .flags ≡ flagsIn bs n
     flags-read valid = ap (λ (x : Node). x .flags) (node-read bs n valid) ∙ fields-read bs n valid .flags
 
-    pub mark-refused : ValidNode bs n → mayMarkArc flags (arcIn bs n) ≡ false
+    pub mark-refused : ValidNode bs n → mayMark flags (arcIn bs n) ≡ false
         → Finishes (onArena (mark n flags) bs) bs (Refused Kind) bs
     unfolding mark
     mark-refused valid e =
         set-refused bs n (mark n flags) markAsks (marked flags) refl valid Kind
-        (rw (ap (mayMarkArc flags) (arc-read valid) ∙ e))
+        (rw (ap (mayMark flags) (arc-read valid) ∙ e))
 
-    pub mark-done : Bytes bs → ValidNode bs n → mayMarkArc flags (arcIn bs n) ≡ true
+    pub mark-done : Bytes bs → ValidNode bs n → mayMark flags (arcIn bs n) ≡ true
         → (joined : ℕ) → joined ≡ withFlags flags (flagsIn bs n) → (after : List ℕ) → after ≡ flagsStored n joined bs
         → Finishes (onArena (mark n flags) bs) bs Done after
     unfolding mark
     mark-done bytes valid may joined e after a =
         set-done bs n (mark n flags) markAsks (marked flags) refl valid after
-        (rw (ap (mayMarkArc flags) (arc-read valid) ∙ may))
+        (rw (ap (mayMark flags) (arc-read valid) ∙ may))
         (a ∙ ap (λ (k : ℕ). flagsStored n k bs) (e ∙ ap (withFlags flags) (sym (flags-read valid)))
         ∙ encode-flags bs bytes (valid .opened) n (here valid) (withFlags flags (old .flags)))
 

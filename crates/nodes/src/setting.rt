@@ -3,7 +3,7 @@
 // refused by the first whose answer is no; then no byte has changed, because everything is read and
 // decided before the one store.
 // The calls and their questions are in model/specs/Calls.antt, what they set in
-// model/specs/Setting.antt; specs/Setting.antt has what the parts decide and store.
+// model/specs/Setting.antt; specs/Setting.antt has what is stored of the specs.
 use model::Refusal;
 use model::U16Option;
 use model::UnitResult;
@@ -12,9 +12,9 @@ ghost use Rattle.model.specs.Answers.{numberOption};
 ghost use Rattle.model.specs.ArenaCalls.{onArena, Finishes};
 ghost use Rattle.model.specs.Calls.{mark, setFirstSpec, setHasSpecs, setRestrictionDepth};
 ghost use Rattle.model.specs.Node.{hasFlag, inertFlag, culledFlag, prohibitedChildrenFlag};
-ghost use Rattle.model.specs.Setting.{withGiven, withFlags};
+ghost use Rattle.model.specs.Setting.{withGiven, withFlags, mayMark};
 ghost use Rattle.arena.specs.Slot.{HasSlot};
-ghost use Rattle.nodes.specs.Setting.{mayMarkArc, firstSpecStored};
+ghost use Rattle.nodes.specs.Setting.{firstSpecStored};
 
 // ---- Flags
 
@@ -71,7 +71,7 @@ fn with_flags(given: u8, flags: u8) -> u8
 // Question 6 of `mark`: only INERT, CULLED and PROHIBITED_CHILDREN are given, and to a node whose
 // arc is Root not CULLED.
 fn may_mark(arc: u8, flags: u8) -> bool
-    ensures { λ r. ⌜ r ≡ mayMarkArc flags arc ⌝ }
+    ensures { λ r. ⌜ r ≡ mayMark flags arc ⌝ }
 {
     if flags > 7 {
         return false;

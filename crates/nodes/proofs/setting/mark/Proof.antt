@@ -3,13 +3,12 @@
 use mathlib.Core.Path.{_≡_, sym, ap, _∙_}
 use borrow.Author.Needs.{needs}
 use borrow.Author.Tests.{not-true, not-false}
-use Rattle.model.specs.Setting.{withFlags}
+use Rattle.model.specs.Setting.{withFlags, mayMark}
 use Rattle.model.specs.ArenaCalls.{ValidNode}
 use Rattle.laws.proofs.BigEndianLaws.{Bytes}
 use Rattle.laws.proofs.StoredLaws.{bytes-by-place}
 use Rattle.arena.specs.Slot.{arcIn}
 use Rattle.arena.proofs.ReadNodes.{readable, has-slot}
-use Rattle.nodes.specs.Setting.{mayMarkArc}
 use Rattle.nodes.proofs.SettingLaws.{mark-refused-first, mark-refused, mark-done}
 use Rattle.nodes.proofs.setting.mark.Statement.{statement}
 use Rattle.nodes.proofs.setting.mark.Tie as tie
@@ -25,10 +24,10 @@ valid c = readable _ _ (sym (rw (c .enum-told .given .1) at (c .before .before .
 -- what `may_mark` said, of the arc in the slot
 may : (c : tie.After-may-mark)
     → let a = c .before .before .before .before .before .before .before .before .args in
-    mayMarkArc (a .flags) (arcIn (a .arena .now) (a .n)) ≡ c .may-mark .result
+    mayMark (a .flags) (arcIn (a .arena .now) (a .n)) ≡ c .may-mark .result
 may c =
     let a = c .before .before .before .before .before .before .before .before .args in
-    sym (c .may-mark .ensures ∙ ap (mayMarkArc (a .flags)) (c .before .arc .ensures))
+    sym (c .may-mark .ensures ∙ ap (mayMark (a .flags)) (c .before .arc .ensures))
 
 ask-node-requires : tie.Need-ask-node-requires
 ask-node-requires c κs = search needs
