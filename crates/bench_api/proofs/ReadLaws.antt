@@ -23,8 +23,7 @@ use Rattle.model.specs.declared.NodeResult.{NodeResult}
 use Rattle.model.specs.declared.NodeResult.the-variants.{Found, Refused}
 use Rattle.model.specs.declared.NumberResult.{NumberResult}
 use Rattle.laws.proofs.ArenaCallLaws.{refusal-some, buffer-passed}
-use Rattle.c_api.specs.Carried.{carried, carriedNumber, carriedAnswer}
-use Rattle.bench_api.specs.Numbers.{carriedNode}
+use Rattle.c_api.specs.Carried.{carried, carriedNumber, carriedNode, carriedAnswer}
 use Rattle.c_api.proofs.FinishLaws.{no-value}
 use Rattle.deepening.specs.ChildNames.{seedFrom}
 

@@ -9,16 +9,13 @@ use lib.Dec.{eqb}
 use lib.ListN.{length}
 use Rattle.model.specs.Lists.{bit}
 use Rattle.model.specs.Bytes.{stored}
-use Rattle.model.specs.Answers.{nodeOption, nodeNumber}
-use Rattle.model.specs.Refusals.{refusalNumber, refusal}
+use Rattle.model.specs.Refusals.{refusal}
 use Rattle.model.specs.Order.{hasOrder}
 use Rattle.model.specs.Erasing.{erasable}
 use Rattle.model.specs.Snapshot.{writeSnapshot}
 use Rattle.model.specs.Arena.{decode, holdsGraph}
 use Rattle.model.specs.ArenaCalls.{isArena}
 use Rattle.model.specs.Calls as calls
-use Rattle.model.specs.declared.NodeResult.{NodeResult}
-use Rattle.model.specs.declared.NodeResult.the-variants.{Found, Refused}
 use Rattle.model.specs.declared.PrimCount.{PrimCount}
 use Rattle.model.specs.declared.PrimCount.the-variants.{Names, Malformed}
 use Rattle.c_api.specs.Carried.{carried, carriedAnswer}
@@ -28,11 +25,6 @@ use Rattle.erasing.specs.Erasures.{setQuestions}
 abbrev pub countNumber : PrimCount → ℕ
 countNumber (Names n) = n
 countNumber Malformed = 65536
-
--- a node that was looked for
-abbrev pub carriedNode : NodeResult → ℕ
-carriedNode (Found node) = nodeNumber (nodeOption node)
-carriedNode (Refused r) = carried (refusalNumber r) 0
 
 abbrev pub graphNumber : List ℕ → ℕ
 graphNumber bs = bit (isArena bs && holdsGraph bs)

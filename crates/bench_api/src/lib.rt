@@ -1,7 +1,7 @@
 // C functions for the programs in bench/, and not open to others: each is one call of the library
 // below it, with its answer as a number, which carries refusal and value where the call may be
-// refused (crates/c_api). Those on many pairs put the questions of all pairs first, without 3 and so
-// that node 0 has no sibling, itself neither; the calls themselves are in crates/prim_graph.
+// refused (crates/c_api). Those on many pairs put their questions to all pairs first; they do not
+// put question 3, and refuse node 0 with itself by 8, which the calls of crates/prim_graph do not.
 mod reading;
 mod setting;
 mod sums;

@@ -1,7 +1,6 @@
 // The calls that only read, beside the comparisons. A number carries the refusal and the answer; of
 // an answer that is more than a number it carries the part that is said there, and of a path its
 // length alone.
-use model::NodeResult;
 use prim_graph::GraphRead;
 use prim_graph::HierarchyRead;
 use prim_graph::NodeRead;
@@ -19,17 +18,6 @@ ghost use Rattle.model.specs.Lists.{bit};
 ghost use Rattle.model.specs.Strength.{view, isPropagatedSpecializes};
 ghost use Rattle.c_api.specs.Carried.{carriedAnswer};
 ghost use Rattle.nodes.specs.Queries.{localRootOption};
-ghost use Rattle.bench_api.specs.Numbers.{carriedNode};
-
-// A node that was looked for: 4,294,967,295 for none.
-fn carry_node(answer: NodeResult) -> u64
-    ensures { λ r. ⌜ r ≡ carriedNode answer ⌝ }
-{
-    match answer {
-        NodeResult::Found(node) => node.number() as u64,
-        NodeResult::Refused(refusal) => c_api::carry_refusal(refusal),
-    }
-}
 
 // `graph_info`: the local root, 4,294,967,295 for none.
 #[no_mangle]
@@ -115,7 +103,7 @@ pub extern "C" fn bench_node_using_site(arena: &[u8], stack: u32, path: &[u8]) -
         (askArena (now (arena .entry)) (usesSite (decode (now (arena .entry))) (now (path .entry))))
         (nodeUsingSite stack (now (path .entry)) (decode (now (arena .entry)))) ⌝ }
 {
-    carry_node(prim_graph::node_using_site(arena, stack, path))
+    c_api::carry_node(prim_graph::node_using_site(arena, stack, path))
 }
 
 // `is_ancestor_of`: 1 for yes and 0 for no.
@@ -151,7 +139,7 @@ pub extern "C" fn bench_get_propagated_specializes_node(arena: &[u8], n: u32) ->
     ensures { λ r. ⌜ r ≡ carriedAnswer (askArena (now (arena .entry)) (readsNode (decode (now (arena .entry))) n))
         (getPropagatedSpecializesNode (decode (now (arena .entry))) n) ⌝ }
 {
-    carry_node(prim_graph::get_propagated_specializes_node(arena, n))
+    c_api::carry_node(prim_graph::get_propagated_specializes_node(arena, n))
 }
 
 // `starting_node_of_class_hierarchy`: the topmost class, 4,294,967,295 for none.

@@ -4,11 +4,13 @@
 use mathlib.Core.Path.{_≡_}
 use mathlib.Core.List.{List}
 use Prim.Native.Nat.{ℕ, _+_, _*_}
-use Rattle.model.specs.Answers.{numberRefusal, numberValue, orderingRefusal, orderingValue, boolRefusal, boolValue, unitRefusal}
-use Rattle.model.specs.Refusals.{Question, refusal}
+use Rattle.model.specs.Answers.{numberRefusal, numberValue, orderingRefusal, orderingValue, boolRefusal, boolValue, unitRefusal, nodeOption, nodeNumber}
+use Rattle.model.specs.Refusals.{refusalNumber, Question, refusal}
 use Rattle.model.specs.Calls.{Outcome}
 use Rattle.model.specs.ArenaCalls.{arenaAfter, valueUnless}
 use Rattle.model.specs.declared.NumberResult.{NumberResult}
+use Rattle.model.specs.declared.NodeResult.{NodeResult}
+use Rattle.model.specs.declared.NodeResult.the-variants.{Found, Refused}
 use Rattle.model.specs.declared.OrderingResult.{OrderingResult}
 use Rattle.model.specs.declared.BoolResult.{BoolResult}
 use Rattle.model.specs.declared.UnitResult.{UnitResult}
@@ -19,6 +21,11 @@ carried number value = number * 4294967296 + value
 
 abbrev pub carriedNumber : NumberResult → ℕ
 carriedNumber r = carried (numberRefusal r) (numberValue r)
+
+-- a node that was looked for
+abbrev pub carriedNode : NodeResult → ℕ
+carriedNode (Found node) = nodeNumber (nodeOption node)
+carriedNode (Refused r) = carried (refusalNumber r) 0
 
 abbrev pub carriedOrder : OrderingResult → ℕ
 carriedOrder r = carried (orderingRefusal r) (orderingValue r)

@@ -1,13 +1,15 @@
 // One number for the answer of a call, for callers in C: its refusal and its value, as
 // specs/Carried.antt says.
 use model::BoolResult;
+use model::NodeResult;
 use model::NumberResult;
 use model::OrderingResult;
 use model::Refusal;
 use model::UnitResult;
 ghost use mathlib.Core.Path.{_≡_};
 ghost use Rattle.model.specs.Refusals.{refusalNumber};
-ghost use Rattle.c_api.specs.Carried.{carried, carriedNumber, carriedOrder, carriedTest, carriedFinish};
+ghost use Rattle.c_api.specs.Carried.{carried, carriedNumber, carriedNode, carriedOrder, carriedTest};
+ghost use Rattle.c_api.specs.Carried.{carriedFinish};
 
 // A refusal, and no value.
 pub fn carry_refusal(refusal: Refusal) -> u64
@@ -23,6 +25,16 @@ pub fn carry_number(answer: NumberResult) -> u64
     match answer {
         NumberResult::Number(n) => n as u64,
         NumberResult::Refused(refusal) => carry_refusal(refusal),
+    }
+}
+
+// The answer of a call that looks for a node: 4,294,967,295 for none.
+pub fn carry_node(answer: NodeResult) -> u64
+    ensures { λ r. ⌜ r ≡ carriedNode answer ⌝ }
+{
+    match answer {
+        NodeResult::Found(node) => node.number() as u64,
+        NodeResult::Refused(refusal) => carry_refusal(refusal),
     }
 }
 

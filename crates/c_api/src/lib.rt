@@ -5,6 +5,7 @@
 mod carried;
 
 pub use carried::carry_finish;
+pub use carried::carry_node;
 pub use carried::carry_number;
 pub use carried::carry_order;
 pub use carried::carry_refusal;

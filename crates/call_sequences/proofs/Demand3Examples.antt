@@ -1,5 +1,5 @@
--- Sixteen calls, three of them refused, run by computation at the graph; and of every arena without a
--- node that is not marked shallow, that it holds this graph after them (`sample-arena`). It is
+-- Sixteen calls, three of them refused, run by computation at the graph; and of every arena without
+-- a node that is not marked shallow, that it holds this graph after them (`sample-arena`). It is
 -- ordered, finalized and has a node to erase, so every clause of demand 3 says something of it. An
 -- arena that its snapshot is read into and one that is seeded from it are starts (`sample-read`,
 -- `sample-seeded`). Assumes nothing.
@@ -86,8 +86,8 @@ abbrev local : NodeOption
 local = SomeNode (record { 0 = 1 })
 
 -- Nodes 0 and 1 `/M/a`; under 1 the References 2 and 3, of which 2 has no specs, and the Inherit 4.
--- Culling marks 2. An erase set with node 1, the parent of the others, is refused 11, bytes that are
--- no snapshot 12, and CULLED on the local root 6.
+-- Culling marks 2. An erase set with node 1, the parent of the others, is refused 11, bytes that
+-- are no snapshot 12, and CULLED on the local root 6.
 unfoldable sample : List Write
 sample =
     starting (number 0 refl) (number 0 refl) (slice (bytes "/M/a") refl)

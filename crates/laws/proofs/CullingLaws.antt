@@ -4,19 +4,19 @@
 use mathlib.Core.Path.{_≡_, refl, sym, ap, _∙_}
 use mathlib.Core.Bool.{Bool, true, false, not, _||_, _&&_, cond}
 use mathlib.Core.List.{List, [], _∷_}
-use Prim.Native.Nat.{ℕ, zero, suc, _+_, _-_, _*_, _/_, _%_, _^_, _≤_, _<_}
-use native.Mathlib.Nat.{div-div-eq-div-mul}
+use Prim.Native.Nat.{ℕ, zero, suc, _+_, _-_, _^_, _≤_, _<_}
 use native.Mathlib.Omega.{arith}
 use lib.Dec.{eqb, ltb}
 use lib.ListN.{length, getD, set, length-set, List·getD-eq-default}
-use lib.Seq.{getD-set-same, getD-set-other, set-out, ext-getD}
+use lib.Seq.{getD-set-same, getD-set-other, ext-getD}
 use borrow.Author.Tests.{eqb-true, eqb-false, eq-eqb, ne-eqb, ltb-true, ltb-false}
-use Rattle.model.specs.Lists.{All, Pairs, bit, count, every, anyBelow}
-use Rattle.model.specs.Path.{primCount, pathAtIntroDepth, samePath}
-use Rattle.model.specs.Node.{rootArc, inheritArc, culledFlag, Node, noNode, hasFlag, isInert, isCulled, sameSite, changed}
-use Rattle.model.specs.Graph.{Graph, size, nodeAt, childrenOf, depthBelowIntroduction, pathAtIntroduction, isLocalRoot, hasLocalRoot, inLocalStack}
+use Rattle.model.specs.Lists.{All, Pairs, bit, count, every}
+use Rattle.model.specs.Path.{primCount}
+use Rattle.model.specs.Node.{rootArc, inheritArc, culledFlag, Node, noNode, hasFlag, isInert, isCulled, changed}
+use Rattle.model.specs.Graph.{Graph, size, nodeAt, childrenOf, depthBelowIntroduction, pathAtIntroduction, hasLocalRoot}
 use Rattle.model.specs.Strength.{View, view, isAuthored, originRootNode}
 use Rattle.model.specs.Culling.{introducer, keepsInherit, canCull, culled, cullOne, cullDown, cullSubtreesWithoutOpinions}
+use Rattle.laws.proofs.FlagLaws.{other-bit}
 use Rattle.laws.proofs.SeenLaws.{SeenAlike, node-set, depth-below-kept, path-at-introduction-kept, local-stack-kept, view-kept}
 
 -- ---- One node
@@ -38,18 +38,6 @@ pub record OnlyCulled (x y : Node) : Type 0 where
   pub path : y .path ≡ x .path
   pub culled-stays : isCulled x ≡ true → y ≡ x
   pub root-stays : x .arc ≡ rootArc → y ≡ x
-
--- adding 2 to a number whose bit 2 is clear changes only that bit
-other-flags : (f i : ℕ) → hasFlag culledFlag f ≡ false → (i ≡ 1 → ⊥) → hasFlag (2 ^ i) (f + culledFlag) ≡ hasFlag (2 ^ i) f
-other-flags f zero e h =
-    let clear = eqb-false (f / 2 % 2) 1 e in
-    let same : (f + 2) / 1 % 2 ≡ f / 1 % 2 = omega arith in ap (λ (q : ℕ). eqb q 1) same
-other-flags f (suc zero) e h = absurd (h refl)
-other-flags f (suc (suc j)) e h =
-    let clear = eqb-false (f / 2 % 2) 1 e in
-    let same : (f + 2) / 4 ≡ f / 4 = omega arith in
-    let four : 2 ^ suc (suc j) ≡ 4 * 2 ^ j = omega arith in
-    rw (four, ← div-div-eq-div-mul (f + 2) 4 (2 ^ j), ← div-div-eq-div-mul f 4 (2 ^ j), same)
 
 culled-again : (x : Node) → isCulled x ≡ true → culled x ≡ x
 culled-again x e = rw e
@@ -81,7 +69,7 @@ culled-only x root = flags-alone x _ (λ i h. go i h (isCulled x) refl) (culled-
     go : (i : ℕ) → (i ≡ 1 → ⊥) → (b : Bool) → isCulled x ≡ b
         → hasFlag (2 ^ i) (cond b (x .flags) (x .flags + culledFlag)) ≡ hasFlag (2 ^ i) (x .flags)
     go i h true e = refl
-    go i h false e = other-flags (x .flags) i e h
+    go i h false e = other-bit 1 i (x .flags) h e
 
 unchanged : (x : Node) → OnlyCulled x x
 unchanged x = flags-alone x (x .flags) (λ i h. refl) (λ e. refl) (λ e. refl)

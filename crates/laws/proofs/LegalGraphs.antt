@@ -1,8 +1,8 @@
 -- What every list of calls keeps of a graph: `Legal`. Question 2 asks all of it but `in-order`, in
 -- whose place it asks that a marked order has each node once ("A room may pass with an order never
--- computed"), and `ordered-final`. Every empty graph that an arena may hold is legal, with its marks
--- (`empties-legal`). That each call keeps it is in LegalAdded, LegalAlike, LegalErased and
--- CallsKeepLegal; here is what follows from it at once. Assumes nothing.
+-- computed"), and `ordered-final`. Every empty graph that an arena may hold is legal, with its
+-- marks (`empties-legal`). That each call keeps it is in LegalAdded, LegalAlike, LegalSet,
+-- LegalErased and CallsKeepLegal; here is what follows from it at once. Assumes nothing.
 use mathlib.Core.Path.{_≡_, refl, sym, subst}
 use mathlib.Core.Bool.{Bool, true, false, not, false≢true}
 use mathlib.Core.List.{[]}

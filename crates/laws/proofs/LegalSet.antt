@@ -1,19 +1,20 @@
 -- The calls that set fields of one node leave a graph legal, ordered and finalized as it was: they
 -- set nothing that a comparison sees. Assumes nothing.
-use mathlib.Core.Path.{_≡_, refl, ap, _∙_}
-use mathlib.Core.Bool.{Bool, true, false, not, _&&_, cond, and-eq-true-iff}
+use mathlib.Core.Path.{_≡_, refl, _∙_}
+use mathlib.Core.Bool.{Bool, true, false, _&&_, cond, and-eq-true-iff}
 use mathlib.Core.Option.{Option, none, some}
 use mathlib.Core.List.{List, [], _∷_}
-use Prim.Native.Nat.{ℕ, _+_, _/_, _%_, _≤_, _<_}
+use Prim.Native.Nat.{ℕ, _≤_, _<_}
 use native.Mathlib.Omega.{arith}
 use lib.Dec.{eqb, ltb}
 use lib.ListN.{length-set}
-use borrow.Author.Tests.{eqb-false, eq-eqb, ltb-true, not-true}
-use Rattle.model.specs.Node.{rootArc, inertFlag, culledFlag, hasSpecializesFlag, prohibitedChildrenFlag, hasFlag, withFlag, Node, isInert, isCulled, hasSpecializes}
+use borrow.Author.Tests.{eq-eqb, ltb-true, not-true}
+use Rattle.model.specs.Node.{rootArc, inertFlag, culledFlag, hasSpecializesFlag, hasFlag, withFlag, Node, isInert, isCulled}
 use Rattle.model.specs.Graph.{Graph, size, nodeAt}
 use Rattle.model.specs.Setting.{withSite, withGiven, withFlags, marked, mayMark, withFirstSpec, restrictedAt, withRecord}
 use Rattle.model.specs.Refusals.{Question, ask}
 use Rattle.model.specs.Calls.{hasNodeZero, sets, mark, setFirstSpec, setHasSpecs, setRestrictionDepth}
+use Rattle.laws.proofs.FlagLaws.{given-keeps}
 use Rattle.laws.proofs.SeenLaws.{SameSeen, seen-itself, node-set}
 use Rattle.laws.proofs.LegalGraphs.{Legal}
 use Rattle.laws.proofs.LegalAlike.{OnlySet, only-set-legal}
@@ -21,48 +22,7 @@ use Rattle.laws.proofs.AcceptedQuestions.{Accepted, numbered, decided-k
 
 -- ---- Flags
 
--- a flag that is given leaves another as it was, if setting it does
-given-keeps : (flag other given f : ℕ) → (hasFlag flag f ≡ false → hasFlag other (f + flag) ≡ hasFlag other f)
-    → hasFlag other (withGiven flag given f) ≡ hasFlag other f
-given-keeps flag other given f h = go (hasFlag flag given) (hasFlag flag f) refl
-  where
-    go : (b c : Bool) → hasFlag flag f ≡ c → hasFlag other (cond b (cond c f (f + flag)) f) ≡ hasFlag other f
-    go false c e = refl
-    go true true e = refl
-    go true false e = h e
-
--- the bit of a flag that is clear
-bit-clear : (flag f : ℕ) → hasFlag flag f ≡ false → f / flag % 2 ≡ 0
-bit-clear flag f e = omega (arith, eqb-false (f / flag % 2) 1 e)
-
--- so it leaves the other bits
-module _ (f : ℕ) where
-  inert-culled : hasFlag inertFlag f ≡ false → hasFlag culledFlag (f + inertFlag) ≡ hasFlag culledFlag f
-  inert-culled e =
-      let same : (f + 1) / 2 ≡ f / 2 = omega (arith, bit-clear 1 f e) in ap (λ (q : ℕ). eqb (q % 2) 1) same
-
-  inert-special : hasFlag inertFlag f ≡ false → hasFlag hasSpecializesFlag (f + inertFlag) ≡ hasFlag hasSpecializesFlag f
-  inert-special e =
-      let same : (f + 1) / 8 ≡ f / 8 = omega (arith, bit-clear 1 f e) in ap (λ (q : ℕ). eqb (q % 2) 1) same
-
-  culled-inert : hasFlag inertFlag (f + culledFlag) ≡ hasFlag inertFlag f
-  culled-inert = let same : (f + 2) / 1 % 2 ≡ f / 1 % 2 = omega arith in ap (λ (q : ℕ). eqb q 1) same
-
-  culled-special : hasFlag culledFlag f ≡ false → hasFlag hasSpecializesFlag (f + culledFlag) ≡ hasFlag hasSpecializesFlag f
-  culled-special e =
-      let same : (f + 2) / 8 ≡ f / 8 = omega (arith, bit-clear 2 f e) in ap (λ (q : ℕ). eqb (q % 2) 1) same
-
-  prohibited-inert : hasFlag inertFlag (f + prohibitedChildrenFlag) ≡ hasFlag inertFlag f
-  prohibited-inert = let same : (f + 4) / 1 % 2 ≡ f / 1 % 2 = omega arith in ap (λ (q : ℕ). eqb q 1) same
-
-  prohibited-culled : hasFlag culledFlag (f + prohibitedChildrenFlag) ≡ hasFlag culledFlag f
-  prohibited-culled = let same : (f + 4) / 2 % 2 ≡ f / 2 % 2 = omega arith in ap (λ (q : ℕ). eqb q 1) same
-
-  prohibited-special : hasFlag prohibitedChildrenFlag f ≡ false
-      → hasFlag hasSpecializesFlag (f + prohibitedChildrenFlag) ≡ hasFlag hasSpecializesFlag f
-  prohibited-special e =
-      let same : (f + 4) / 8 ≡ f / 8 = omega (arith, bit-clear 4 f e) in ap (λ (q : ℕ). eqb (q % 2) 1) same
-
+-- INERT is bit 0, CULLED 1, PROHIBITED_CHILDREN 2 and HAS_SPECIALIZES 3
 module _ (given f : ℕ) where
   -- with INERT, and with CULLED too, if they are given
   abbrev inert : ℕ
@@ -73,14 +33,12 @@ module _ (given f : ℕ) where
 
   special-kept : hasFlag hasSpecializesFlag (withFlags given f) ≡ hasFlag hasSpecializesFlag f
   special-kept =
-      given-keeps prohibitedChildrenFlag hasSpecializesFlag given culled (prohibited-special culled)
-      ∙ given-keeps culledFlag hasSpecializesFlag given inert (culled-special inert)
-      ∙ given-keeps inertFlag hasSpecializesFlag given f (inert-special f)
+      given-keeps 2 3 given culled (λ e. omega arith) ∙ given-keeps 1 3 given inert (λ e. omega arith)
+      ∙ given-keeps 0 3 given f (λ e. omega arith)
 
   inert-stays : hasFlag inertFlag f ≡ true → hasFlag inertFlag (withFlags given f) ≡ true
   inert-stays e =
-      given-keeps prohibitedChildrenFlag inertFlag given culled (λ c. prohibited-inert culled)
-      ∙ given-keeps culledFlag inertFlag given inert (λ c. culled-inert inert)
+      given-keeps 2 0 given culled (λ e. omega arith) ∙ given-keeps 1 0 given inert (λ e. omega arith)
       ∙ go (hasFlag inertFlag given)
     where
       go : (b : Bool) → hasFlag inertFlag (cond b (withFlag inertFlag f) f) ≡ true
@@ -88,9 +46,7 @@ module _ (given f : ℕ) where
       go false = e
 
   unculled-stays : hasFlag culledFlag given ≡ false → hasFlag culledFlag (withFlags given f) ≡ hasFlag culledFlag f
-  unculled-stays e =
-      given-keeps prohibitedChildrenFlag culledFlag given culled (λ c. prohibited-culled culled)
-      ∙ rw e (given-keeps inertFlag culledFlag given f (inert-culled f))
+  unculled-stays e = given-keeps 2 1 given culled (λ e. omega arith) ∙ rw e (given-keeps 0 1 given f (λ e. omega arith))
 
 -- ---- One record more
 

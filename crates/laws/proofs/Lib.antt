@@ -28,6 +28,7 @@ pub mod OrderKeys
 pub mod OrderCopies
 pub mod OrderExamples
 pub mod SeenLaws
+pub mod FlagLaws
 pub mod ErasableLaws
 pub mod CullingLaws
 pub mod Spares

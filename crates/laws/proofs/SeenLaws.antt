@@ -2,7 +2,7 @@
 -- layer, the restriction depth and the specs. Where two lists of nodes have the same of each node,
 -- the comparison cannot tell them apart. Culling and the calls that set fields of one node are
 -- instances. Assumes nothing.
-use mathlib.Core.Path.{_≡_, refl, sym, ap, _∙_}
+use mathlib.Core.Path.{_≡_, refl, ap, _∙_}
 use mathlib.Core.Bool.{Bool, true, false, _&&_, cond}
 use mathlib.Core.List.{List, [], _∷_}
 use Prim.Native.Nat.{ℕ, suc, _-_}

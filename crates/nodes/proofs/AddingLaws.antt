@@ -1,23 +1,23 @@
 -- The questions that the two calls put are document 01's: `start-accepted`, `add-accepted`; the
 -- records that they append are the definitions' nodes: `start-node`, `added-node`. Assumes nothing.
 use mathlib.Core.Path.{_≡_, refl, sym, ap, _∙_}
-use mathlib.Core.Bool.{Bool, true, false, not, _&&_, cond, and-eq-true-iff}
+use mathlib.Core.Bool.{Bool, true, false, not, _&&_, and-eq-true-iff}
 use mathlib.Core.Option.{some}
 use mathlib.Core.List.{List, [], _∷_}
 use Prim.Native.Nat.{ℕ, _+_, _≤_, _<_}
 use native.Mathlib.Omega.{arith}
-use lib.Dec.{eqb, ltb, leb}
+use lib.Dec.{eqb, leb}
 use lib.ListN.{length}
-use borrow.Author.Tests.{eq-eqb, ne-eqb, eqb-false, lt-ltb, ltb-true, le-leb}
+use borrow.Author.Tests.{eq-eqb, ne-eqb, lt-ltb, ltb-true, le-leb}
 use Rattle.model.specs.Path.{wellFormed, primCount}
 use Rattle.model.specs.Node as model
-use Rattle.model.specs.Node.{invalid, rootArc, isCulled}
-use Rattle.model.specs.Graph.{Graph, size, nodeAt, withNode}
+use Rattle.model.specs.Node.{rootArc, isCulled}
+use Rattle.model.specs.Graph.{Graph, size, withNode}
 use Rattle.model.specs.Refusals.{refusalNumber, Question, ask, refusal, pathBytes, arcAllowed, linksAllowed, recordQuestions}
 use Rattle.model.specs.Calls as calls
 use Rattle.model.specs.Answers.{nodeOption, numberOption}
 use Rattle.model.specs.Calls.{decided, hasNodeZero, initRoot, givenOr, primsOver, givenBelow, defaultDepth, addedNode, rootNode, addChild}
-use Rattle.model.specs.Arena.{countIn, primCountIn, decode, encode}
+use Rattle.model.specs.Arena.{countIn, decode, encode}
 use Rattle.model.specs.ArenaCalls.{ValidArena, ValidNode, onArena, Wrote, askArena}
 use Rattle.model.specs.declared.NodeId.{NodeId}
 use Rattle.model.specs.declared.NodeOption.{NodeOption}

@@ -1,6 +1,6 @@
 -- The answers about paths by number and value (model/specs/Answers.antt): the prim count is refused
 -- by question 5 alone, appending a child's name by 1, 5 and 7. Assumes nothing.
-use mathlib.Core.Path.{_≡_, refl}
+use mathlib.Core.Path.{refl}
 use mathlib.Core.Bool.{Bool, true, false, not, _&&_, cond}
 use mathlib.Core.List.{List, [], _∷_}
 use Prim.Native.Nat.{ℕ}

@@ -1,8 +1,8 @@
 // Paths on lent bytes: whether they are well formed, their prim count, parent, last name and
-// introduction path, equality, and appending a child's name. A layer below the library, and not open
-// to others: the calls put question 5 before they ask for a part of a path. No function has a
-// `requires` on a path: on bytes that are none each answers what its definition gives for them. Only
-// `append_child_name` copies; every other path handed back is a part of the caller's. The
+// introduction path, equality, and appending a child's name. A layer below the library, and not
+// open to others: the calls put question 5 before they ask for a part of a path. No function has a
+// `requires` on a path: on bytes that are none each answers what its definition gives for them.
+// Only `append_child_name` copies; every other path handed back is a part of the caller's. The
 // definitions are in model/specs/Path.antt.
 // scan.rt reads one path from its front, tables.rt many by tables (rows.rt), back.rt from its end;
 // join.rt writes one with a name appended.

@@ -3,11 +3,11 @@
 // puts its questions in document 01's order; the first whose answer is no is the refusal, and then
 // every lent byte is as it was. What a call answers and leaves is its one function of
 // model/specs/Calls.antt, made a call on bytes by model/specs/ArenaCalls.antt.
-// Nodes are in crates/nodes: starting, adding, setting fields of one node, what is read of the header
-// or of one node, the node that uses a site. The count is in crates/validate, comparisons and class
-// hierarchies in crates/strength, the order in crates/ordering, culling in crates/culling, erasing in
-// crates/erasing, appending a child's name in crates/deepening, snapshots in crates/snapshot. Nothing
-// is defined here.
+// Nodes are in crates/nodes: starting, adding, setting fields of one node, what is read of the
+// header or of one node, the node that uses a site. The count is in crates/validate, comparisons
+// and class hierarchies in crates/strength, the order in crates/ordering, culling in
+// crates/culling, erasing in crates/erasing, appending a child's name in crates/deepening,
+// snapshots in crates/snapshot. Nothing is defined here.
 pub use culling::calls::cull_subtrees_without_opinions;
 pub use deepening::calls::append_child_name_to_all_sites;
 pub use deepening::calls::seed_child;

@@ -1,5 +1,6 @@
 -- What the calls of this crate answer, beside model/specs/ArenaCalls.antt's `AnsweredTest` and
--- `AnsweredNode`: where a class hierarchy starts. The definitions that they cite are in model/specs.
+-- `AnsweredNode`: where a class hierarchy starts. The definitions that they cite are in
+-- model/specs.
 use mathlib.Core.Path.{_≡_}
 use mathlib.Core.Bool.{cond}
 use mathlib.Core.Option.{Option, none, some}

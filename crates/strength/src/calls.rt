@@ -112,8 +112,8 @@ pub fn is_propagated_specializes(arena: &[u8], n: u32) -> BoolResult
     }
 }
 
-// The propagated specializes under the local root whose origin is node n, if there is one. Refused 1
-// to 4.
+// The propagated specializes under the local root whose origin is node n, if there is one. Refused
+// 1 to 4.
 pub fn get_propagated_specializes_node(arena: &[u8], n: u32) -> NodeResult
     ensures { λ r. ⌜ AnsweredNode (askArena (now (arena .entry)) (readsNode (decode (now (arena .entry))) n))
         (getPropagatedSpecializesNode (decode (now (arena .entry))) n) r ⌝ }

@@ -1,4 +1,5 @@
--- `set_restriction_depth` makes the call `settingRestriction`, by its own contract. Assumes nothing.
+-- `set_restriction_depth` makes the call `settingRestriction`, by its own contract. Assumes
+-- nothing.
 use Rattle.call_sequences.proofs.StepTies.{set-restriction-sets}
 use Rattle.call_sequences.proofs.set_restriction_depth.Statement.{statement}
 use Rattle.call_sequences.proofs.set_restriction_depth.Tie as tie

@@ -1,6 +1,5 @@
 -- `default_depth` meets its contract. Assumes nothing.
 use borrow.Author.Needs.{needs}
-use mathlib.Core.Path.{sym}
 use Rattle.nodes.proofs.description.default_depth.Statement.{statement}
 use Rattle.nodes.proofs.description.default_depth.Tie as tie
 

@@ -1,7 +1,7 @@
 -- `intro_path` meets its contract: `/` of node 0, else the front part of the parent's path. Assumes
 -- nothing.
 use borrow.Author.Needs.{needs}
-use mathlib.Core.Path.{_≡_, sym, ap, _∙_}
+use mathlib.Core.Path.{_≡_, sym, _∙_}
 use lib.ListN.{length}
 use Rattle.model.specs.Refusals.{refusal}
 use Rattle.model.specs.Calls.{readsNode}

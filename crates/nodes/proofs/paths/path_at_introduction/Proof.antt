@@ -1,6 +1,6 @@
 -- `path_at_introduction` meets its contract: the front part of the node's path. Assumes nothing.
 use borrow.Author.Needs.{needs}
-use mathlib.Core.Path.{_≡_, sym, ap, _∙_}
+use mathlib.Core.Path.{_≡_, sym, _∙_}
 use lib.ListN.{length}
 use Rattle.model.specs.Refusals.{refusal}
 use Rattle.model.specs.Calls.{readsNode}

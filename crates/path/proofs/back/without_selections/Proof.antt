@@ -1,4 +1,5 @@
--- `without_selections` meets its contract. The loop's invariant: what is left of the first `k` bytes is what is left of the first `end`.
+-- `without_selections` meets its contract. The loop's invariant: what is left of the first `k`
+-- bytes is what is left of the first `end`.
 -- The measure is `k`. Assumes nothing.
 use borrow.Author.Needs.{needs}
 use native.Mathlib.Omega.{arith}

@@ -1,9 +1,9 @@
 -- `carry_node` meets its contract, case by case. Assumes nothing.
 use borrow.Author.Needs.{needs}
 use mathlib.Core.Path.{sym, ap, _∙_}
-use Rattle.bench_api.specs.Numbers.{carriedNode}
-use Rattle.bench_api.proofs.reading.carry_node.Statement.{statement}
-use Rattle.bench_api.proofs.reading.carry_node.Tie as tie
+use Rattle.c_api.specs.Carried.{carriedNode}
+use Rattle.c_api.proofs.carried.carry_node.Statement.{statement}
+use Rattle.c_api.proofs.carried.carry_node.Tie as tie
 
 enum-known-answer : tie.Need-enum-known-answer
 enum-known-answer c = search needs
