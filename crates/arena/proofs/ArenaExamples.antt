@@ -10,7 +10,7 @@ use lib.ListN.{replicate}
 use Rattle.model.specs.Bytes.{stored}
 use Rattle.model.specs.Path.{isNameStart, isWordByte, isSelectionByte, wellFormed, primCount}
 use Rattle.model.specs.Graph.{Graph, emptyGraph, withNode, isLocalRoot}
-use Rattle.model.specs.Strength.{smaller, plainLines, siblingLines, nodesBy, compareSiblingNodeStrength}
+use Rattle.model.specs.Strength.{arcRank, smaller, plainLines, siblingLines, nodesBy, compareSiblingNodeStrength}
 use Rattle.model.specs.Order.{isStronger, hasOrder, ordering}
 use Rattle.model.specs.Snapshot.{bigEndian, recordBody, readRecord}
 use Rattle.model.specs.Calls.{orders, initRoot, addChild, finalizeStrengthOrder}
@@ -72,7 +72,7 @@ pub record Arenas : Type 0 where
   pub wrong-local-root : holdsGraph (stored 8 (bigEndian 4 2) arena) ≡ false
 
 arenas : Arenas
-unfolding initRoot addChild finalizeStrengthOrder withNode wellFormed primCount isNameStart isWordByte isSelectionByte isLocalRoot smaller
+unfolding initRoot addChild finalizeStrengthOrder withNode wellFormed primCount isNameStart isWordByte isSelectionByte isLocalRoot arcRank smaller
     plainLines siblingLines nodesBy compareSiblingNodeStrength hasOrder ordering isStronger recordBody readRecord decode stored encode holdsGraph
 arenas = record {
   zeros-empty = refl;

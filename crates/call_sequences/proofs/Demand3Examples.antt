@@ -15,7 +15,7 @@ use borrow.Author.Tests.{ltb-true}
 use Rattle.model.specs.Lists.{every, filter}
 use Rattle.model.specs.Path.{isNameStart, isWordByte, wellFormed, primCount, beforeName, nameStart, lastName, endsInName, separator, appendName, pathAtIntroDepth}
 use Rattle.model.specs.Graph.{Graph, emptyGraph, size, nodeAt, withNode, depthBelowIntroduction, pathAtIntroduction, isLocalRoot, inLocalStack}
-use Rattle.model.specs.Strength.{smaller, plainLines, siblingLines, nodesBy, compareSiblingNodeStrength}
+use Rattle.model.specs.Strength.{arcRank, smaller, plainLines, siblingLines, nodesBy, compareSiblingNodeStrength}
 use Rattle.model.specs.Order.{isStronger, hasOrder}
 use Rattle.model.specs.Order as order
 use Rattle.model.specs.Culling.{keepsInherit, canCull, cullSubtreesWithoutOpinions, isMarked, isErasable}
@@ -129,7 +129,7 @@ bare ordered finalized = record { nodes = []; children = []; order = []; ordered
 sample-graph : (ordered finalized : Bool) → SampleCalls (graphSteps sample (bare ordered finalized))
 unfolding sample initRoot addChild finalizeStrengthOrder cull mark setFirstSpec setHasSpecs setRestrictionDepth eraseSet canErase appendChildName readInto readSnapshot withNode withRecord wellFormed primCount isNameStart isWordByte
     beforeName nameStart lastName endsInName separator appendName pathAtIntroDepth depthBelowIntroduction pathAtIntroduction isLocalRoot
-    inLocalStack smaller plainLines siblingLines nodesBy compareSiblingNodeStrength hasOrder order.ordering isStronger keepsInherit canCull
+    inLocalStack arcRank smaller plainLines siblingLines nodesBy compareSiblingNodeStrength hasOrder order.ordering isStronger keepsInherit canCull
     cullSubtreesWithoutOpinions isMarked isErasable erasable deepen
 sample-graph ordered finalized = record {
   some-node = omega arith;
@@ -146,7 +146,7 @@ sample-graph ordered finalized = record {
 seed-accepted : (ordered finalized : Bool) → seedChild (bytes "/c") (graphSteps sample (bare ordered finalized)) emptyGraph .refused ≡ 0
 unfolding sample initRoot addChild finalizeStrengthOrder cull mark setFirstSpec setHasSpecs setRestrictionDepth eraseSet canErase appendChildName seedChild readInto readSnapshot withNode withRecord wellFormed primCount isNameStart
     isWordByte beforeName nameStart lastName endsInName separator appendName pathAtIntroDepth depthBelowIntroduction pathAtIntroduction
-    isLocalRoot inLocalStack smaller plainLines siblingLines nodesBy compareSiblingNodeStrength hasOrder order.ordering isStronger keepsInherit
+    isLocalRoot inLocalStack arcRank smaller plainLines siblingLines nodesBy compareSiblingNodeStrength hasOrder order.ordering isStronger keepsInherit
     canCull cullSubtreesWithoutOpinions deepen
 seed-accepted ordered finalized = refl
 

@@ -24,6 +24,7 @@ use Rattle.laws.proofs.Trees.{Child}
 use Rattle.laws.proofs.SmallerLaws.{smaller-lt, smaller-eq}
 use Rattle.laws.proofs.StrengthWalks.{origin-below, origin-root-below}
 use Rattle.laws.proofs.WalkLaws.{is-less}
+use Rattle.laws.proofs.RankLaws.{arc-rank-low}
 use Rattle.laws.proofs.OrderKeys.{Keyed, KeyLess, keyed-not-nested, key-lines-siblings, neighbours-sorted}
 use Rattle.arena.proofs.ArenaBack.{size-decode, fresh-legal, fresh-nodes}
 use Rattle.arena.proofs.HeldArenas.{held}
@@ -130,7 +131,7 @@ pub rank-low : {bs : List ℕ} (o : ValidArena bs) (c : ℕ) → c < countIn bs 
 rank-low {bs} o c h =
     let all = held bs (o .holds) in
     let same = fresh-nodes bs all in
-    rw same at (fresh-legal bs all .node c (omega (arith, ap length same, size-decode bs all)) .arc)
+    arc-rank-low (viewIn bs .arc c) (rw same at (fresh-legal bs all .node c (omega (arith, ap length same, size-decode bs all)) .arc))
 
 -- ---- One depth, one rank
 

@@ -14,7 +14,7 @@ use borrow.Author.Tests.{ne-eqb, ltb-true, ltb-false, lt-ltb, le-ltb}
 use Rattle.model.specs.Lists.{count, filter, keepAt}
 use Rattle.model.specs.Node.{invalid, rootArc, Node, noNode, hasSpecializes, sameSite}
 use Rattle.model.specs.Graph.{Graph, size, nodeAt, childrenOf, depthBelowIntroduction, isLocalRoot, inLocalStack}
-use Rattle.model.specs.Strength.{view}
+use Rattle.model.specs.Strength.{arcRank, view}
 use Rattle.model.specs.Order.{walkUpTo, walk}
 use Rattle.model.specs.Erasing.{newNumber, newLink, renumbered, eraseBy}
 use Rattle.laws.proofs.Views.{LegalView, LooksLike}
@@ -161,7 +161,7 @@ module _ (kept : ℕ → Bool) (g : Graph) (s : Spares g kept) (legal : LegalVie
     origin-kept = s .origin;
     parents = parent-erased;
     origins = origin-erased;
-    ranks = λ a l k. ap (λ (x : Node). x .arc) (node-erased kept g a l k);
+    ranks = λ a l k. ap (λ (x : Node). arcRank (x .arc)) (node-erased kept g a l k);
     arcs = λ a l k. ap (λ (x : Node). x .arc) (node-erased kept g a l k);
     specials = λ a l k. ap hasSpecializes (node-erased kept g a l k);
     depths = λ a l k. ap (λ (x : Node). x .depth) (node-erased kept g a l k);

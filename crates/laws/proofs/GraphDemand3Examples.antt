@@ -11,7 +11,7 @@ use native.Mathlib.Omega.{arith}
 use Rattle.model.specs.Path.{isNameStart, isWordByte, wellFormed, primCount, beforeName, nameStart, lastName, endsInName, separator, appendName, pathAtIntroDepth}
 use Rattle.model.specs.Node.{invalid, optional, rootArc, inheritArc}
 use Rattle.model.specs.Graph.{Graph, emptyGraph, size, nodeAt, withNode, depthBelowIntroduction, pathAtIntroduction, isLocalRoot, inLocalStack}
-use Rattle.model.specs.Strength.{smaller, plainLines, siblingLines, nodesBy, compareSiblingNodeStrength}
+use Rattle.model.specs.Strength.{arcRank, smaller, plainLines, siblingLines, nodesBy, compareSiblingNodeStrength}
 use Rattle.model.specs.Order.{isStronger, hasOrder, ordering}
 use Rattle.model.specs.Culling.{keepsInherit, canCull, cullSubtreesWithoutOpinions, isMarked, isErasable}
 use Rattle.model.specs.Setting.{withRecord}
@@ -63,7 +63,7 @@ pub record Meets (g : Graph) : Type 0 where
 
 example-meets : Meets example
 unfolding initRoot addChild finalizeStrengthOrder cull mark setFirstSpec setHasSpecs setRestrictionDepth eraseSet appendChildName withNode withRecord wellFormed primCount isNameStart isWordByte beforeName
-    nameStart lastName endsInName separator appendName pathAtIntroDepth depthBelowIntroduction pathAtIntroduction isLocalRoot inLocalStack smaller
+    nameStart lastName endsInName separator appendName pathAtIntroDepth depthBelowIntroduction pathAtIntroduction isLocalRoot inLocalStack arcRank smaller
     plainLines siblingLines nodesBy compareSiblingNodeStrength hasOrder ordering isStronger keepsInherit canCull cullSubtreesWithoutOpinions
     isMarked isErasable erasable canErase eraseBy deepen
 example-meets = record {
@@ -112,7 +112,7 @@ pub record Starts : Type 0 where
 starts : Starts
 unfolding initRoot addChild finalizeStrengthOrder cull mark setFirstSpec setHasSpecs setRestrictionDepth appendChildName seedChild readInto withNode withRecord wellFormed primCount isNameStart isWordByte
     beforeName nameStart lastName endsInName separator appendName pathAtIntroDepth depthBelowIntroduction pathAtIntroduction isLocalRoot
-    inLocalStack smaller plainLines siblingLines nodesBy compareSiblingNodeStrength hasOrder ordering isStronger keepsInherit canCull
+    inLocalStack arcRank smaller plainLines siblingLines nodesBy compareSiblingNodeStrength hasOrder ordering isStronger keepsInherit canCull
     cullSubtreesWithoutOpinions deepen recordBody writeSnapshot readRecord readRecords readSnapshot
 starts = record { read-accepted = refl; read-ordered = refl; seed-accepted = refl; seed-finalized = refl }
 

@@ -45,6 +45,7 @@ pub mod SnapshotLaws
 pub mod SnapshotReadLaws
 pub mod SnapshotLawExamples
 pub mod LegalGraphs
+pub mod RankLaws
 pub mod AcceptedQuestions
 pub mod ArenaCallLaws
 pub mod LegalAdded

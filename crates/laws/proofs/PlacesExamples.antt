@@ -13,7 +13,7 @@ use Rattle.model.specs.Node.{specializeArc, sameSite}
 use Rattle.model.specs.Path.{samePath, wellFormed, primCount, isNameStart}
 use Rattle.model.specs.Graph.{emptyGraph, childrenOf, withNode, depthBelowIntroduction, isLocalRoot, inLocalStack}
 use Rattle.model.specs.Lists.{All, Pairs, count}
-use Rattle.model.specs.Strength.{View, view, smaller, isAuthored, isPropagatedSpecializes, originRootNode, originHops, outward, isNestedUnder, originsAreNested, replaced, startingNodeOfClassHierarchy, skipRelocates, namespaceDepthForClassHierarchy, classDepth, sameOriginLines, originLines, depthLine, specializesLines, plainLines, siblingLines, nodesBy, compareSiblingNodeStrength}
+use Rattle.model.specs.Strength.{View, arcRank, view, smaller, isAuthored, isPropagatedSpecializes, originRootNode, originHops, outward, isNestedUnder, originsAreNested, replaced, startingNodeOfClassHierarchy, skipRelocates, namespaceDepthForClassHierarchy, classDepth, sameOriginLines, originLines, depthLine, specializesLines, plainLines, siblingLines, nodesBy, compareSiblingNodeStrength}
 use Rattle.model.specs.Order.{isLess, Sorted, isStronger, hasOrder}
 use Rattle.model.specs.Calls.{Call, initRoot, addChild}
 use Rattle.model.specs.Places.{byPlace, Certified}
@@ -53,7 +53,7 @@ abbrev stop : ℕ → ℕ
 stop v = getD (4 ∷ 4 ∷ 4 ∷ 3 ∷ []) v 0
 
 four-certified : Certified (view (from four .nodes)) 4 fourLists place stop
-unfolding initRoot addChild withNode wellFormed primCount isNameStart isLocalRoot siblingLines plainLines smaller
+unfolding initRoot addChild withNode wellFormed primCount isNameStart isLocalRoot siblingLines plainLines arcRank smaller
 four-certified = record {
   branches = each _ 4 ((omega arith, omega arith), ((omega arith, (omega arith, omega arith)), (omega arith, (omega arith, tt))));
   sorted = each _ 4 ((tt, tt), (((refl, tt), (tt, tt)), (tt, (tt, tt))));
@@ -100,7 +100,7 @@ copyPlace v = getD (0 ∷ 1 ∷ 2 ∷ 6 ∷ 5 ∷ 4 ∷ 3 ∷ []) v 0
 abbrev copyStop : ℕ → ℕ
 copyStop v = getD (7 ∷ 7 ∷ 3 ∷ 7 ∷ 6 ∷ 5 ∷ 4 ∷ []) v 0
 
-copies-flagged : All (Flagged 7 copiesView 1 specializeArc) (copiesLists 1)
+copies-flagged : All (Flagged 7 copiesView 1 (arcRank specializeArc)) (copiesLists 1)
 unfolding initRoot addChild withNode wellFormed isNameStart isLocalRoot
 copies-flagged = (
   ((omega arith, omega arith, refl), refl, refl),
@@ -136,7 +136,7 @@ copies-follow = (
 copies-in-order : Sorted (λ a b. isLess (siblingLines copiesView (byPlace copyPlace) a b)) (copiesLists 1)
 unfolding initRoot addChild withNode wellFormed isNameStart isLocalRoot originRootNode
 copies-in-order =
-    copies-sorted (legal-from copies .links) 1 specializeArc copyPlace (copiesLists 1) copies-flagged
+    copies-sorted (legal-from copies .links) 1 (arcRank specializeArc) copyPlace (copiesLists 1) copies-flagged
     (one-root-even copiesView 2 (copiesLists 1) (refl, (refl, (refl, (refl, (refl, tt)))))) rise copies-follow
   where
     later : All (λ c. isAuthored copiesView c ≡ false) (6 ∷ 5 ∷ 4 ∷ 3 ∷ [])
@@ -174,7 +174,7 @@ copies-order =
     own = each _ 7 (
       ((omega arith, omega arith, refl), tt),
       (
-        all-imp (Flagged 7 copiesView 1 specializeArc) (Child 7 (copiesView .parent) 1) (copiesLists 1) (λ c h. h .0) copies-flagged,
+        all-imp (Flagged 7 copiesView 1 (arcRank specializeArc)) (Child 7 (copiesView .parent) 1) (copiesLists 1) (λ c h. h .0) copies-flagged,
         (tt, (tt, (tt, (tt, (tt, tt))))),
       ),
     )
@@ -184,7 +184,7 @@ copies-order =
 cycle-refused : hasOrder (from ring) ≡ false
 unfolding initRoot addChild withNode wellFormed primCount isNameStart isLocalRoot isStronger compareSiblingNodeStrength siblingLines
     plainLines specializesLines depthLine originLines sameOriginLines originsAreNested isNestedUnder outward originRootNode
-    isPropagatedSpecializes sameSite samePath nodesBy smaller
+    isPropagatedSpecializes sameSite samePath nodesBy arcRank smaller
 cycle-refused =
     ring-no-order (from ring) (legal-from ring .tree) 1 3 4 5 (omega arith, omega arith, refl) (omega arith, omega arith, refl)
     (omega arith, omega arith, refl) refl refl refl

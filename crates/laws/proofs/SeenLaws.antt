@@ -16,7 +16,7 @@ use Rattle.model.specs.Path.{primCount, pathAtIntroDepth, samePath}
 use Rattle.model.specs.Node.{rootArc, Node, noNode, hasSpecializes, sameSite}
 use Rattle.model.specs.Graph.{nodeAt, depthBelowIntroduction, pathAtIntroduction, isLocalRoot, inLocalStack}
 use Rattle.model.specs.Refusals.{pathBytes}
-use Rattle.model.specs.Strength.{view}
+use Rattle.model.specs.Strength.{arcRank, view}
 
 -- ---- One node, and all
 
@@ -75,7 +75,7 @@ module _ (ns ms : List Node) (c : SeenAlike ns ms) where
   view-kept = λ t. record {
     parent = λ n. c .node n .parent t;
     origin = λ n. c .node n .origin t;
-    rank = λ n. c .node n .arc t;
+    rank = λ n. arcRank (c .node n .arc t);
     arc = λ n. c .node n .arc t;
     special = λ n. c .node n .special t;
     depth = λ n. c .node n .depth t;

@@ -8,7 +8,7 @@ use Prim.Native.Nat.{ℕ, _<_}
 use lib.Dec.{eqb, ltb}
 use Rattle.model.specs.Node.{Node, hasSpecializes, changed}
 use Rattle.model.specs.Graph.{nodeAt, isLocalRoot}
-use Rattle.model.specs.Strength.{View, view}
+use Rattle.model.specs.Strength.{View, arcRank, view}
 
 -- n nodes, each but 0 with a lower parent and a lower origin
 pub record LegalView (n : ℕ) (u : View) : Type 0 where
@@ -59,7 +59,7 @@ module _ (n : ℕ) (ns ms : List Node) (s : SameButPaths n ns ms) where
     origin-kept = λ c h l k. refl;
     parents = λ c h l k. ap (λ (x : Node). x .parent) (s .same c l);
     origins = λ c h l k. ap (λ (x : Node). x .origin) (s .same c l);
-    ranks = λ a l k. ap (λ (x : Node). x .arc) (s .same a l);
+    ranks = λ a l k. ap (λ (x : Node). arcRank (x .arc)) (s .same a l);
     arcs = λ a l k. ap (λ (x : Node). x .arc) (s .same a l);
     specials = λ a l k. ap hasSpecializes (s .same a l);
     depths = λ a l k. ap (λ (x : Node). x .depth) (s .same a l);

@@ -8,7 +8,7 @@ use Rattle.model.proofs.ExampleGraphs.{plain, from, line, four, ring}
 use Rattle.model.specs.Path.{isNameStart, isWordByte, samePath, wellFormed, primCount, endsInName, nameStart, lastName, separator, appendName}
 use Rattle.model.specs.Node.{sameSite}
 use Rattle.model.specs.Graph.{withNode, isLocalRoot}
-use Rattle.model.specs.Strength.{smaller, isPropagatedSpecializes, originRootNode, outward, isNestedUnder, originsAreNested, sameOriginLines, originLines, depthLine, specializesLines, plainLines, siblingLines, nodesBy, compareSiblingNodeStrength}
+use Rattle.model.specs.Strength.{arcRank, smaller, isPropagatedSpecializes, originRootNode, outward, isNestedUnder, originsAreNested, sameOriginLines, originLines, depthLine, specializesLines, plainLines, siblingLines, nodesBy, compareSiblingNodeStrength}
 use Rattle.model.specs.Order.{isStronger, hasOrder, ordering}
 use Rattle.model.specs.Erasing.{eraseBy, erase}
 use Rattle.model.specs.Deepening.{deepen}
@@ -18,7 +18,7 @@ use Rattle.model.specs.ArenaCalls.{arenaAfter}
 -- node 2 goes of the four, ordered: what is left is the graph that was made without it
 one-erased : erase (0 ∷ 0 ∷ 1 ∷ 0 ∷ []) (from (four ++ orders ∷ [])) ≡ from (line (plain 1 1 "/C" ∷ []) ++ orders ∷ [])
 unfolding initRoot addChild finalizeStrengthOrder withNode wellFormed primCount isNameStart isWordByte isLocalRoot hasOrder ordering isStronger
-    compareSiblingNodeStrength siblingLines plainLines nodesBy smaller eraseBy
+    compareSiblingNodeStrength siblingLines plainLines nodesBy arcRank smaller eraseBy
 one-erased = refl
 
 -- a name of 254 bytes, which no path of the four has room for: no path is written
@@ -31,5 +31,5 @@ too-long-refused = refl
 ring-writes-nothing : (bs : List ℕ) → arenaAfter (call orders (from ring)) bs ≡ bs
 unfolding initRoot addChild finalizeStrengthOrder withNode wellFormed primCount isNameStart isLocalRoot hasOrder isStronger
     compareSiblingNodeStrength siblingLines plainLines specializesLines depthLine originLines sameOriginLines originsAreNested isNestedUnder
-    outward originRootNode isPropagatedSpecializes sameSite samePath nodesBy smaller
+    outward originRootNode isPropagatedSpecializes sameSite samePath nodesBy arcRank smaller
 ring-writes-nothing bs = refl

@@ -12,7 +12,7 @@ use Rattle.model.specs.declared.Ordering.the-variants.{Less, Equal, Grea
 use Rattle.model.specs.Path.{isNameStart, isWordByte, isSelectionByte, wellFormed, primCount, beforeName, nameStart, lastName, endsInName, separator, appendName, pathAtIntroDepth, samePath}
 use Rattle.model.specs.Node.{invalid, sameSite}
 use Rattle.model.specs.Graph.{emptyGraph, withNode, depthBelowIntroduction, isLocalRoot, inLocalStack}
-use Rattle.model.specs.Strength.{smaller, isPropagatedSpecializes, originRootNode, originHops, outward, isNestedUnder, originsAreNested, replaced, startingNodeOfClassHierarchy, skipRelocates, namespaceDepthForClassHierarchy, classDepth, sameOriginLines, localLine, sameRootLines, originLines, depthLine, specializesLines, plainLines, siblingLines, nodesBy, compareSiblingNodeStrength, compareNodeStrength}
+use Rattle.model.specs.Strength.{arcRank, smaller, isPropagatedSpecializes, originRootNode, originHops, outward, isNestedUnder, originsAreNested, replaced, startingNodeOfClassHierarchy, skipRelocates, namespaceDepthForClassHierarchy, classDepth, sameOriginLines, localLine, sameRootLines, originLines, depthLine, specializesLines, plainLines, siblingLines, nodesBy, compareSiblingNodeStrength, compareNodeStrength}
 use Rattle.model.specs.Order.{isStronger, hasOrder, ordering}
 use Rattle.model.specs.Culling.{isMarked, isErasable}
 use Rattle.model.specs.Deepening.{deepen}
@@ -51,7 +51,7 @@ pub record Table : Type 0 where
 table : Table
 unfolding initRoot addChild finalizeStrengthOrder appendChildName withNode wellFormed primCount isNameStart isWordByte isSelectionByte
     beforeName nameStart lastName endsInName separator appendName pathAtIntroDepth samePath sameSite depthBelowIntroduction isLocalRoot
-    inLocalStack smaller isPropagatedSpecializes originRootNode originHops outward isNestedUnder originsAreNested replaced
+    inLocalStack arcRank smaller isPropagatedSpecializes originRootNode originHops outward isNestedUnder originsAreNested replaced
     startingNodeOfClassHierarchy skipRelocates namespaceDepthForClassHierarchy classDepth sameOriginLines localLine sameRootLines originLines
     depthLine specializesLines plainLines siblingLines nodesBy compareSiblingNodeStrength compareNodeStrength hasOrder ordering isStronger deepen
     isMarked isErasable listing writeSnapshot recordBody

@@ -4,6 +4,7 @@ pub mod Text
 pub mod PathExamples
 pub mod ExampleGraphs
 pub mod Examples
+pub mod RankExamples
 pub mod HierarchyExamples
 pub mod SnapshotExamples
 pub mod CallExamples

@@ -11,7 +11,7 @@ use Rattle.model.specs.Path.{isNameStart, isWordByte, wellFormed, primCo
 use Rattle.model.specs.Node.{invalid, Node}
 use Rattle.model.specs.Graph.{Graph, emptyGraph, nodeAt, withNode, isLocalRoot, depthBelowIntroduction, isDueToAncestor, introPath}
 use Rattle.model.specs.Setting.{withFlags, withRecord}
-use Rattle.model.specs.Strength.{smaller, plainLines, siblingLines, nodesBy, compareSiblingNodeStrength}
+use Rattle.model.specs.Strength.{arcRank, smaller, plainLines, siblingLines, nodesBy, compareSiblingNodeStrength}
 use Rattle.model.specs.Order.{isStronger, hasOrder, ordering}
 use Rattle.model.specs.Calls.{Call, orders, adding, marking, settingFirstSpec, settingHasSpecs, settingRestriction, call, initRoot, addChild, finalizeStrengthOrder, mark, setFirstSpec, setHasSpecs, setRestrictionDepth}
 
@@ -72,7 +72,7 @@ ordered = from (four ++ orders ∷ marking 2 1 ∷ settingFirstSpec 3 none ∷ s
 
 stays-ordered : (ordered .ordered ≡ true) × (ordered .finalized ≡ true) × (ordered .order ≡ 0 ∷ 1 ∷ 3 ∷ 2 ∷ [])
 unfolding initRoot addChild finalizeStrengthOrder mark setFirstSpec setHasSpecs setRestrictionDepth withNode withRecord wellFormed primCount
-    isNameStart isWordByte isLocalRoot hasOrder ordering isStronger compareSiblingNodeStrength siblingLines plainLines nodesBy smaller
+    isNameStart isWordByte isLocalRoot hasOrder ordering isStronger compareSiblingNodeStrength siblingLines plainLines nodesBy arcRank smaller
 stays-ordered = (refl, refl, refl)
 
 -- ---- The introduction, under `/M/a` by depth 1 and 3

@@ -22,8 +22,17 @@ rootArc = 0
 abbrev pub inheritArc : ℕ
 inheritArc = 1
 
+abbrev pub variantArc : ℕ
+variantArc = 2
+
 abbrev pub relocateArc : ℕ
 relocateArc = 3
+
+abbrev pub referenceArc : ℕ
+referenceArc = 4
+
+abbrev pub payloadArc : ℕ
+payloadArc = 5
 
 abbrev pub specializeArc : ℕ
 specializeArc = 6

@@ -8,7 +8,7 @@ use Prim.Native.Nat.{ℕ, zero, suc, _+_}
 use lib.Dec.{eqb, ltb}
 use Rattle.model.specs.declared.Ordering.{Ordering}
 use Rattle.model.specs.declared.Ordering.the-variants.{Less, Equal, Greater}
-use Rattle.model.specs.Node.{inheritArc, relocateArc, specializeArc, Node, hasSpecializes, sameSite as sameSiteOf}
+use Rattle.model.specs.Node.{rootArc, inheritArc, variantArc, relocateArc, referenceArc, payloadArc, specializeArc, Node, hasSpecializes, sameSite as sameSiteOf}
 use Rattle.model.specs.Graph.{Graph, nodeAt, depthBelowIntroduction, isLocalRoot, inLocalStack}
 
 -- ---- What the comparison reads
@@ -28,9 +28,18 @@ pub record View : Type 0 where
   pub localRoot : ℕ → Bool
   pub localStack : ℕ → Bool
 
--- arcs rank in the order of their numbers, which is LIVERPS
-abbrev pub arcRank : ℕ → ℕ
-arcRank arc = arc
+-- Document 02, W5: what ranks two arcs "goes through local, inherits, variants, relocates,
+-- references, payloads and specializes in the page's sequence, a case each". The page is OpenUSD's
+-- LIVERPS, the strongest first; what is no arc comes last.
+unfoldable pub arcRank : ℕ → ℕ
+arcRank arc =
+    cond (eqb arc rootArc) 0  -- Local
+    (cond (eqb arc inheritArc) 1  -- Inherits
+    (cond (eqb arc variantArc) 2  -- Variants
+    (cond (eqb arc relocateArc) 3  -- rElocates
+    (cond (eqb arc referenceArc) 4  -- References
+    (cond (eqb arc payloadArc) 5  -- Payloads
+    (cond (eqb arc specializeArc) 6 7))))))  -- Specializes
 
 abbrev pub view : List Node → View
 view ns = record {

@@ -15,21 +15,11 @@ use Rattle.model.specs.declared.Ordering.{Ordering}
 use Rattle.model.specs.declared.Ordering.the-variants.{Less, Equal, Greater}
 use Rattle.model.specs.declared.OrderingResult.{OrderingResult}
 use Rattle.model.specs.declared.OrderingResult.the-variants.{As}
+use Rattle.laws.proofs.SmallerLaws.{same-number}
 use Rattle.laws.proofs.StrengthFlips.{flip, siblings-flip, nodes-flip, siblings-equal, siblings-same, nodes-equal}
 use Rattle.laws.proofs.StrengthLaws.{compare-same}
 
 -- ---- An answer is the definition's
-
-same-number : (x y : Ordering) → orderingNumber x ≡ orderingNumber y → x ≡ y
-same-number Less Less e = refl
-same-number Equal Equal e = refl
-same-number Greater Greater e = refl
-same-number Less Equal e = absurd (omega arith)
-same-number Less Greater e = absurd (omega arith)
-same-number Equal Less e = absurd (omega arith)
-same-number Equal Greater e = absurd (omega arith)
-same-number Greater Less e = absurd (omega arith)
-same-number Greater Equal e = absurd (omega arith)
 
 answered-as : (qs : List Question) (x o : Ordering) → AnsweredOrder qs x (As o) → o ≡ x
 answered-as qs x o a = same-number o x (a .value ∙ ap (λ (k : ℕ). valueUnless k (orderingNumber x)) (sym (a .refused)))
