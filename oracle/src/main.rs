@@ -34,6 +34,7 @@ usage: oracle answer                                 answer the lines on standar
        oracle script snapshots SEED COUNT            print lines that read COUNT damaged snapshots
        oracle script strength SEED COUNT             print lines that compare every pair of COUNT small graphs
        oracle script strength-large SEED COUNT       print lines that compare 2,000 pairs of COUNT large graphs
+       oracle script arcs                            print lines that compare siblings of each pair of arcs
        oracle script relations SEED COUNT            print lines that ask about nodes of COUNT small graphs
        oracle script orders SEED COUNT               print lines that order COUNT small graphs
        oracle script orders-large SEED COUNT         print lines that order COUNT larger graphs and some of 1,024 nodes
@@ -56,6 +57,7 @@ fn main() -> ExitCode {
     let printed = match words[..] {
         ["answer"] => Some(print(|out| stream::answer_all(&mut io::stdin().lock(), out, explained()))),
         ["script", "paths", seed] => seed.parse().ok().map(|seed| print(|out| scripts::paths(seed, out))),
+        ["script", "arcs"] => Some(print(|out| scripts::arcs(out))),
         ["script", "graphs", seed, count] => print_script(scripts::graphs, seed, count),
         ["script", "arenas", seed, count] => print_script(scripts::arenas, seed, count),
         ["script", "snapshots", seed, count] => print_script(scripts::snapshots, seed, count),

@@ -1,5 +1,6 @@
 //! Scripts: lines of the language, the same ones for the same seed.
 
+mod arcs;
 mod arenas;
 mod culls;
 mod erase_sets;
@@ -10,6 +11,7 @@ mod paths;
 mod snapshots;
 mod strength;
 
+pub use arcs::arcs;
 pub use arenas::arenas;
 pub use culls::{culls, culls_large};
 pub use graphs::graphs;

@@ -1,5 +1,7 @@
 //! The scripts that compare nodes, and the plain comparison beside the Rust's.
 
+use std::collections::HashMap;
+
 use plain::samples::graphs::snapshot;
 use plain::samples::strength::{SHAPES, random_pairs};
 use plain::strength::Strength;
@@ -7,6 +9,7 @@ use plain::strength::Strength;
 use super::{answers, printed};
 use crate::calls::graph_of;
 use crate::deciding::{self, deciding};
+use crate::pcp::prim_graph::ArcType::{self, Inherit, Payload, Reference, Relocate, Root, Specialize, Variant};
 use crate::pcp::prim_graph::NodeId;
 use crate::{scripts, timing};
 
@@ -58,6 +61,31 @@ fn relations() {
     for answer in ["0", "1", "-", "0 -", "1 2", "refused 3", "refused 4"] {
         assert!(answers.iter().any(|other| other == answer), "{answer}");
     }
+}
+
+/// Each pair of arcs that can be siblings is asked both ways round; where they differ, the one that comes first on
+/// OpenUSD's page is the stronger, whatever else the records say.
+#[test]
+fn arcs_as_the_page_has_them() {
+    const PAGE: [ArcType; 7] = [Root, Inherit, Variant, Relocate, Reference, Payload, Specialize];
+    let mut script = Vec::new();
+    scripts::arcs(&mut script).expect("memory takes every byte");
+    let script = String::from_utf8(script).expect("text");
+    let (mut arcs, mut pairs): (Vec<ArcType>, HashMap<_, usize>) = (Vec::new(), HashMap::new());
+    for (line, answer) in script.lines().zip(answers(&script)) {
+        match line.split(' ').collect::<Vec<_>>()[..] {
+            ["init", ..] => arcs = vec![Root],
+            ["add", _, arc, ..] => arcs.push(PAGE[arc.parse::<usize>().expect("a number")]),
+            ["sibling" | "compare", a, b] => {
+                let [a, b] = [a, b].map(|node| arcs[node.parse::<usize>().expect("a number")]);
+                let [x, y] = [a, b].map(|arc| PAGE.iter().position(|&other| other == arc));
+                assert!(x == y || answer == format!("{:?}", x.cmp(&y)), "{a:?} and {b:?}: {answer}");
+                *pairs.entry((x, y)).or_default() += 1;
+            }
+            _ => assert!(["new", "order", "list"].contains(&line), "{line}"),
+        }
+    }
+    assert!(pairs.len() == 48 && pairs.values().all(|&lines| lines == 1_024));
 }
 
 /// A script's graphs are those whose lines are counted.
