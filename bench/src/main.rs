@@ -1,5 +1,6 @@
 //! Holds the proved library to plain Rust, and measures it beside that, on the same input in one run.
 mod arenas;
+mod before;
 mod culling;
 mod erasures;
 mod graphs;
@@ -12,6 +13,7 @@ mod snapshots;
 mod stack;
 mod strength;
 mod time;
+mod turns;
 
 use std::env;
 use std::process::ExitCode;
@@ -22,6 +24,8 @@ usage: bench [paths]                  measure reading paths
        bench strength                 measure comparing nodes
        bench order                    measure ordering graphs, without question 2 and with it
        bench culling                  measure culling, the erasable set and erasing
+       bench before OTHER             measure comparing and ordering beside OTHER, this program with another library
+       bench turns WHAT SHAPE COUNT   measure one graph for a while for each line of input: what OTHER is asked
        bench arenas SEED COUNT        compare the check on COUNT damaged arenas, and on whole ones
        bench snapshots SEED COUNT     compare the reading of COUNT snapshots, whole and damaged
        bench orders SEED SMALL LARGE  compare the ordering of so many small graphs, and of so many large ones
@@ -38,6 +42,8 @@ fn main() -> ExitCode {
         ["strength"] => Some(strength::measure()),
         ["order"] => Some(order::measure()),
         ["culling"] => Some(culling::measure()),
+        ["before", other] => Some(before::measure(other)),
+        ["turns", what, shape, count] => before::serve(what, shape, count),
         ["arenas", seed, count] => on_numbers(seed, count, arenas::compare),
         ["snapshots", seed, count] => on_numbers(seed, count, snapshots::compare),
         ["orders", seed, small, large] => compare_orders(seed, small, large),

@@ -1,14 +1,13 @@
 //! Ordering a graph, without question 2 and with it, beside the Rust: turn and turn about, in one run.
 use std::hint::black_box;
-use std::io::{BufRead, BufReader, Write};
 use std::path::Path;
-use std::process::{Child, ChildStdout, Command, Stdio};
 use std::time::{Duration, Instant};
 
 use plain::layout::{ARENA_BYTES, ORDER_ENTRY, PRIM_COUNT, slot_at, u32_at};
 use plain::samples::graphs::{Node, snapshot};
 use plain::samples::ordered::ORDERED_SHAPES;
 
+use crate::turns::{self, Turns};
 use crate::{proved, time};
 
 const SIZES: [usize; 4] = [16, 64, 256, 1_024];
@@ -16,7 +15,6 @@ const SIZES: [usize; 4] = [16, 64, 256, 1_024];
 /// A graph has at least so many rounds, and they go on for so long. In each, the call and question 2 have turns for a while.
 const ROUNDS: usize = 5;
 const LONG: Duration = Duration::from_millis(1_000);
-const TURNS: Duration = Duration::from_millis(40);
 
 /// Prints the table, a line for each shape and size. Fails where there is no Rust.
 pub fn measure() -> bool {
@@ -77,30 +75,32 @@ impl Times {
 
 /// The least of all rounds, each of them the Rust's turns, then ours; our order must be the Rust's.
 fn times(shape: &str, nodes: Vec<Node>) -> Option<Times> {
-    let mut rust = Rust::start(shape, nodes.len())?;
+    let oracle = Path::new(env!("CARGO_MANIFEST_DIR")).join("../oracle/target/release/oracle");
+    let mut rust = Turns::start(&oracle, &["time-ordering", shape, &nodes.len().to_string()])?;
     let mut graph = Graph::new(&nodes);
     assert_eq!(proved::finalize_strength_order(&mut graph.arena), Ok(0));
     let our_sum = graph.order_sum();
     let (mut times, mut rounds) = (Times::MOST, 0);
     let begun = Instant::now();
     while rounds < ROUNDS || begun.elapsed() < LONG {
-        let (nanoseconds, sum) = rust.turns()?;
-        assert_eq!(our_sum, sum, "the order is the Rust's");
-        times = times.least(Times { rust: nanoseconds, ..graph.turns() });
+        let (nanoseconds, sum) = rust.turn()?;
+        assert_eq!(Ok(our_sum), sum.parse(), "the order is the Rust's");
+        let (call, check) = graph.turns();
+        times = times.least(Times { rust: nanoseconds.parse().ok()?, call, check });
         rounds += 1;
     }
     Some(times)
 }
 
 /// A graph in an arena, and what ordering writes of it: the header, and of each slot what stands before the record.
-struct Graph {
+pub struct Graph {
     size: usize,
     arena: Vec<u8>,
     unordered: Vec<[u8; PRIM_COUNT]>,
 }
 
 impl Graph {
-    fn new(nodes: &[Node]) -> Self {
+    pub fn new(nodes: &[Node]) -> Self {
         let mut arena = vec![0; ARENA_BYTES];
         assert_eq!(plain::snapshot::read(&snapshot(nodes), &mut arena), Ok(nodes.len()));
         let starts = [0].into_iter().chain((0..nodes.len()).map(slot_at));
@@ -113,53 +113,20 @@ impl Graph {
         starts.zip(&self.unordered).for_each(|(start, bytes)| self.arena[start..][..PRIM_COUNT].copy_from_slice(bytes));
     }
 
-    fn turns(&mut self) -> Times {
-        let call = time::least_after(TURNS, self, Self::put_back, |graph| {
+    /// The least of the turns of a while: the whole call, and question 2 alone.
+    pub fn turns(&mut self) -> (f64, f64) {
+        let call = time::least_after(turns::LONG, self, Self::put_back, |graph| {
             _ = black_box(proved::finalize_strength_order(black_box(&mut graph.arena)));
         });
-        let check = time::least_after(TURNS, self, Self::put_back, |graph| {
+        let check = time::least_after(turns::LONG, self, Self::put_back, |graph| {
             _ = black_box(proved::is_graph(black_box(&graph.arena)));
         });
-        Times { call, check, ..Times::MOST }
+        (call, check)
     }
 
     /// Each place times its node's number, as the oracle adds them up.
     fn order_sum(&self) -> u64 {
         let node = |place| u64::from(u32_at(&self.arena, slot_at(place) + ORDER_ENTRY));
         (0..self.size).map(|place| place as u64 * node(place)).sum()
-    }
-}
-
-/// `oracle time-ordering`: it orders a graph of its own for a while whenever it is sent a line.
-struct Rust {
-    process: Child,
-    answers: BufReader<ChildStdout>,
-}
-
-impl Rust {
-    fn start(shape: &str, size: usize) -> Option<Self> {
-        let oracle = Path::new(env!("CARGO_MANIFEST_DIR")).join("../oracle/target/release/oracle");
-        let mut command = Command::new(oracle);
-        command.args(["time-ordering", shape, &size.to_string()]).stdin(Stdio::piped()).stdout(Stdio::piped());
-        let mut process = command.spawn().ok()?;
-        let answers = BufReader::new(process.stdout.take()?);
-        Some(Self { process, answers })
-    }
-
-    /// Nanoseconds, the least of a few turns, and the sum of the order.
-    fn turns(&mut self) -> Option<(f64, u64)> {
-        self.process.stdin.as_mut()?.write_all(b"\n").ok()?;
-        let mut line = String::new();
-        self.answers.read_line(&mut line).ok()?;
-        let (nanoseconds, sum) = line.trim().split_once(' ')?;
-        Some((nanoseconds.parse().ok()?, sum.parse().ok()?))
-    }
-}
-
-impl Drop for Rust {
-    /// It ends when there is no more input.
-    fn drop(&mut self) {
-        drop(self.process.stdin.take());
-        _ = self.process.wait();
     }
 }

@@ -4,6 +4,7 @@ use std::fmt;
 use std::hint::black_box;
 use std::path::Path;
 use std::process::Command;
+use std::time::Duration;
 
 use plain::layout::ARENA_BYTES;
 use plain::samples::graphs::{Node, snapshot};
@@ -33,7 +34,7 @@ pub fn measure() -> bool {
 const MEASURED: &str = " the Rust    proved  ratio";
 
 /// A graph as an arena, and its pairs.
-struct Graph {
+pub struct Graph {
     size: usize,
     arena: Vec<u8>,
     /// How many pairs of siblings there are; `siblings` has them more than once where they are few.
@@ -43,7 +44,7 @@ struct Graph {
 }
 
 impl Graph {
-    fn new(nodes: Vec<Node>) -> Self {
+    pub fn new(nodes: Vec<Node>) -> Self {
         let mut arena = vec![0; ARENA_BYTES];
         assert_eq!(plain::snapshot::read(&snapshot(&nodes), &mut arena), Ok(nodes.len()));
         Self {
@@ -54,6 +55,32 @@ impl Graph {
             random: random_pairs(&nodes, MEASURED_PAIRS),
         }
     }
+
+    /// Nanoseconds for each pair, the least of the turns of so long a time: comparing with the questions, which are all
+    /// put before the first pair is compared, of the arena, then of every pair; and the questions alone. No pairs take
+    /// no time.
+    pub fn turns(&self, siblings: bool, long: Duration) -> (f64, f64) {
+        let (pairs, compare) = self.comparing(siblings);
+        let bytes = bytes(pairs);
+        if pairs.is_empty() {
+            return (0.0, 0.0);
+        }
+        let asking = time::least_within(long, || {
+            _ = black_box(proved::ask_pairs(black_box(&self.arena), black_box(&bytes), siblings));
+        });
+        let call = time::least_within(long, || _ = black_box(compare(black_box(&self.arena), black_box(&bytes))));
+        (call / pairs.len() as f64, asking / pairs.len() as f64)
+    }
+
+    /// The pairs, and what compares them.
+    fn comparing(&self, siblings: bool) -> (&[(u32, u32)], fn(&[u8], &[u8]) -> Result<u32, u32>) {
+        if siblings { (&self.siblings, proved::compare_sibling_pairs) } else { (&self.random, proved::compare_pairs) }
+    }
+}
+
+/// Each pair two big-endian numbers.
+fn bytes(pairs: &[(u32, u32)]) -> Vec<u8> {
+    pairs.iter().flat_map(|(a, b)| [a.to_be_bytes(), b.to_be_bytes()].concat()).collect()
 }
 
 fn compare(shape: &str, graph: &Graph) {
@@ -74,7 +101,7 @@ fn compare(shape: &str, graph: &Graph) {
 /// The Rust, then ours: of siblings and of random pairs.
 fn round(shape: &str, graph: &Graph) -> Option<[Times; 2]> {
     let [siblings, random] = time_of_the_rust(shape, graph.size)?;
-    Some([beside(graph, true, &graph.siblings, siblings), beside(graph, false, &graph.random, random)])
+    Some([beside(graph, true, siblings), beside(graph, false, random)])
 }
 
 /// Nanoseconds for each pair.
@@ -101,21 +128,13 @@ impl fmt::Display for Times {
     }
 }
 
-/// Ours are less what the questions take, which are all put before the first pair is compared: of the arena, then of every
-/// pair. The answers must have one sum. No pairs take no time.
-fn beside(graph: &Graph, siblings: bool, pairs: &[(u32, u32)], rust: Compared) -> Times {
-    let bytes: Vec<u8> = pairs.iter().flat_map(|(a, b)| [a.to_be_bytes(), b.to_be_bytes()].concat()).collect();
-    let compare = if siblings { proved::compare_sibling_pairs } else { proved::compare_pairs };
-    assert_eq!(compare(&graph.arena, &bytes), Ok(rust.sum), "the answers are the Rust's");
-    assert_eq!(proved::ask_pairs(&graph.arena, &bytes, siblings), Ok(0), "no pair is refused");
-    if pairs.is_empty() {
-        return Times { rust: 0.0, proved: 0.0 };
-    }
-    let asking =
-        time::least_for(|| _ = black_box(proved::ask_pairs(black_box(&graph.arena), black_box(&bytes), siblings)));
-    let call = time::least_for(|| _ = black_box(compare(black_box(&graph.arena), black_box(&bytes))));
-    let each = pairs.len() as f64;
-    Times { rust: rust.nanoseconds / each, proved: (call - asking) / each }
+/// Ours are less what the questions take. The answers must have one sum.
+fn beside(graph: &Graph, siblings: bool, rust: Compared) -> Times {
+    let (pairs, compare) = graph.comparing(siblings);
+    assert_eq!(compare(&graph.arena, &bytes(pairs)), Ok(rust.sum), "the answers are the Rust's");
+    assert_eq!(proved::ask_pairs(&graph.arena, &bytes(pairs), siblings), Ok(0), "no pair is refused");
+    let (call, asking) = graph.turns(siblings, time::LONG);
+    Times { rust: rust.nanoseconds / pairs.len().max(1) as f64, proved: call - asking }
 }
 
 /// One public call on the last two nodes.

@@ -19,12 +19,19 @@ pub fn least(turns: usize, runs: usize, mut one: impl FnMut(), mut other: impl F
     both.fold((f64::MAX, f64::MAX), |least, both| (least.0.min(both.0), least.1.min(both.1)))
 }
 
-/// Nanoseconds for one run that takes long: the least of those made in a fifth of a second.
-pub fn least_for(mut run: impl FnMut()) -> f64 {
-    const LONG: Duration = Duration::from_millis(200);
+/// Turns of runs that take long go on for a fifth of a second.
+pub const LONG: Duration = Duration::from_millis(200);
+
+/// Nanoseconds for one run that takes long: the least of those made in that time.
+pub fn least_for(run: impl FnMut()) -> f64 {
+    least_within(LONG, run)
+}
+
+/// The same in so long a time.
+pub fn least_within(long: Duration, mut run: impl FnMut()) -> f64 {
     let begun = Instant::now();
     let mut least = f64::MAX;
-    while least == f64::MAX || begun.elapsed() < LONG {
+    while least == f64::MAX || begun.elapsed() < long {
         least = least.min(turn(1, &mut run));
     }
     least

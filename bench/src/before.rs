@@ -1,0 +1,95 @@
+//! The proved library beside that of another commit: two processes of this program, each with its own library, turn and
+//! turn about on the same graphs. What the questions take is measured beside each and taken off.
+use std::env;
+use std::path::Path;
+use std::time::{Duration, Instant};
+
+use plain::samples::ordered::ORDERED_SHAPES;
+use plain::samples::strength::SHAPES;
+
+use crate::turns::{self, Turns};
+use crate::{order, strength};
+
+const SIZES: [usize; 4] = [16, 64, 256, 1_024];
+
+/// The turns on a graph go on for so long, and there are at least so many.
+const LONG: Duration = Duration::from_millis(2_000);
+const LEAST: usize = 10;
+
+/// What is measured, and on which shapes.
+fn measured() -> [(&'static str, Vec<&'static str>); 3] {
+    let compared = || SHAPES.iter().map(|(name, _)| *name).collect();
+    let ordered = ORDERED_SHAPES.iter().map(|(name, _)| *name).collect();
+    [("siblings", compared()), ("nodes", compared()), ("order", ordered)]
+}
+
+/// Prints a line for each graph: nanoseconds before, now, and their ratio. `other` is this program with the library of
+/// another commit. Fails where one of the two does not answer.
+pub fn measure(other: &str) -> bool {
+    println!("nanoseconds for a pair, and for ordering a graph, without the questions\n");
+    println!("| what | shape | nodes | before | now | now / before |");
+    println!("|---|---|---|---|---|---|");
+    measured().iter().all(|(what, shapes)| {
+        let graphs = shapes.iter().flat_map(|shape| SIZES.map(|size| (shape, size)));
+        graphs.into_iter().all(|(shape, size)| compare(other, what, shape, size).is_some())
+    })
+}
+
+/// A graph without pairs has no line.
+fn compare(other: &str, what: &str, shape: &str, size: usize) -> Option<()> {
+    let words = ["turns", what, shape, &size.to_string()];
+    let mut sides = [Turns::start(Path::new(other), &words)?, Turns::start(&env::current_exe().ok()?, &words)?];
+    let mut least = [Times::MOST; 2];
+    let begun = Instant::now();
+    let mut rounds = 0;
+    while rounds < LEAST || begun.elapsed() < LONG {
+        for (times, side) in least.iter_mut().zip(&mut sides) {
+            let (call, questions) = side.turn()?;
+            *times = times.least(Times { call: call.parse().ok()?, questions: questions.parse().ok()? });
+        }
+        rounds += 1;
+    }
+    let [before, now] = least.map(Times::without);
+    if now > 0.0 {
+        println!("| {what} | {shape} | {size} | {before:.2} | {now:.2} | {:.3} |", now / before);
+    }
+    Some(())
+}
+
+/// Nanoseconds: the whole call, and its questions alone.
+#[derive(Clone, Copy)]
+struct Times {
+    call: f64,
+    questions: f64,
+}
+
+impl Times {
+    const MOST: Self = Self { call: f64::MAX, questions: f64::MAX };
+
+    fn least(self, other: Self) -> Self {
+        Self { call: self.call.min(other.call), questions: self.questions.min(other.questions) }
+    }
+
+    fn without(self) -> f64 {
+        self.call - self.questions
+    }
+}
+
+/// Answers the turns of one graph; nothing where there is no such shape.
+pub fn serve(what: &str, shape: &str, size: &str) -> Option<bool> {
+    let size: usize = size.parse().ok()?;
+    let answered = match what {
+        "siblings" | "nodes" => {
+            let (_, nodes) = SHAPES.iter().find(|(name, _)| *name == shape)?;
+            let graph = strength::Graph::new(nodes(size));
+            turns::serve(|| graph.turns(what == "siblings", turns::LONG))
+        }
+        "order" => {
+            let (_, nodes) = ORDERED_SHAPES.iter().find(|(name, _)| *name == shape)?;
+            let mut graph = order::Graph::new(&nodes(size));
+            turns::serve(|| graph.turns())
+        }
+        _ => return None,
+    };
+    Some(answered.is_ok())
+}
