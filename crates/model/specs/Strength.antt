@@ -30,7 +30,7 @@ pub record View : Type 0 where
 
 -- Document 02, W5: what ranks two arcs "goes through local, inherits, variants, relocates,
 -- references, payloads and specializes in the page's sequence, a case each". The page is OpenUSD's
--- LIVERPS, the strongest first; what is no arc comes last.
+-- LIVERPS, the strongest first. What is no arc comes after them, by its number.
 unfoldable pub arcRank : ℕ → ℕ
 arcRank arc =
     cond (eqb arc rootArc) 0  -- Local
@@ -39,7 +39,7 @@ arcRank arc =
     (cond (eqb arc relocateArc) 3  -- rElocates
     (cond (eqb arc referenceArc) 4  -- References
     (cond (eqb arc payloadArc) 5  -- Payloads
-    (cond (eqb arc specializeArc) 6 7))))))  -- Specializes
+    (cond (eqb arc specializeArc) 6 arc))))))  -- Specializes
 
 abbrev pub view : List Node → View
 view ns = record {

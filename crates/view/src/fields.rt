@@ -29,7 +29,7 @@ pub fn arc(arena: &[u8], n: u32) -> u8
 }
 
 // The rank of an arc, the smaller the stronger: OpenUSD's LIVERPS in the page's sequence, a case
-// each. What is no arc comes last.
+// each. What is no arc comes after them, by its number.
 fn arc_rank(arc: u8) -> u8
     ensures { λ r. ⌜ r ≡ arcRank arc ⌝ }
 {
@@ -41,7 +41,7 @@ fn arc_rank(arc: u8) -> u8
         arena::arcs::REFERENCE => 4, // References
         arena::arcs::PAYLOAD => 5, // Payloads
         arena::arcs::SPECIALIZE => 6, // Specializes
-        _ => 7,
+        _ => arc,
     }
 }
 
