@@ -17,22 +17,29 @@ const LONG: Duration = Duration::from_millis(2_000);
 const LEAST: usize = 10;
 
 /// What is measured, and on which shapes.
-fn measured() -> [(&'static str, Vec<&'static str>); 3] {
-    let compared = || SHAPES.iter().map(|(name, _)| *name).collect();
-    let ordered = ORDERED_SHAPES.iter().map(|(name, _)| *name).collect();
-    [("siblings", compared()), ("nodes", compared()), ("order", ordered)]
+fn measured() -> impl Iterator<Item = (&'static str, &'static str)> {
+    let compared = |what| SHAPES.iter().map(move |(name, _)| (what, *name));
+    let ordered = ORDERED_SHAPES.iter().map(|(name, _)| ("order", *name));
+    compared("siblings").chain(compared("nodes")).chain(ordered)
 }
 
-/// Prints a line for each graph: nanoseconds before, now, and their ratio. `other` is this program with the library of
-/// another commit. Fails where one of the two does not answer.
-pub fn measure(other: &str) -> bool {
+/// Prints a line for each graph, or for those of one shape: nanoseconds before, now, and their ratio. `other` is this
+/// program with the library of another commit. Fails where one of the two does not answer; no such shape gives nothing.
+pub fn measure(other: &str, only: Option<&str>) -> Option<bool> {
+    let shapes: Vec<_> = measured().filter(|(_, shape)| only.is_none_or(|only| only == *shape)).collect();
+    shapes.first()?;
     println!("nanoseconds for a pair, and for ordering a graph, without the questions\n");
     println!("| what | shape | nodes | before | now | now / before |");
     println!("|---|---|---|---|---|---|");
-    measured().iter().all(|(what, shapes)| {
-        let graphs = shapes.iter().flat_map(|shape| SIZES.map(|size| (shape, size)));
-        graphs.into_iter().all(|(shape, size)| compare(other, what, shape, size).is_some())
-    })
+    for (what, shape) in shapes {
+        for size in SIZES {
+            if compare(other, what, shape, size).is_none() {
+                println!("build {other} first: it measures no {what} of {shape} of {size} nodes");
+                return Some(false);
+            }
+        }
+    }
+    Some(true)
 }
 
 /// A graph without pairs has no line.

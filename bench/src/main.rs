@@ -24,7 +24,7 @@ usage: bench [paths]                  measure reading paths
        bench strength                 measure comparing nodes
        bench order                    measure ordering graphs, without question 2 and with it
        bench culling                  measure culling, the erasable set and erasing
-       bench before OTHER             measure comparing and ordering beside OTHER, this program with another library
+       bench before OTHER [SHAPE]     measure comparing and ordering beside OTHER, this program with another library
        bench turns WHAT SHAPE COUNT   measure one graph for a while for each line of input: what OTHER is asked
        bench arenas SEED COUNT        compare the check on COUNT damaged arenas, and on whole ones
        bench snapshots SEED COUNT     compare the reading of COUNT snapshots, whole and damaged
@@ -42,7 +42,8 @@ fn main() -> ExitCode {
         ["strength"] => Some(strength::measure()),
         ["order"] => Some(order::measure()),
         ["culling"] => Some(culling::measure()),
-        ["before", other] => Some(before::measure(other)),
+        ["before", other] => before::measure(other, None),
+        ["before", other, shape] => before::measure(other, Some(shape)),
         ["turns", what, shape, count] => before::serve(what, shape, count),
         ["arenas", seed, count] => on_numbers(seed, count, arenas::compare),
         ["snapshots", seed, count] => on_numbers(seed, count, snapshots::compare),
