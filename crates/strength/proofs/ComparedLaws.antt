@@ -1,10 +1,9 @@
 -- The laws of the definitions, restated for the answers of the two comparisons: the other way round
 -- Less and Greater change places (`nodes-flip-answers`, `siblings-flip-answers`), and Equal is for
 -- a node and itself alone. Assumes nothing.
-use mathlib.Core.Path.{_≡_, refl, sym, ap, _∙_}
+use mathlib.Core.Path.{_≡_, sym, ap, _∙_}
 use mathlib.Core.List.{List}
 use Prim.Native.Nat.{ℕ}
-use native.Mathlib.Omega.{arith}
 use Rattle.model.specs.Refusals.{Question}
 use Rattle.model.specs.Answers.{orderingNumber}
 use Rattle.model.specs.Calls.{comparesNodes, comparesSiblings}
@@ -12,7 +11,7 @@ use Rattle.model.specs.Strength.{View, viewOf, compareSiblingNodeStrength, comp
 use Rattle.model.specs.Arena.{decode}
 use Rattle.model.specs.ArenaCalls.{askArena, valueUnless, AnsweredOrder}
 use Rattle.model.specs.declared.Ordering.{Ordering}
-use Rattle.model.specs.declared.Ordering.the-variants.{Less, Equal, Greater}
+use Rattle.model.specs.declared.Ordering.the-variants.{Equal}
 use Rattle.model.specs.declared.OrderingResult.{OrderingResult}
 use Rattle.model.specs.declared.OrderingResult.the-variants.{As}
 use Rattle.laws.proofs.SmallerLaws.{same-number}
