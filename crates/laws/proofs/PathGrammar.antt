@@ -1,5 +1,5 @@
--- Document 01's grammar of paths, by the last element of a path, and that the automaton of
--- specs/Path.antt decides it: the reading of the paths of the grammar may end (`grammar-may-end`),
+-- Document 01's grammar of paths, with the selections of document 02, W2, by the last element of a
+-- path, and that the automaton of specs/Path.antt decides it: the reading of the paths of the grammar may end (`grammar-may-end`),
 -- and that of no others (`may-end-grammar`); with the limit, `well-formed-decides`. Assumes
 -- nothing.
 use mathlib.Core.Path.{_≡_, refl, sym, _∙_}
@@ -11,8 +11,8 @@ use native.Mathlib.Omega.{arith}
 use lib.Dec.{eqb, leb}
 use lib.ListN.{length}
 use borrow.Author.Tests.{eqb-true, leb-true, le-leb}
-use Rattle.model.specs.Path.{solidus, openBrace, closeBrace, equalsSign, isNameStart, isWordByte, isSelectionByte, State, start, root, slash, name, setStart, set, selectionStart, selection, closed, dead, step, run, mayEnd, wellFormed, inName, enters, names, separator, appendName}
-use Rattle.laws.proofs.PathLemmas.{AllPass, all-pass-append, all-pass-weaken, snoc-induction, Edge, begins, root-name, slash-name, closed-name, in-name, name-slash, name-opens, closed-opens, set-begins, in-set, set-ends, selection-begins, in-selection, closes, fails, edge, may-end-not-empty, Ended, at-root, at-name, at-closed, ended, run-append, names-append, name-start-is-word, selection-byte-is-word, state-ending, separator-root, separator-name, separator-closed}
+use Rattle.model.specs.Path.{solidus, openBrace, closeBrace, equalsSign, isNameStart, isWordByte, isSelectionByte, State, start, root, slash, name, setStart, set, selection, closed, dead, step, run, mayEnd, wellFormed, inName, enters, names, separator, appendName}
+use Rattle.laws.proofs.PathLemmas.{AllPass, all-pass-append, all-pass-weaken, snoc-induction, Edge, begins, root-name, slash-name, closed-name, in-name, name-slash, name-opens, closed-opens, set-begins, in-set, set-ends, in-selection, closes, fails, edge, may-end-not-empty, Ended, at-root, at-name, at-closed, ended, run-append, names-append, name-start-is-word, state-ending, separator-root, separator-name, separator-closed}
 
 -- ---- The grammar
 
@@ -22,13 +22,19 @@ abbrev pub OneOrMore : (ℕ → Bool) → (ℕ → Bool) → List ℕ → Type 0
 OneOrMore first more [] = ⊥
 OneOrMore first more (b ∷ bs) = (first b ≡ true) × AllPass more bs
 
--- "Names, sets and selections are one or more ASCII letters, digits or `_`; names and sets do not
--- begin with a digit"
+-- names and sets "are one or more ASCII letters, digits or `_`; names and sets do not begin with a
+-- digit", and W2 lets them "remain as before"
 abbrev pub Name : List ℕ → Type 0
 Name = OneOrMore isNameStart isWordByte
 
+-- "a selection is any run, also of length nothing, of letters, digits, `_`, `-` and `|`" (W2)
 abbrev pub Selection : List ℕ → Type 0
-Selection = OneOrMore isSelectionByte isSelectionByte
+Selection = AllPass isSelectionByte
+
+former-selection : (v : List ℕ) → OneOrMore isWordByte isWordByte v → Selection v
+unfolding isSelectionByte
+former-selection [] n = absurd n
+former-selection (b ∷ v) n = all-pass-weaken isWordByte isSelectionByte (λ c e. rw e) (b ∷ v) n
 
 -- p{s=v}
 abbrev pub select : List ℕ → List ℕ → List ℕ → List ℕ
@@ -36,19 +42,27 @@ select p s v = p ++ openBrace ∷ s ++ equalsSign ∷ v ++ closeBrace ∷ []
 
 -- "A path is `/`, or `/` then a prim name, then any run of: `/name`; `{set=selection}`; and,
 -- straight after `}`, a name with no slash. After `}` a slash is malformed": `/`, or a path with a
--- name appended (by a slash, but not after `/` or `}`), or a path other than `/` with a selection.
-pub data Grammar : List ℕ → Type 0 where
-  only-slash : {q : List ℕ} → q ≡ solidus ∷ [] → Grammar q
-  named : {q : List ℕ} (p w : List ℕ) → Grammar p → Name w → q ≡ appendName p w → Grammar q
-  selected : {q : List ℕ} (p s v : List ℕ) → Grammar p → p ≢ solidus ∷ [] → Name s → Selection v → q ≡ select p s v → Grammar q
+-- name appended (by a slash, but not after `/` or `}`), or a path other than `/` with a selection,
+-- of those that may be selected.
+pub data GrammarOf (Selected : List ℕ → Type 0) : List ℕ → Type 0 where
+  only-slash : {q : List ℕ} → q ≡ solidus ∷ [] → GrammarOf Selected q
+  named : {q : List ℕ} (p w : List ℕ) → GrammarOf Selected p → Name w → q ≡ appendName p w → GrammarOf Selected q
+  selected : {q : List ℕ} (p s v : List ℕ) → GrammarOf Selected p → p ≢ solidus ∷ [] → Name s → Selected v → q ≡ select p s v
+      → GrammarOf Selected q
+
+abbrev pub Grammar : List ℕ → Type 0
+Grammar = GrammarOf Selection
+
+-- Every path of document 01, whose selections "are one or more ASCII letters, digits or `_`", is one
+-- still.
+pub former-grammar : {p : List ℕ} → GrammarOf (OneOrMore isWordByte isWordByte) p → Grammar p
+former-grammar (only-slash k) = only-slash k
+former-grammar (named p w g n k) = named p w (former-grammar g) n k
+former-grammar (selected p s v g d m n k) = selected p s v (former-grammar g) d m (former-selection v n) k
 
 pub name-is-word : (w : List ℕ) → Name w → AllPass isWordByte w
 name-is-word [] n = absurd n
 name-is-word (b ∷ w) n = (name-start-is-word b (n .0), n .1)
-
-pub selection-is-word : (v : List ℕ) → Selection v → AllPass isWordByte v
-selection-is-word [] n = absurd n
-selection-is-word (b ∷ v) n = all-pass-weaken isSelectionByte isWordByte selection-byte-is-word (b ∷ v) n
 
 -- ---- What may end is in the grammar
 
@@ -60,8 +74,6 @@ data Reading : State → List ℕ → Type 0 where
   read-name : {q : List ℕ} (p w : List ℕ) → Grammar p → Name w → q ≡ appendName p w → Reading name q
   read-brace : {q : List ℕ} (p : List ℕ) → Grammar p → p ≢ solidus ∷ [] → q ≡ p ++ openBrace ∷ [] → Reading setStart q
   read-set : {q : List ℕ} (p s : List ℕ) → Grammar p → p ≢ solidus ∷ [] → Name s → q ≡ p ++ openBrace ∷ s → Reading set q
-  read-equals : {q : List ℕ} (p s : List ℕ) → Grammar p → p ≢ solidus ∷ [] → Name s → q ≡ p ++ openBrace ∷ s ++ equalsSign ∷ []
-      → Reading selectionStart q
   read-selection : {q : List ℕ} (p s v : List ℕ) → Grammar p → p ≢ solidus ∷ [] → Name s → Selection v
       → q ≡ p ++ openBrace ∷ s ++ equalsSign ∷ v → Reading selection q
   read-closed : {q : List ℕ} (p s v : List ℕ) → Grammar p → p ≢ solidus ∷ [] → Name s → Selection v → q ≡ select p s v → Reading closed q
@@ -103,11 +115,9 @@ edge-reads {b} {q} f (closed-opens e) (read-closed p s v g d m n k) =
 edge-reads {b} f (set-begins e) (read-brace p g d k) = read-set p (b ∷ []) g d (e, tt) (grows b p (openBrace ∷ []) k)
 edge-reads {b} f (in-set e) (read-set p s g d m k) =
     read-set p (s ++ b ∷ []) g d (one-more isNameStart isWordByte s b m e) (grows b p (openBrace ∷ s) k)
-edge-reads {b} f (set-ends e) (read-set p s g d m k) = read-equals p s g d m (then-byte b equalsSign (p ++ openBrace ∷ s) k e)
-edge-reads {b} f (selection-begins e) (read-equals p s g d m k) =
-    read-selection p s (b ∷ []) g d m (e, tt) (grows b (p ++ openBrace ∷ s) (equalsSign ∷ []) k)
+edge-reads {b} f (set-ends e) (read-set p s g d m k) = read-selection p s [] g d m tt (then-byte b equalsSign (p ++ openBrace ∷ s) k e)
 edge-reads {b} f (in-selection e) (read-selection p s v g d m n k) =
-    read-selection p s (v ++ b ∷ []) g d m (one-more isSelectionByte isSelectionByte v b n e) (grows b (p ++ openBrace ∷ s) (equalsSign ∷ v) k)
+    read-selection p s (v ++ b ∷ []) g d m (all-pass-append isSelectionByte v (b ∷ []) n (e, tt)) (grows b (p ++ openBrace ∷ s) (equalsSign ∷ v) k)
 edge-reads {b} f (closes e) (read-selection p s v g d m n k) =
     read-closed p s v g d m n (then-byte b closeBrace (p ++ openBrace ∷ s ++ equalsSign ∷ v) k e)
 edge-reads f fails h = read-dead
@@ -124,7 +134,6 @@ read-grammar e (read-slash p g h k) = absurd (false≢true e)
 read-grammar e (read-name p w g n k) = named p w g n k
 read-grammar e (read-brace p g d k) = absurd (false≢true e)
 read-grammar e (read-set p s g d m k) = absurd (false≢true e)
-read-grammar e (read-equals p s g d m k) = absurd (false≢true e)
 read-grammar e (read-selection p s v g d m n k) = absurd (false≢true e)
 read-grammar e (read-closed p s v g d m n k) = selected p s v g d m n k
 read-grammar e read-dead = absurd (false≢true e)
@@ -174,8 +183,8 @@ module _ (p s v : List ℕ) (e : mayEnd (run start p) ≡ true) (d : p ≢ solid
   set-runs : (run setStart s ≡ set) × (names setStart s ≡ 0)
   set-runs = reads-word isNameStart isWordByte setStart set (λ b t. rw t) (λ b t. rw t) s m
 
-  selection-runs : (run selectionStart v ≡ selection) × (names selectionStart v ≡ 0)
-  selection-runs = reads-word isSelectionByte isSelectionByte selectionStart selection (λ b t. rw t) (λ b t. rw t) v n
+  selection-runs : (run selection v ≡ selection) × (names selection v ≡ 0)
+  selection-runs = reads-on isSelectionByte selection (λ b t. rw t) v n
 
   to-set : (run start (p ++ openBrace ∷ s) ≡ set) × (names start (p ++ openBrace ∷ s) ≡ names start p)
   to-set =

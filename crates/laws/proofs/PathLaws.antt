@@ -207,9 +207,9 @@ example-name : Name (bytes "C")
 unfolding isNameStart
 example-name = (refl, tt)
 
-example-selection : Selection (bytes "1")
+example-selection : Selection (bytes "-|")
 unfolding isSelectionByte isWordByte isNameStart
-example-selection = (refl, tt)
+example-selection = (refl, (refl, tt))
 
 example-append : (wellFormed (appendName example (bytes "C")) ≡ true) × (parent (appendName example (bytes "C")) ≡ example)
 unfolding appendName separator
@@ -221,8 +221,11 @@ example-append = (
 example-intro : wellFormed (pathAtIntroDepth 1 example) ≡ true
 example-intro = intro-well-formed 1 example example-well-formed
 
-example-select : parent (select example (bytes "C") (bytes "1")) ≡ example
-example-select = parent-select example (bytes "C") (bytes "1") example-name example-selection
+example-select : parent (select example (bytes "C") (bytes "-|")) ≡ example
+example-select = parent-select example (bytes "C") (bytes "-|") example-name example-selection
+
+example-select-nothing : parent (select example (bytes "C") []) ≡ example
+example-select-nothing = parent-select example (bytes "C") [] example-name tt
 
 example-parent : wellFormed (parent example) ≡ true
 example-parent = parent-well-formed example example-well-formed (λ e. omega (arith, ap length e))

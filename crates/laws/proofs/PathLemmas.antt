@@ -11,7 +11,7 @@ use lib.Dec.{eqb}
 use lib.ListN.{length, getD, take, length-append, List·getD-append}
 use lib.Seq.{append-snoc, getD-append-seam, getD-take}
 use borrow.Author.Tests.{eqb-true, eq-eqb, ne-eqb, not-true}
-use Rattle.model.specs.Path.{solidus, openBrace, closeBrace, equalsSign, isNameStart, isWordByte, isSelectionByte, State, start, root, slash, name, setStart, set, selectionStart, selection, closed, dead, step, run, mayEnd, enters, names, afterLast, endsIn, beforeName, nameStart, withoutSelections, introStep, introLength, separator}
+use Rattle.model.specs.Path.{solidus, openBrace, closeBrace, equalsSign, isNameStart, isWordByte, isSelectionByte, State, start, root, slash, name, setStart, set, selection, closed, dead, step, run, mayEnd, enters, names, afterLast, endsIn, beforeName, nameStart, withoutSelections, introStep, introLength, separator}
 
 -- ---- Lists of bytes
 
@@ -53,8 +53,7 @@ pub data Edge : State → ℕ → State → Type 0 where
   closed-opens : {b : ℕ} → eqb b openBrace ≡ true → Edge closed b setStart
   set-begins : {b : ℕ} → isNameStart b ≡ true → Edge setStart b set
   in-set : {b : ℕ} → isWordByte b ≡ true → Edge set b set
-  set-ends : {b : ℕ} → eqb b equalsSign ≡ true → Edge set b selectionStart
-  selection-begins : {b : ℕ} → isSelectionByte b ≡ true → Edge selectionStart b selection
+  set-ends : {b : ℕ} → eqb b equalsSign ≡ true → Edge set b selection
   in-selection : {b : ℕ} → isSelectionByte b ≡ true → Edge selection b selection
   closes : {b : ℕ} → eqb b closeBrace ≡ true → Edge selection b closed
   fails : {q : State} {b : ℕ} → Edge q b dead
@@ -73,9 +72,8 @@ edge name b =
     (pick (Edge name b) (eqb b openBrace) setStart dead name-opens fails))
 edge setStart b = pick (Edge setStart b) (isNameStart b) set dead set-begins fails
 edge set b =
-    pick (Edge set b) (isWordByte b) set (cond (eqb b equalsSign) selectionStart dead) in-set
-    (pick (Edge set b) (eqb b equalsSign) selectionStart dead set-ends fails)
-edge selectionStart b = pick (Edge selectionStart b) (isSelectionByte b) selection dead selection-begins fails
+    pick (Edge set b) (isWordByte b) set (cond (eqb b equalsSign) selection dead) in-set
+    (pick (Edge set b) (eqb b equalsSign) selection dead set-ends fails)
 edge selection b =
     pick (Edge selection b) (isSelectionByte b) selection (cond (eqb b closeBrace) closed dead) in-selection
     (pick (Edge selection b) (eqb b closeBrace) closed dead closes fails)
@@ -97,7 +95,6 @@ ended slash e = absurd (false≢true e)
 ended name e = at-name refl
 ended setStart e = absurd (false≢true e)
 ended set e = absurd (false≢true e)
-ended selectionStart e = absurd (false≢true e)
 ended selection e = absurd (false≢true e)
 ended closed e = at-closed refl
 ended dead e = absurd (false≢true e)
@@ -122,7 +119,6 @@ inHand slash = 1
 inHand name = 0
 inHand setStart = 1
 inHand set = 1
-inHand selectionStart = 1
 inHand selection = 1
 inHand closed = 1
 inHand dead = 0
@@ -139,7 +135,6 @@ edge-pays (closed-opens e) = omega arith
 edge-pays (set-begins e) = omega arith
 edge-pays (in-set e) = omega arith
 edge-pays (set-ends e) = omega arith
-edge-pays (selection-begins e) = omega arith
 edge-pays (in-selection e) = omega arith
 edge-pays (closes e) = omega arith
 edge-pays {q} fails = simp and-false (omega arith)
@@ -153,10 +148,6 @@ names-half q (b ∷ bs) = omega (arith, edge-pays (edge q b), names-half (step q
 pub name-start-is-word : (b : ℕ) → isNameStart b ≡ true → isWordByte b ≡ true
 unfolding isWordByte
 name-start-is-word b e = rw e
-
-pub selection-byte-is-word : (b : ℕ) → isSelectionByte b ≡ true → isWordByte b ≡ true
-unfolding isSelectionByte
-selection-byte-is-word b e = e
 
 -- a byte that is not b
 abbrev pub other : ℕ → ℕ → Bool
@@ -178,11 +169,18 @@ pub close-brace-marks : Marker closeBrace
 unfolding isWordByte isNameStart
 close-brace-marks = refl
 
-pub word-byte-other : (b : ℕ) → Marker b → (c : ℕ) → isWordByte c ≡ true → eqb c b ≡ false
-word-byte-other b m c e = ne-eqb c b (λ q. true≢false (sym e ∙ ap isWordByte q ∙ m))
+-- `|` stands between the braces, and is none
+pub open-brace-no-selection : isSelectionByte openBrace ≡ false
+unfolding isSelectionByte isWordByte isNameStart
+open-brace-no-selection = refl
 
-pub word-other : (b : ℕ) → Marker b → (w : List ℕ) → AllPass isWordByte w → AllPass (other b) w
-word-other b m = all-pass-weaken isWordByte (other b) (λ c e. ap not (word-byte-other b m c e))
+-- what passes a test that b fails is another byte than b
+module _ (f : ℕ → Bool) (b : ℕ) (m : f b ≡ false) where
+  passed-other : (c : ℕ) → f c ≡ true → eqb c b ≡ false
+  passed-other c e = ne-eqb c b (λ q. true≢false (sym e ∙ ap f q ∙ m))
+
+  pub all-pass-other : (w : List ℕ) → AllPass f w → AllPass (other b) w
+  all-pass-other = all-pass-weaken f (other b) (λ c e. ap not (passed-other c e))
 
 -- ---- Searches from the end answer no more than they were given
 
@@ -290,7 +288,7 @@ after-last-past b p (c ∷ bs) h =
 -- past a word
 module _ (p w : List ℕ) (h : AllPass isWordByte w) where
   after-last-past-word : (b : ℕ) → Marker b → afterLast b (p ++ w) (length (p ++ w)) ≡ afterLast b p (length p)
-  after-last-past-word b m = after-last-past b p w (word-other b m w h)
+  after-last-past-word b m = after-last-past b p w (all-pass-other isWordByte b m w h)
 
   pub before-name-past : beforeName (p ++ w) (length (p ++ w)) ≡ beforeName p (length p)
   unfolding beforeName
@@ -342,15 +340,14 @@ Ending slash p = Unit {0}
 Ending name p = (endsIn solidus p (length p) ≡ false) × (endsIn closeBrace p (length p) ≡ false)
 Ending setStart p = Unit {0}
 Ending set p = Unit {0}
-Ending selectionStart p = Unit {0}
 Ending selection p = Unit {0}
 Ending closed p = endsIn closeBrace p (length p) ≡ true
 Ending dead p = Unit {0}
 
 word-ending : (p : List ℕ) (b : ℕ) → isWordByte b ≡ true → Ending name (p ++ b ∷ [])
 word-ending p b e = (
-  ends-in-snoc p b solidus ∙ word-byte-other solidus solidus-marks b e,
-  ends-in-snoc p b closeBrace ∙ word-byte-other closeBrace close-brace-marks b e,
+  ends-in-snoc p b solidus ∙ passed-other isWordByte solidus solidus-marks b e,
+  ends-in-snoc p b closeBrace ∙ passed-other isWordByte closeBrace close-brace-marks b e,
 )
 
 edge-ending : (p : List ℕ) {q : State} {b : ℕ} {r : State} → Edge q b r → Ending q p → Ending r (p ++ b ∷ [])
@@ -365,7 +362,6 @@ edge-ending p (closed-opens e) h = tt
 edge-ending p (set-begins e) h = tt
 edge-ending p (in-set e) h = tt
 edge-ending p (set-ends e) h = tt
-edge-ending p (selection-begins e) h = tt
 edge-ending p (in-selection e) h = tt
 edge-ending p {b} (closes e) h = ends-in-snoc p b closeBrace ∙ e
 edge-ending p fails h = tt

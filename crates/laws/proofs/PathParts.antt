@@ -7,9 +7,9 @@ use Prim.Native.Nat.{ℕ, suc, _≤_, _<_}
 use native.Mathlib.Omega.{arith}
 use lib.ListN.{length, take, length-append}
 use lib.Seq.{take-append-seam, take-append-le}
-use Rattle.model.specs.Path.{solidus, openBrace, closeBrace, equalsSign, start, root, name, closed, run, mayEnd, afterLast, endsIn, beforeName, nameStart, separator, appendName, withoutSelections, introStep}
-use Rattle.laws.proofs.PathLemmas.{AllPass, all-pass-append, length-snoc, may-end-not-empty, Ended, at-root, at-name, at-closed, ended, other, open-brace-marks, word-other, same-below-append, before-name-local, without-selections-le, after-last-le, after-last-snoc, after-last-at, after-last-of-end, before-name-past, name-start-past, ends-in-snoc, without-selections-over, without-selections-none, state-ending, separator-root, separator-name, separator-closed}
-use Rattle.laws.proofs.PathGrammar.{Name, Selection, select, name-is-word, selection-is-word, append-runs}
+use Rattle.model.specs.Path.{solidus, openBrace, closeBrace, equalsSign, isWordByte, isSelectionByte, start, root, name, closed, run, mayEnd, afterLast, endsIn, beforeName, nameStart, separator, appendName, withoutSelections, introStep}
+use Rattle.laws.proofs.PathLemmas.{AllPass, all-pass-append, length-snoc, may-end-not-empty, Ended, at-root, at-name, at-closed, ended, other, open-brace-marks, open-brace-no-selection, all-pass-other, same-below-append, before-name-local, without-selections-le, after-last-le, after-last-snoc, after-last-at, after-last-of-end, before-name-past, name-start-past, ends-in-snoc, without-selections-over, without-selections-none, state-ending, separator-root, separator-name, separator-closed}
+use Rattle.laws.proofs.PathGrammar.{Name, Selection, select, name-is-word, append-runs}
 
 -- ---- A name appended
 
@@ -88,8 +88,8 @@ module _ (p s v : List ℕ) where
 module _ (p s v : List ℕ) (m : Name s) (n : Selection v) where
   inner-other : AllPass (other openBrace) (inner s v)
   inner-other =
-      all-pass-append (other openBrace) s (equalsSign ∷ v) (word-other openBrace open-brace-marks s (name-is-word s m))
-      (refl, word-other openBrace open-brace-marks v (selection-is-word v n))
+      all-pass-append (other openBrace) s (equalsSign ∷ v) (all-pass-other isWordByte openBrace open-brace-marks s (name-is-word s m))
+      (refl, all-pass-other isSelectionByte openBrace open-brace-no-selection v n)
 
   pub select-opens : afterLast openBrace (select p s v) (length (select p s v)) ≡ suc (length p)
   select-opens =

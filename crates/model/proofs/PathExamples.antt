@@ -1,8 +1,10 @@
--- The examples of document 01's path section, in one table, by computation. Assumes nothing.
+-- The examples of document 01's path section, in one table, and those of document 02's W2, in
+-- another, by computation. Assumes nothing.
 use mathlib.Core.Path.{_≡_, refl}
 use mathlib.Core.Bool.{true, false}
+use mathlib.Core.List.{[]}
 use Rattle.model.proofs.Text.{bytes}
-use Rattle.model.specs.Path.{isNameStart, isWordByte, isSelectionByte, wellFormed, primCount, beforeName, parentLength, parent, separator, appendName, pathAtIntroDepth}
+use Rattle.model.specs.Path.{isNameStart, isWordByte, isSelectionByte, wellFormed, primCount, beforeName, parentLength, parent, nameStart, lastName, separator, appendName, pathAtIntroDepth}
 
 pub record Table : Type 0 where
   -- "The prim count is the number of names: `/` 0, `/A{v=x}` 1, `/A{v=x}B` 2"
@@ -47,4 +49,68 @@ table = record {
   slash-between = refl;
   none-after-root = refl;
   none-after-brace = refl;
+}
+
+-- "A maker sent `/Cell{drive=}` and another `/Cell{drive=ac-400|b}`"
+pub record SelectionTable : Type 0 where
+  pub empty : wellFormed (bytes "/Cell{drive=}") ≡ true
+  pub empty-count : primCount (bytes "/Cell{drive=}") ≡ 1
+  pub empty-parent : parent (bytes "/Cell{drive=}") ≡ bytes "/Cell"
+  pub empty-no-name : lastName (bytes "/Cell{drive=}") ≡ []
+  pub marked : wellFormed (bytes "/Cell{drive=ac-400|b}") ≡ true
+  pub marked-count : primCount (bytes "/Cell{drive=ac-400|b}") ≡ 1
+  pub marked-parent : parent (bytes "/Cell{drive=ac-400|b}") ≡ bytes "/Cell"
+  pub marked-no-name : lastName (bytes "/Cell{drive=ac-400|b}") ≡ []
+  -- a name with no slash straight after an empty selection
+  pub name-behind : wellFormed (bytes "/A{v=}B") ≡ true
+  pub name-behind-count : primCount (bytes "/A{v=}B") ≡ 2
+  pub name-behind-parent : parent (bytes "/A{v=}B") ≡ bytes "/A{v=}"
+  pub last-name : lastName (bytes "/A{v=}B") ≡ bytes "B"
+  pub appended : appendName (bytes "/A{v=}") (bytes "B") ≡ bytes "/A{v=}B"
+  pub one-back : pathAtIntroDepth 1 (bytes "/A{v=}B{w=-|}") ≡ bytes "/A{v=}"
+  pub two-back : pathAtIntroDepth 2 (bytes "/A{v=}B{w=-|}") ≡ bytes "/"
+  -- "any run": a selection may begin with each of its bytes
+  pub hyphen-first : wellFormed (bytes "/A{v=-}") ≡ true
+  pub bar-first : wellFormed (bytes "/A{v=|}") ≡ true
+  -- "Names and sets remain as before"
+  pub hyphen-in-name : wellFormed (bytes "/A-B") ≡ false
+  pub hyphen-in-set : wellFormed (bytes "/A{v-w=x}") ≡ false
+  pub bar-in-name : wellFormed (bytes "/A|B") ≡ false
+  pub no-set : wellFormed (bytes "/A{=}") ≡ false
+  -- the neighbours of `-` and `|` stay out
+  pub comma : wellFormed (bytes "/A{v=,}") ≡ false
+  pub dot : wellFormed (bytes "/A{v=.}") ≡ false
+  pub open-brace : wellFormed (bytes "/A{v={}") ≡ false
+  pub close-brace : wellFormed (bytes "/A{v=}}") ≡ false
+  pub tilde : wellFormed (bytes "/A{v=~}") ≡ false
+
+pub selection-table : SelectionTable
+unfolding wellFormed primCount isNameStart isWordByte isSelectionByte beforeName parentLength parent nameStart lastName separator appendName pathAtIntroDepth
+selection-table = record {
+  empty = refl;
+  empty-count = refl;
+  empty-parent = refl;
+  empty-no-name = refl;
+  marked = refl;
+  marked-count = refl;
+  marked-parent = refl;
+  marked-no-name = refl;
+  name-behind = refl;
+  name-behind-count = refl;
+  name-behind-parent = refl;
+  last-name = refl;
+  appended = refl;
+  one-back = refl;
+  two-back = refl;
+  hyphen-first = refl;
+  bar-first = refl;
+  hyphen-in-name = refl;
+  hyphen-in-set = refl;
+  bar-in-name = refl;
+  no-set = refl;
+  comma = refl;
+  dot = refl;
+  open-brace = refl;
+  close-brace = refl;
+  tilde = refl;
 }

@@ -1,5 +1,5 @@
--- Document 01, "Path": what a path is, its prim count, parent and last name, appending a name, and
--- the path at an introduction depth.
+-- Document 01, "Path", with the selections of document 02, W2: what a path is, its prim count,
+-- parent and last name, appending a name, and the path at an introduction depth.
 -- All are defined on any bytes: where the paper speaks of a path, its words are applied to bytes
 -- that are none as well. A front part of a path is given by its length, so `parentLength p k` is
 -- how much the parent keeps of the first k bytes of p.
@@ -42,16 +42,18 @@ isNameStart b = between 0x61 0x7a b || (between 0x41 0x5a b || eqb b 0x5f)
 unfoldable pub isWordByte : ℕ → Bool
 isWordByte b = isNameStart b || between 0x30 0x39 b
 
--- a byte of a selection
+-- "a selection is any run, also of length nothing, of letters, digits, `_`, `-` and `|`" (W2): a byte
+-- of one
 unfoldable pub isSelectionByte : ℕ → Bool
-isSelectionByte b = isWordByte b
+isSelectionByte b = isWordByte b || (eqb b 0x2d || eqb b 0x7c)
 
 -- ---- Well-formed paths
 
 -- Where the reading of a path stands: before it; after its first slash; after a later slash; in a
--- name; after `{`; in a set; after `=`; in a selection; after `}`; past a byte that fits nowhere.
+-- name; after `{`; in a set; in a selection, which may be empty; after `}`; past a byte that fits
+-- nowhere.
 pub data State : Type 0 where
-  start root slash name setStart set selectionStart selection closed dead : State
+  start root slash name setStart set selection closed dead : State
 
 -- "A path is `/`, or `/` then a prim name, then any run of: `/name`; `{set=selection}`; and,
 -- straight after `}`, a name with no slash. After `}` a slash is malformed."
@@ -61,8 +63,7 @@ step root b = cond (isNameStart b) name dead
 step slash b = cond (isNameStart b) name dead
 step name b = cond (isWordByte b) name (cond (eqb b solidus) slash (cond (eqb b openBrace) setStart dead))
 step setStart b = cond (isNameStart b) set dead
-step set b = cond (isWordByte b) set (cond (eqb b equalsSign) selectionStart dead)
-step selectionStart b = cond (isSelectionByte b) selection dead
+step set b = cond (isWordByte b) set (cond (eqb b equalsSign) selection dead)
 step selection b = cond (isSelectionByte b) selection (cond (eqb b closeBrace) closed dead)
 step closed b = cond (isNameStart b) name (cond (eqb b openBrace) setStart dead)
 step dead b = dead
@@ -79,7 +80,6 @@ mayEnd slash = false
 mayEnd name = true
 mayEnd setStart = false
 mayEnd set = false
-mayEnd selectionStart = false
 mayEnd selection = false
 mayEnd closed = true
 mayEnd dead = false
@@ -97,7 +97,6 @@ inName slash = false
 inName name = true
 inName setStart = false
 inName set = false
-inName selectionStart = false
 inName selection = false
 inName closed = false
 inName dead = false

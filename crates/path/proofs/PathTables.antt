@@ -11,7 +11,7 @@ use borrow.Author.Tests.{eqb-true, eq-eqb, ne-eqb, ltb-true}
 use lib.Dec.{eqb, ltb}
 use lib.ListN.{length, getD, drop, drop-of-length-le}
 use Rattle.model.specs.Lists.{allBelow}
-use Rattle.model.specs.Path.{State, start, root, slash, name, setStart, set, selectionStart, selection, closed, dead, step, mayEnd, inName, enters, isNameStart, isWordByte, isSelectionByte}
+use Rattle.model.specs.Path.{State, start, root, slash, name, setStart, set, selection, closed, dead, step, mayEnd, inName, enters, isNameStart, isWordByte, isSelectionByte}
 use Rattle.model.specs.declared.PrimCount.the-variants.{Names, Malformed}
 use Rattle.laws.proofs.ListLaws.{all-below}
 use Rattle.path.specs.PathReading.{reading}
@@ -21,7 +21,7 @@ use Rattle.path.specs.Tables.{kindList, kindTable, pairTable, Tables, ki
 -- ---- States by their numbers
 
 abbrev stateAt : ℕ → State
-stateAt j = getD (dead ∷ slash ∷ name ∷ setStart ∷ set ∷ selectionStart ∷ selection ∷ closed ∷ start ∷ root ∷ []) j dead
+stateAt j = getD (dead ∷ slash ∷ name ∷ setStart ∷ set ∷ selection ∷ closed ∷ start ∷ root ∷ []) j dead
 
 state-numbered : (q : State) → stateAt (numberOf q) ≡ q
 state-numbered dead = refl
@@ -29,7 +29,6 @@ state-numbered slash = refl
 state-numbered name = refl
 state-numbered setStart = refl
 state-numbered set = refl
-state-numbered selectionStart = refl
 state-numbered selection = refl
 state-numbered closed = refl
 state-numbered start = refl
@@ -42,7 +41,7 @@ same-number q r e = sym (state-numbered q) ∙ ap stateAt e ∙ state-numbered r
 
 -- a byte of the kind
 abbrev like : ℕ → ℕ
-like k = getD (0x61 ∷ 0x30 ∷ 0x2f ∷ 0x7b ∷ 0x3d ∷ 0x7d ∷ []) k 0
+like k = getD (0x61 ∷ 0x30 ∷ 0x2f ∷ 0x7b ∷ 0x3d ∷ 0x7d ∷ 0x2d ∷ []) k 0
 
 -- the step of a kind, and none where there is no byte
 abbrev next : State → ℕ → State
@@ -52,37 +51,37 @@ unfoldable alike : ℕ → ℕ → ℕ → Bool
 alike b k j = eqb (numberOf (step (stateAt j) b)) (numberOf (next (stateAt j) k))
 
 unfoldable kindRight : ℕ → Bool
-kindRight b = let k = kindOf b in ltb k 8 && allBelow (alike b k) 8
+kindRight b = let k = kindOf b in ltb k 8 && allBelow (alike b k) 7
 
 kinds-right : allBelow kindRight 256 ≡ true
 unfolding kindRight alike kindOf kindTable kindList isNameStart isWordByte isSelectionByte
 kinds-right = refl
 
-unfoldable eightRight : ℕ → Bool
-eightRight b = eqb (getD kindTable (256 + b) 0) (kindOf b * 8)
+unfoldable nineRight : ℕ → Bool
+nineRight b = eqb (getD kindTable (256 + b) 0) (kindOf b * 9)
 
-eights-right : allBelow eightRight 256 ≡ true
-unfolding eightRight kindOf kindTable kindList
-eights-right = refl
+nines-right : allBelow nineRight 256 ≡ true
+unfolding nineRight kindOf kindTable kindList
+nines-right = refl
 
 module _ (b : ℕ) (byte : b < 256) where
-  eight-right : getD kindTable (256 + b) 0 ≡ kindOf b * 8
-  unfolding eightRight
-  eight-right = eqb-true _ _ (all-below eightRight 256 .0 eights-right b byte)
+  nine-right : getD kindTable (256 + b) 0 ≡ kindOf b * 9
+  unfolding nineRight
+  nine-right = eqb-true _ _ (all-below nineRight 256 .0 nines-right b byte)
 
-  kind-right : (ltb (kindOf b) 8 ≡ true) × (allBelow (alike b (kindOf b)) 8 ≡ true)
+  kind-right : (ltb (kindOf b) 8 ≡ true) × (allBelow (alike b (kindOf b)) 7 ≡ true)
   unfolding kindRight
-  kind-right = and-eq-true-iff (ltb (kindOf b) 8) (allBelow (alike b (kindOf b)) 8) .0 (all-below kindRight 256 .0 kinds-right b byte)
+  kind-right = and-eq-true-iff (ltb (kindOf b) 8) (allBelow (alike b (kindOf b)) 7) .0 (all-below kindRight 256 .0 kinds-right b byte)
 
   pub kind-small : kindOf b < 8
   kind-small = ltb-true _ _ (kind-right .0)
 
-  kind-steps : (q : State) → numberOf q < 8 → step q b ≡ next q (kindOf b)
+  kind-steps : (q : State) → numberOf q < 7 → step q b ≡ next q (kindOf b)
   unfolding alike
   kind-steps q low = subst (λ (r : State). step r b ≡ next r (kindOf b)) (state-numbered q) numbered
     where
       numbered : step (stateAt (numberOf q)) b ≡ next (stateAt (numberOf q)) (kindOf b)
-      numbered = same-number _ _ (eqb-true _ _ (all-below (alike b (kindOf b)) 8 .0 (kind-right .1) (numberOf q) low))
+      numbered = same-number _ _ (eqb-true _ _ (all-below (alike b (kindOf b)) 7 .0 (kind-right .1) (numberOf q) low))
 
 -- ---- Rows
 
@@ -90,21 +89,21 @@ module _ (b : ℕ) (byte : b < 256) where
 record Leads (q : State) (k l word : ℕ) : Type 0 where
   coded : word % 64 ≡ 7 * numberOf (next (next q k) l)
   met : word / 64 % 2 ≡ enters q (next q k) + enters (next q k) (next (next q k) l)
-  low : numberOf (next (next q k) l) < 8
+  low : numberOf (next (next q k) l) < 7
 
 unfoldable leads : State → ℕ → ℕ → ℕ → Bool
 leads q k l word =
     eqb (word % 64) (7 * numberOf (next (next q k) l))
-    && (eqb (word / 64 % 2) (enters q (next q k) + enters (next q k) (next (next q k) l)) && ltb (numberOf (next (next q k) l)) 8)
+    && (eqb (word / 64 % 2) (enters q (next q k) + enters (next q k) (next (next q k) l)) && ltb (numberOf (next (next q k) l)) 7)
 
 unfoldable rowRight : ℕ → ℕ → ℕ → Bool
 rowRight k l j = leads (stateAt j) k l (rowOf k l / 2 ^ (7 * j))
 
 unfoldable rowsRight : ℕ → ℕ → Bool
-rowsRight k l = allBelow (rowRight k l) 8
+rowsRight k l = allBelow (rowRight k l) 7
 
 unfoldable pairsRight : ℕ → Bool
-pairsRight k = allBelow (rowsRight k) 8
+pairsRight k = allBelow (rowsRight k) 9
 
 pairs-right : allBelow pairsRight 8 ≡ true
 unfolding pairsRight rowsRight rowRight leads rowOf pairTable isNameStart isWordByte isSelectionByte
@@ -114,15 +113,15 @@ led : (q : State) (k l word : ℕ) → leads q k l word ≡ true → Leads q k l
 unfolding leads
 led q k l word e =
     let first = and-eq-true-iff (eqb (word % 64) (7 * numberOf (next (next q k) l))) _ .0 e in
-    let rest = and-eq-true-iff (eqb (word / 64 % 2) (enters q (next q k) + enters (next q k) (next (next q k) l))) (ltb (numberOf (next (next q k) l)) 8) .0 (first .1) in
+    let rest = and-eq-true-iff (eqb (word / 64 % 2) (enters q (next q k) + enters (next q k) (next (next q k) l))) (ltb (numberOf (next (next q k) l)) 7) .0 (first .1) in
     record { coded = eqb-true _ _ (first .0); met = eqb-true _ _ (rest .0); low = ltb-true _ _ (rest .1) }
 
-row-leads : (q : State) → numberOf q < 8 → (k l : ℕ) → k < 8 → l < 8 → Leads q k l (rowOf k l / 2 ^ (7 * numberOf q))
+row-leads : (q : State) → numberOf q < 7 → (k l : ℕ) → k < 8 → l < 9 → Leads q k l (rowOf k l / 2 ^ (7 * numberOf q))
 unfolding pairsRight rowsRight rowRight
 row-leads q h k l a b = led q k l _ (subst (λ (r : State). leads r k l (rowOf k l / 2 ^ (7 * numberOf q)) ≡ true) (state-numbered q) tested)
   where
     tested : leads (stateAt (numberOf q)) k l (rowOf k l / 2 ^ (7 * numberOf q)) ≡ true
-    tested = all-below (rowRight k l) 8 .0 (all-below (rowsRight k) 8 .0 (all-below pairsRight 8 .0 pairs-right k a) l b) (numberOf q) h
+    tested = all-below (rowRight k l) 7 .0 (all-below (rowsRight k) 9 .0 (all-below pairsRight 8 .0 pairs-right k a) l b) (numberOf q) h
 
 -- ---- Tables that are lent
 
@@ -131,7 +130,7 @@ module _ (kinds pairs : List ℕ) (tables : Tables kinds pairs) where
   unfolding kindTable kindList
   kinds-long = ap length (tables .kinds-right)
 
-  pub pairs-long : length pairs ≡ 64
+  pub pairs-long : length pairs ≡ 72
   unfolding pairTable
   pairs-long = ap length (tables .pairs-right)
 
@@ -139,18 +138,18 @@ module _ (kinds pairs : List ℕ) (tables : Tables kinds pairs) where
   unfolding kindOf
   kind-read b = ap (λ (t : List ℕ). getD t b 0) (tables .kinds-right)
 
-  pub eight-read : (b : ℕ) → b < 256 → getD kinds (256 + b) 0 ≡ kindOf b * 8
-  eight-read b h = ap (λ (t : List ℕ). getD t (256 + b) 0) (tables .kinds-right) ∙ eight-right b h
+  pub nine-read : (b : ℕ) → b < 256 → getD kinds (256 + b) 0 ≡ kindOf b * 9
+  nine-read b h = ap (λ (t : List ℕ). getD t (256 + b) 0) (tables .kinds-right) ∙ nine-right b h
 
-  pub eight-fits : (b : ℕ) → b < 256 → getD kinds (256 + b) 0 < 57
-  eight-fits b h = omega (arith, eight-read b h, kind-small b h)
+  pub nine-fits : (b : ℕ) → b < 256 → getD kinds (256 + b) 0 < 64
+  nine-fits b h = omega (arith, nine-read b h, kind-small b h)
 
   pub kind-fits : (b : ℕ) → b < 256 → getD kinds b 0 < 8
   kind-fits b h = omega (arith, kind-read b, kind-small b h)
 
-  pub row-read : (k l : ℕ) → getD pairs (k * 8 + l) 0 ≡ rowOf k l
+  pub row-read : (k l : ℕ) → getD pairs (k * 9 + l) 0 ≡ rowOf k l
   unfolding rowOf
-  row-read k l = ap (λ (t : List ℕ). getD t (k * 8 + l) 0) (tables .pairs-right)
+  row-read k l = ap (λ (t : List ℕ). getD t (k * 9 + l) 0) (tables .pairs-right)
 
 -- ---- A reading by rows
 
@@ -180,7 +179,7 @@ module _ (p : List ℕ) (at word met : ℕ) (r : Reached p at word met) where
       let k = kindOf (getD p at 0) in
       let l = kindOf (getD p (at + 1) 0) in
       let one : Leads q k noByte (rowOf k noByte / 2 ^ (7 * numberOf q)) = row-leads q (r .low) k noByte (kind-small _ ha) (omega arith) in
-      let two : Leads q k l (rowOf k l / 2 ^ (word % 64)) = rw (r .coded) (row-leads q (r .low) k l (kind-small _ ha) (kind-small _ hb)) in
+      let two : Leads q k l (rowOf k l / 2 ^ (word % 64)) = rw (r .coded) (row-leads q (r .low) k l (kind-small _ ha) (omega (arith, kind-small _ hb))) in
       let n : met + rowOf k l / 2 ^ (word % 64) / 64 % 2 ≡ met + enters q (next q k) + enters (next q k) (next (next q k) l) = omega (arith, two .met) in
       let e : at + 2 ≡ at + 1 + 1 = omega arith in
       record {
@@ -213,14 +212,13 @@ module _ (p : List ℕ) (at word met : ℕ) (r : Reached p at word met) where
             ∙ sym (goes-on q (next q k) p at met h (kind-steps _ hb q (r .low))) ∙ r .same;
       }
 
-  ends : (q : State) → numberOf q < 8
-      → cond (eqb (7 * numberOf q) 14 || eqb (7 * numberOf q) 49) (Names met) Malformed ≡ cond (mayEnd q) (Names met) Malformed
+  ends : (q : State) → numberOf q < 7
+      → cond (eqb (7 * numberOf q) 14 || eqb (7 * numberOf q) 42) (Names met) Malformed ≡ cond (mayEnd q) (Names met) Malformed
   ends dead h = refl
   ends slash h = refl
   ends name h = refl
   ends setStart h = refl
   ends set h = refl
-  ends selectionStart h = refl
   ends selection h = refl
   ends closed h = refl
   ends start h = absurd (omega arith)
@@ -228,7 +226,7 @@ module _ (p : List ℕ) (at word met : ℕ) (r : Reached p at word met) where
 
   pub reached-end : length p ≤ at → ending word met ≡ reading slash 0 (drop 1 p)
   reached-end h =
-      ap (λ (j : ℕ). cond (eqb j 14 || eqb j 49) (Names met) Malformed) (r .coded) ∙ ends (r .state) (r .low)
+      ap (λ (j : ℕ). cond (eqb j 14 || eqb j 42) (Names met) Malformed) (r .coded) ∙ ends (r .state) (r .low)
       ∙ sym (ap (reading (r .state) met) (drop-of-length-le p h)) ∙ r .same
 
 -- two pairs, one after the other
@@ -250,17 +248,17 @@ pub joined-ends : (word met : ℕ) → endsAs (met * 64 + word % 64) ≡ ending 
 joined-ends word met =
     let low : (met * 64 + word % 64) % 64 ≡ word % 64 = omega arith in
     let high : (met * 64 + word % 64) / 64 ≡ met = omega arith in
-    (λ i. cond (eqb (low i) 14 || eqb (low i) 49) (Names (high i)) Malformed)
+    (λ i. cond (eqb (low i) 14 || eqb (low i) 42) (Names (high i)) Malformed)
 
 pub other-names : (n k : ℕ) → (n / 64 ≡ k → ⊥) → isNames k (endsAs n) ≡ false
-other-names n k h = go (eqb (n % 64) 14 || eqb (n % 64) 49)
+other-names n k h = go (eqb (n % 64) 14 || eqb (n % 64) 42)
   where
     go : (t : Bool) → isNames k (cond t (Names (n / 64)) Malformed) ≡ false
     go true = ne-eqb k (n / 64) (λ e. h (sym e))
     go false = refl
 
-pub names-end : (n k : ℕ) → n / 64 ≡ k → isNames k (endsAs n) ≡ (eqb (n % 64) 14 || eqb (n % 64) 49)
-names-end n k e = go (eqb (n % 64) 14 || eqb (n % 64) 49)
+pub names-end : (n k : ℕ) → n / 64 ≡ k → isNames k (endsAs n) ≡ (eqb (n % 64) 14 || eqb (n % 64) 42)
+names-end n k e = go (eqb (n % 64) 14 || eqb (n % 64) 42)
   where
     go : (t : Bool) → isNames k (cond t (Names (n / 64)) Malformed) ≡ t
     go true = eq-eqb k (n / 64) (sym e)

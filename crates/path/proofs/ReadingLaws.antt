@@ -12,7 +12,7 @@ use borrow.Author.Tests.{ltb-true, ltb-false, lt-ltb, le-leb, lt-leb, ne-eqb}
 use lib.Dec.{eqb, ltb}
 use lib.ListN.{length, getD, drop, drop-of-length-le}
 use lib.Seq.{drop-cons}
-use Rattle.model.specs.Path.{State, start, root, slash, name, setStart, set, selectionStart, selection, closed, dead, step, run, mayEnd, inName, names, isNameStart, isWordByte, isSelectionByte, solidus, openBrace, equalsSign, closeBrace, wellFormed, primCount, countPrims}
+use Rattle.model.specs.Path.{State, start, root, slash, name, setStart, set, selection, closed, dead, step, run, mayEnd, inName, names, isNameStart, isWordByte, isSelectionByte, solidus, openBrace, equalsSign, closeBrace, wellFormed, primCount, countPrims}
 use Rattle.model.specs.declared.PrimCount.the-variants.{Names, Malformed}
 use Rattle.path.specs.declared.scan.Part.{Part}
 use Rattle.path.specs.declared.scan.Part.the-variants.{To, Malformed as NoPart}
@@ -139,19 +139,6 @@ set-stays b e = rw e
 selection-stays : (b : ℕ) → isSelectionByte b ≡ true → step selection b ≡ selection
 selection-stays b e = rw e
 
-pub no-selection : (p : List ℕ) (at e : ℕ) → Run isSelectionByte p at e → e ≡ at → Fails p selectionStart at
-no-selection p at e w h =
-    fails selectionStart p at refl
-    (λ l. ap (λ (t : Bool). cond t selection dead) (rw h at (w .stops (omega (arith, h)))))
-
-pub selection-reads : (p : List ℕ) (at e : ℕ) → Run isSelectionByte p at e → (e ≡ at → ⊥)
-    → (n : ℕ) → reading selectionStart n (drop at p) ≡ reading selection n (drop e p)
-selection-reads p at e w d n =
-    let l : at < e = omega (arith, w .from) in
-    goes selectionStart selection p at (omega (arith, w .within)) (ap (λ (t : Bool). cond t selection dead) (w .all at (omega arith) l)) n
-    ∙ run-stays selection isSelectionByte selection-stays p (suc at) e
-    (record { from = l; within = w .within; all = λ k a b. w .all k (omega arith) b; stops = w .stops }) n
-
 -- ---- The name at a place
 
 pub no-name : (p : List ℕ) (at : ℕ) → beginsName p at ≡ false → Fails p slash at
@@ -171,32 +158,26 @@ module _ (p : List ℕ) (at sign : ℕ) (begun : beginsName p at ≡ true) (word
   set-reads = word-reads setStart set (λ b. refl) p at set-stays sign begun word
 
   pub no-sign : standsAt p sign equalsSign ≡ false → Fails p setStart at
-  no-sign e n = set-reads n ∙ sign-missing set selectionStart isWordByte equalsSign (λ b. refl) p sign (word .stops) refl e n
+  no-sign e n = set-reads n ∙ sign-missing set selection isWordByte equalsSign (λ b. refl) p sign (word .stops) refl e n
 
   module _ (signed : standsAt p sign equalsSign ≡ true) (last : ℕ) (value : Run isSelectionByte p (sign + 1) last) where
-    sign-read : (n : ℕ) → reading setStart n (drop at p) ≡ reading selectionStart n (drop (sign + 1) p)
-    sign-read n =
-        set-reads n ∙ sign-reads set selectionStart isWordByte equalsSign (λ b. refl) p sign (word .stops) signed n
-        ∙ ap (λ (j : ℕ). reading selectionStart n (drop j p)) (sym (add-one sign))
+    value-read : (n : ℕ) → reading setStart n (drop at p) ≡ reading selection n (drop last p)
+    value-read n =
+        set-reads n ∙ sign-reads set selection isWordByte equalsSign (λ b. refl) p sign (word .stops) signed n
+        ∙ ap (λ (j : ℕ). reading selection n (drop j p)) (sym (add-one sign))
+        ∙ run-stays selection isSelectionByte selection-stays p (sign + 1) last value n
 
-    pub no-value : last ≡ sign + 1 → Fails p setStart at
-    no-value e n = sign-read n ∙ no-selection p (sign + 1) last value e n
+    pub no-brace : standsAt p last closeBrace ≡ false → Fails p setStart at
+    no-brace e n = value-read n ∙ sign-missing selection closed isSelectionByte closeBrace (λ b. refl) p last (value .stops) refl e n
 
-    module _ (some : last ≡ sign + 1 → ⊥) where
-      value-read : (n : ℕ) → reading setStart n (drop at p) ≡ reading selection n (drop last p)
-      value-read n = sign-read n ∙ selection-reads p (sign + 1) last value some n
-
-      pub no-brace : standsAt p last closeBrace ≡ false → Fails p setStart at
-      no-brace e n = value-read n ∙ sign-missing selection closed isSelectionByte closeBrace (λ b. refl) p last (value .stops) refl e n
-
-      pub selection-read : standsAt p last closeBrace ≡ true → SelectionRead p at (To (last + 1))
-      selection-read e =
-          record {
-            further = omega (arith, word .from, value .from);
-            within = omega (arith, stands-within p last closeBrace e);
-            same = λ n. value-read n ∙ sign-reads selection closed isSelectionByte closeBrace (λ b. refl) p last (value .stops) e n
-                ∙ ap (λ (j : ℕ). reading closed n (drop j p)) (sym (add-one last));
-          }
+    pub selection-read : standsAt p last closeBrace ≡ true → SelectionRead p at (To (last + 1))
+    selection-read e =
+        record {
+          further = omega (arith, word .from, value .from);
+          within = omega (arith, stands-within p last closeBrace e);
+          same = λ n. value-read n ∙ sign-reads selection closed isSelectionByte closeBrace (λ b. refl) p last (value .stops) e n
+              ∙ ap (λ (j : ℕ). reading closed n (drop j p)) (sym (add-one last));
+        }
 
 -- ---- An element: what a part read further on comes to at the place before it
 

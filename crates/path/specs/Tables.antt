@@ -7,41 +7,42 @@ use mathlib.Core.List.{List, [], _∷_, _++_}
 use Prim.Native.Nat.{ℕ, _+_, _*_, _/_, _%_, _≤_, _<_}
 use lib.Dec.{eqb}
 use lib.ListN.{length, getD, drop}
-use Rattle.model.specs.Path.{State, start, root, slash, name, setStart, set, selectionStart, selection, closed, dead}
+use Rattle.model.specs.Path.{State, start, root, slash, name, setStart, set, selection, closed, dead}
 use Rattle.model.specs.declared.PrimCount.{PrimCount}
 use Rattle.model.specs.declared.PrimCount.the-variants.{Names, Malformed}
 use Rattle.path.specs.PathReading.{reading}
 
--- the kind of each byte: 0 a letter or `_`, 1 a digit, 2 `/`, 3 `{`, 4 `=`, 5 `}`, 7 any other
+-- the kind of each byte: 0 a letter or `_`, 1 a digit, 2 `/`, 3 `{`, 4 `=`, 5 `}`, 6 `-` or `|`, 7 any
+-- other
 unfoldable pub kindList : List ℕ
 kindList =
     7 ∷ 7 ∷ 7 ∷ 7 ∷ 7 ∷ 7 ∷ 7 ∷ 7 ∷ 7 ∷ 7 ∷ 7 ∷ 7 ∷ 7 ∷ 7 ∷ 7 ∷ 7 ∷ 7 ∷ 7 ∷ 7 ∷ 7 ∷ 7 ∷ 7 ∷ 7 ∷ 7 ∷ 7 ∷ 7 ∷ 7 ∷ 7 ∷ 7 ∷ 7 ∷ 7 ∷ 7 ∷ 7 ∷ 7 ∷
-    7 ∷ 7 ∷ 7 ∷ 7 ∷ 7 ∷ 7 ∷ 7 ∷ 7 ∷ 7 ∷ 7 ∷ 7 ∷ 7 ∷ 7 ∷ 2 ∷ 1 ∷ 1 ∷ 1 ∷ 1 ∷ 1 ∷ 1 ∷ 1 ∷ 1 ∷ 1 ∷ 1 ∷ 7 ∷ 7 ∷ 7 ∷ 4 ∷ 7 ∷ 7 ∷ 7 ∷ 0 ∷ 0 ∷ 0 ∷
+    7 ∷ 7 ∷ 7 ∷ 7 ∷ 7 ∷ 7 ∷ 7 ∷ 7 ∷ 7 ∷ 7 ∷ 7 ∷ 6 ∷ 7 ∷ 2 ∷ 1 ∷ 1 ∷ 1 ∷ 1 ∷ 1 ∷ 1 ∷ 1 ∷ 1 ∷ 1 ∷ 1 ∷ 7 ∷ 7 ∷ 7 ∷ 4 ∷ 7 ∷ 7 ∷ 7 ∷ 0 ∷ 0 ∷ 0 ∷
     0 ∷ 0 ∷ 0 ∷ 0 ∷ 0 ∷ 0 ∷ 0 ∷ 0 ∷ 0 ∷ 0 ∷ 0 ∷ 0 ∷ 0 ∷ 0 ∷ 0 ∷ 0 ∷ 0 ∷ 0 ∷ 0 ∷ 0 ∷ 0 ∷ 0 ∷ 0 ∷ 7 ∷ 7 ∷ 7 ∷ 7 ∷ 0 ∷ 7 ∷ 0 ∷ 0 ∷ 0 ∷ 0 ∷ 0 ∷
-    0 ∷ 0 ∷ 0 ∷ 0 ∷ 0 ∷ 0 ∷ 0 ∷ 0 ∷ 0 ∷ 0 ∷ 0 ∷ 0 ∷ 0 ∷ 0 ∷ 0 ∷ 0 ∷ 0 ∷ 0 ∷ 0 ∷ 0 ∷ 0 ∷ 3 ∷ 7 ∷ 5 ∷ 7 ∷ 7 ∷ 7 ∷ 7 ∷ 7 ∷ 7 ∷ 7 ∷ 7 ∷ 7 ∷ 7 ∷
+    0 ∷ 0 ∷ 0 ∷ 0 ∷ 0 ∷ 0 ∷ 0 ∷ 0 ∷ 0 ∷ 0 ∷ 0 ∷ 0 ∷ 0 ∷ 0 ∷ 0 ∷ 0 ∷ 0 ∷ 0 ∷ 0 ∷ 0 ∷ 0 ∷ 3 ∷ 6 ∷ 5 ∷ 7 ∷ 7 ∷ 7 ∷ 7 ∷ 7 ∷ 7 ∷ 7 ∷ 7 ∷ 7 ∷ 7 ∷
     7 ∷ 7 ∷ 7 ∷ 7 ∷ 7 ∷ 7 ∷ 7 ∷ 7 ∷ 7 ∷ 7 ∷ 7 ∷ 7 ∷ 7 ∷ 7 ∷ 7 ∷ 7 ∷ 7 ∷ 7 ∷ 7 ∷ 7 ∷ 7 ∷ 7 ∷ 7 ∷ 7 ∷ 7 ∷ 7 ∷ 7 ∷ 7 ∷ 7 ∷ 7 ∷ 7 ∷ 7 ∷ 7 ∷ 7 ∷
     7 ∷ 7 ∷ 7 ∷ 7 ∷ 7 ∷ 7 ∷ 7 ∷ 7 ∷ 7 ∷ 7 ∷ 7 ∷ 7 ∷ 7 ∷ 7 ∷ 7 ∷ 7 ∷ 7 ∷ 7 ∷ 7 ∷ 7 ∷ 7 ∷ 7 ∷ 7 ∷ 7 ∷ 7 ∷ 7 ∷ 7 ∷ 7 ∷ 7 ∷ 7 ∷ 7 ∷ 7 ∷ 7 ∷ 7 ∷
     7 ∷ 7 ∷ 7 ∷ 7 ∷ 7 ∷ 7 ∷ 7 ∷ 7 ∷ 7 ∷ 7 ∷ 7 ∷ 7 ∷ 7 ∷ 7 ∷ 7 ∷ 7 ∷ 7 ∷ 7 ∷ 7 ∷ 7 ∷ 7 ∷ 7 ∷ 7 ∷ 7 ∷ 7 ∷ 7 ∷ 7 ∷ 7 ∷ 7 ∷ 7 ∷ 7 ∷ 7 ∷ 7 ∷ 7 ∷
     7 ∷ 7 ∷ 7 ∷ 7 ∷ 7 ∷ 7 ∷ 7 ∷ 7 ∷ 7 ∷ 7 ∷ 7 ∷ 7 ∷ 7 ∷ 7 ∷ 7 ∷ 7 ∷ 7 ∷ 7
     ∷ []
 
-abbrev pub eightTimes : List ℕ → List ℕ
-eightTimes [] = []
-eightTimes (k ∷ ks) = k * 8 ∷ eightTimes ks
+abbrev pub nineTimes : List ℕ → List ℕ
+nineTimes [] = []
+nineTimes (k ∷ ks) = k * 9 ∷ nineTimes ks
 
--- the kinds, and behind them each 8 times
+-- the kinds, and behind them each 9 times
 unfoldable pub kindTable : List ℕ
-kindTable = kindList ++ eightTimes kindList
+kindTable = kindList ++ nineTimes kindList
 
--- the row of each pair of kinds, the first kind 8 times; kind 6 stands for no byte
+-- the row of each pair of kinds, the first kind 9 times; as the second kind 8 stands for no byte
 unfoldable pub pairTable : List ℕ
 pairTable =
-    44096265004492544 ∷ 44096265004492544 ∷ 39969446693036928 ∷ 47850746041166464 ∷ 36028806487613440 ∷ 36245984925196288 ∷
-    44096265004492544 ∷ 36028797018972160 ∷ 186168578899968 ∷ 186168578899968 ∷ 114688 ∷ 344064 ∷ 9395240960 ∷ 217187906224128 ∷
-    186168578899968 ∷ 0 ∷ 1277952 ∷ 0 ∷ 0 ∷ 0 ∷ 0 ∷ 0 ∷ 114688 ∷ 0 ∷ 15762598696255488 ∷ 0 ∷ 0 ∷ 0 ∷ 0 ∷ 0 ∷ 11821949022191616 ∷ 0 ∷
-    11274289152 ∷ 11274289152 ∷ 0 ∷ 0 ∷ 0 ∷ 0 ∷ 9395240960 ∷ 0 ∷ 343047627866112 ∷ 0 ∷ 0 ∷ 92358976733184 ∷ 0 ∷ 0 ∷ 215504279044096 ∷ 0 ∷
-    44096265004492544 ∷ 186168578899968 ∷ 114688 ∷ 11821949022191616 ∷ 9395240960 ∷ 215504279044096 ∷ 27770475822416768 ∷ 0 ∷ 0 ∷ 0 ∷ 0 ∷
-    0 ∷ 0 ∷ 0 ∷ 0 ∷ 0
+    344257793861376 ∷ 344257793861376 ∷ 312261302412160 ∷ 373833953798784 ∷ 281484445360128 ∷ 282918085730304 ∷ 282677567561728 ∷
+    281474976718848 ∷ 344257793861376 ∷ 1210107265024 ∷ 1210107265024 ∷ 114688 ∷ 344064 ∷ 9395240960 ∷ 1443109011456 ∷ 1202590842880 ∷ 0 ∷
+    1210107265024 ∷ 1277952 ∷ 0 ∷ 0 ∷ 0 ∷ 0 ∷ 0 ∷ 0 ∷ 0 ∷ 114688 ∷ 123145302769664 ∷ 0 ∷ 0 ∷ 0 ∷ 0 ∷ 0 ∷ 0 ∷ 0 ∷ 92358977077248 ∷
+    9395240960 ∷ 9395240960 ∷ 0 ∷ 0 ∷ 0 ∷ 11274289152 ∷ 9395240960 ∷ 0 ∷ 9395240960 ∷ 2680059592704 ∷ 0 ∷ 0 ∷ 721554505728 ∷ 0 ∷ 0 ∷ 0 ∷ 0 ∷
+    1443109011456 ∷ 1202590842880 ∷ 1202590842880 ∷ 0 ∷ 0 ∷ 0 ∷ 1443109011456 ∷ 1202590842880 ∷ 0 ∷ 1202590842880 ∷ 0 ∷ 0 ∷ 0 ∷ 0 ∷ 0 ∷ 0 ∷
+    0 ∷ 0 ∷ 0
     ∷ []
 
 pub record Tables (kinds pairs : List ℕ) : Type 0 where
@@ -52,10 +53,10 @@ unfoldable pub kindOf : ℕ → ℕ
 kindOf b = getD kindTable b 0
 
 unfoldable pub rowOf : ℕ → ℕ → ℕ
-rowOf k l = getD pairTable (k * 8 + l) 0
+rowOf k l = getD pairTable (k * 9 + l) 0
 
 abbrev pub noByte : ℕ
-noByte = 6
+noByte = 8
 
 -- ---- Where a reading by rows stands
 
@@ -66,17 +67,16 @@ numberOf slash = 1
 numberOf name = 2
 numberOf setStart = 3
 numberOf set = 4
-numberOf selectionStart = 5
-numberOf selection = 6
-numberOf closed = 7
-numberOf start = 8
-numberOf root = 9
+numberOf selection = 5
+numberOf closed = 6
+numberOf start = 7
+numberOf root = 8
 
 -- `at` is reached in the state that the word has in its last six bits, with so many names met, by a
 -- reading of what follows the first slash
 pub record Reached (p : List ℕ) (at word met : ℕ) : Type 0 where
   pub state : State
-  pub low : numberOf state < 8
+  pub low : numberOf state < 7
   pub coded : word % 64 ≡ 7 * numberOf state
   pub within : at ≤ length p
   pub few : met ≤ at
@@ -84,7 +84,7 @@ pub record Reached (p : List ℕ) (at word met : ℕ) : Type 0 where
 
 -- what the reading comes to where it ends with this word
 abbrev pub ending : ℕ → ℕ → PrimCount
-ending word met = cond (eqb (word % 64) 14 || eqb (word % 64) 49) (Names met) Malformed
+ending word met = cond (eqb (word % 64) 14 || eqb (word % 64) 42) (Names met) Malformed
 
 -- the same of a number that has the names met 64 times, and the word's last six bits
 abbrev pub endsAs : ℕ → PrimCount

@@ -54,6 +54,18 @@ fn is_word_byte(b: u8) -> bool
     within(b'0', b'9', b)
 }
 
+fn is_selection_byte(b: u8) -> bool
+    ensures { λ r. ⌜ r ≡ isSelectionByte b ⌝ }
+{
+    if is_word_byte(b) {
+        return true;
+    }
+    if b == b'-' {
+        return true;
+    }
+    b == b'|'
+}
+
 // Where the run of word bytes from `at` ends.
 fn word_end(path: &[u8], at: usize) -> usize
     requires { ⌜ at ≤ length (now path) ⌝ }
@@ -69,12 +81,19 @@ fn word_end(path: &[u8], at: usize) -> usize
     i
 }
 
-// Where the run of selection bytes from `at` ends: selections hold word bytes.
+// Where the run of selection bytes from `at` ends.
 fn selection_end(path: &[u8], at: usize) -> usize
     requires { ⌜ at ≤ length (now path) ⌝ }
     ensures { λ r. ⌜ Run isSelectionByte (now (path .entry)) at r ⌝ }
 {
-    word_end(path, at)
+    let mut i = at;
+    while i < path.len() {
+        if !is_selection_byte(path[i]) {
+            return i;
+        }
+        i += 1;
+    }
+    i
 }
 
 // Whether a name or a set begins at `at`.
@@ -107,7 +126,7 @@ fn read_name(path: &[u8], at: usize) -> Part
     Part::To(word_end(path, at + 1))
 }
 
-// The selection whose set begins at `at`, with its closing brace.
+// The selection, which may be empty, whose set begins at `at`, with its closing brace.
 fn read_selection(path: &[u8], at: usize) -> Part
     ensures { λ r. ⌜ SelectionRead (now (path .entry)) at r ⌝ }
 {
@@ -120,9 +139,6 @@ fn read_selection(path: &[u8], at: usize) -> Part
     }
     let first = sign + 1;
     let last = selection_end(path, first);
-    if last == first {
-        return Part::Malformed;
-    }
     if !stands(path, last, b'}') {
         return Part::Malformed;
     }

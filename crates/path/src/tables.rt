@@ -28,7 +28,7 @@ fn row_of_one(kinds: &[u8], pairs: &[u64], b: u8) -> u64
     requires { ⌜ Tables (now kinds) (now pairs) ⌝ }
     ensures { λ r. ⌜ r ≡ rowOf (kindOf b) noByte ⌝ }
 {
-    pairs[(kinds[256 + (b as usize)] as usize) + 6]
+    pairs[(kinds[256 + (b as usize)] as usize) + 8]
 }
 
 // A state and so many names as one number: the names 64 times, and the state's last six bits.
@@ -96,7 +96,7 @@ fn ended(word: u64) -> PrimCount
     if end == 14 {
         return PrimCount::Names((word / 64) as u16);
     }
-    if end == 49 {
+    if end == 42 {
         return PrimCount::Names((word / 64) as u16);
     }
     PrimCount::Malformed
@@ -141,5 +141,5 @@ pub fn has_names(kinds: &[u8], pairs: &[u64], path: &[u8], names: u8) -> bool
     if end == 14 {
         return true;
     }
-    end == 49
+    end == 42
 }

@@ -7,7 +7,7 @@ use mathlib.Core.Path.{_≡_, _∙_, sym}
 use mathlib.Core.Bool.{true}
 use Rattle.model.specs.Path.{equalsSign}
 use Rattle.path.specs.PathReading.{beginsName, standsAt}
-use Rattle.path.proofs.ReadingLaws.{begins-within, stands-within, no-set, no-sign, no-value, no-brace, selection-read}
+use Rattle.path.proofs.ReadingLaws.{begins-within, stands-within, no-set, no-sign, no-brace, selection-read}
 use Rattle.path.proofs.scan.read_selection.Statement.{statement}
 use Rattle.path.proofs.scan.read_selection.Tie as tie
 
@@ -57,36 +57,27 @@ selection-end-requires c κs =
     let s = entry c .args in
     omega (arith, stands-within (s .path .now) (c .before .before .word-end .result) equalsSign (signed c))
 
-returns-3 : tie.Need-returns-3
-returns-3 c =
-    let s = entry (c .before .before) .args in
-    let word = c .before .before .before .before .word-end in
-    no-value (s .path .now) (s .at) (word .result) (begun (c .before .before .before .before .before)) (word .ensures) (signed (c .before .before))
-    (c .before .selection-end .result) (c .before .selection-end .ensures) (c .if3 .taken)
-
 stands-requires-2 : tie.Need-stands-requires-2
 stands-requires-2 c κs = search needs
 
-returns-4 : tie.Need-returns-4
-returns-4 c =
-    let s = entry (c .before .before .before .before) .args in
-    let word = c .before .before .before .before .before .before .word-end in
-    no-brace (s .path .now) (s .at) (word .result) (begun (c .before .before .before .before .before .before .before)) (word .ensures)
-    (signed (c .before .before .before .before)) (c .before .before .before .selection-end .result)
-    (c .before .before .before .selection-end .ensures) (c .before .before .if3 .left)
-    (sym (c .before .stands2 .ensures) ∙ not-true _ (c .if4 .taken))
+returns-3 : tie.Need-returns-3
+returns-3 c =
+    let s = entry (c .before .before .before) .args in
+    let word = c .before .before .before .before .before .word-end in
+    no-brace (s .path .now) (s .at) (word .result) (begun (c .before .before .before .before .before .before)) (word .ensures)
+    (signed (c .before .before .before)) (c .before .before .selection-end .result) (c .before .before .selection-end .ensures)
+    (sym (c .before .stands2 .ensures) ∙ not-true _ (c .if3 .taken))
 
 add-t8 : tie.Need-add-t8
 add-t8 c = search needs
 
-returns-5 : tie.Need-returns-5
-returns-5 c =
-    let s = entry (c .before .before .before .before) .args in
-    let word = c .before .before .before .before .before .before .word-end in
-    selection-read (s .path .now) (s .at) (word .result) (begun (c .before .before .before .before .before .before .before)) (word .ensures)
-    (signed (c .before .before .before .before)) (c .before .before .before .selection-end .result)
-    (c .before .before .before .selection-end .ensures) (c .before .before .if3 .left)
-    (sym (c .before .stands2 .ensures) ∙ not-false _ (c .if4 .left))
+returns-4 : tie.Need-returns-4
+returns-4 c =
+    let s = entry (c .before .before .before) .args in
+    let word = c .before .before .before .before .before .word-end in
+    selection-read (s .path .now) (s .at) (word .result) (begun (c .before .before .before .before .before .before)) (word .ensures)
+    (signed (c .before .before .before)) (c .before .before .selection-end .result) (c .before .before .selection-end .ensures)
+    (sym (c .before .stands2 .ensures) ∙ not-false _ (c .if3 .left))
 
 pub read-selection-spec : {M : Type 1} → statement M
 read-selection-spec =
@@ -100,8 +91,7 @@ read-selection-spec =
     returns-2
     add-first
     selection-end-requires
-    returns-3
     stands-requires-2
-    returns-4
+    returns-3
     add-t8
-    returns-5)
+    returns-4)

@@ -6,12 +6,12 @@ use mathlib.Core.Path.{ap, _∙_}
 use native.Mathlib.Omega.{arith}
 use lib.ListN.{getD}
 use Rattle.path.specs.Tables.{kindOf, noByte}
-use Rattle.path.proofs.PathTables.{kinds-long, pairs-long, eight-read, eight-fits, row-read}
+use Rattle.path.proofs.PathTables.{kinds-long, pairs-long, nine-read, nine-fits, row-read}
 use Rattle.path.proofs.tables.row_of_one.Statement.{statement}
 use Rattle.path.proofs.tables.row_of_one.Tie as tie
 
-small : (s : tie.Start) → getD (s .args .kinds .now) (256 + s .args .b) 0 < 57
-small s = eight-fits _ _ (s .pre) (s .args .b) (omega arith)
+small : (s : tie.Start) → getD (s .args .kinds .now) (256 + s .args .b) 0 < 64
+small s = nine-fits _ _ (s .pre) (s .args .b) (omega arith)
 
 add-result : tie.Need-add-result
 add-result c = search needs
@@ -34,7 +34,7 @@ shared-slice-read-result-2 c = omega (arith, small (c .before .before), pairs-lo
 returns : tie.Need-returns
 returns c =
     let s = c .before .before in
-    ap (λ (k : ℕ). getD (s .args .pairs .now) (k + noByte) 0) (eight-read _ _ (s .pre) (s .args .b) (omega arith))
+    ap (λ (k : ℕ). getD (s .args .pairs .now) (k + noByte) 0) (nine-read _ _ (s .pre) (s .args .b) (omega arith))
     ∙ row-read _ _ (s .pre) (kindOf (s .args .b)) noByte
 
 pub row-of-one-spec : {M : Type 1} → statement M

@@ -6,12 +6,12 @@ use mathlib.Core.Path.{ap, _∙_}
 use native.Mathlib.Omega.{arith}
 use lib.ListN.{getD}
 use Rattle.path.specs.Tables.{kindOf}
-use Rattle.path.proofs.PathTables.{kinds-long, pairs-long, kind-read, kind-fits, eight-read, eight-fits, row-read}
+use Rattle.path.proofs.PathTables.{kinds-long, pairs-long, kind-read, kind-fits, nine-read, nine-fits, row-read}
 use Rattle.path.proofs.tables.row_of_two.Statement.{statement}
 use Rattle.path.proofs.tables.row_of_two.Tie as tie
 
-small : (s : tie.Start) → (getD (s .args .kinds .now) (256 + s .args .a) 0 < 57) × (getD (s .args .kinds .now) (s .args .b) 0 < 8)
-small s = (eight-fits _ _ (s .pre) (s .args .a) (omega arith), kind-fits _ _ (s .pre) (s .args .b) (omega arith))
+small : (s : tie.Start) → (getD (s .args .kinds .now) (256 + s .args .a) 0 < 64) × (getD (s .args .kinds .now) (s .args .b) 0 < 8)
+small s = (nine-fits _ _ (s .pre) (s .args .a) (omega arith), kind-fits _ _ (s .pre) (s .args .b) (omega arith))
 
 add-result : tie.Need-add-result
 add-result c = search needs
@@ -42,8 +42,8 @@ shared-slice-read-result-3 c =
 returns : tie.Need-returns
 returns c =
     let s = c .before .before .before in
-    ap (λ (k : ℕ). getD (s .args .pairs .now) (k + getD (s .args .kinds .now) (s .args .b) 0) 0) (eight-read _ _ (s .pre) (s .args .a) (omega arith))
-    ∙ ap (λ (l : ℕ). getD (s .args .pairs .now) (kindOf (s .args .a) * 8 + l) 0) (kind-read _ _ (s .pre) (s .args .b))
+    ap (λ (k : ℕ). getD (s .args .pairs .now) (k + getD (s .args .kinds .now) (s .args .b) 0) 0) (nine-read _ _ (s .pre) (s .args .a) (omega arith))
+    ∙ ap (λ (l : ℕ). getD (s .args .pairs .now) (kindOf (s .args .a) * 9 + l) 0) (kind-read _ _ (s .pre) (s .args .b))
     ∙ row-read _ _ (s .pre) (kindOf (s .args .a)) (kindOf (s .args .b))
 
 pub row-of-two-spec : {M : Type 1} → statement M
