@@ -15,6 +15,7 @@ mod record;
 mod refusal;
 mod scripts;
 mod sdf;
+mod selections;
 mod snapshot;
 mod stand_ins;
 mod stream;
@@ -43,6 +44,7 @@ usage: oracle answer                                 answer the lines on standar
        oracle script culls SEED COUNT                print lines that cull COUNT small graphs and erase from them
        oracle script culls-large SEED COUNT          print the same on COUNT larger graphs and some of 1,024 nodes
        oracle script lists SEED COUNT                print COUNT lists of calls that write, the graph shown after each
+       oracle selections WORD...                     count the parts that begin with a WORD, and those with wider selections
        oracle deciding SEED COUNT                    print how many pairs of `script strength` each line settles
        oracle time-adding COUNT                      print the nanoseconds that the Rust takes to add COUNT nodes
        oracle time-comparing SHAPE COUNT             print those for comparing its siblings and 10,000 pairs
@@ -71,6 +73,7 @@ fn main() -> ExitCode {
         ["script", "culls", seed, count] => print_script(scripts::culls, seed, count),
         ["script", "culls-large", seed, count] => print_script(scripts::culls_large, seed, count),
         ["script", "lists", seed, count] => print_script(scripts::lists, seed, count),
+        ["selections", ref words @ ..] if !words.is_empty() => Some(print_selections(words)),
         ["deciding", seed, count] => print_script(deciding::print, seed, count),
         ["time-adding", count] => {
             count.parse().ok().map(|count| print(|out| writeln!(out, "{}", timing::adding(count))))
@@ -91,6 +94,12 @@ fn main() -> ExitCode {
 fn print_script(script: Script, seed: &str, count: &str) -> Option<io::Result<()>> {
     let (seed, count) = (seed.parse().ok()?, count.parse().ok()?);
     Some(print(|out| script(seed, count, out)))
+}
+
+/// Prints how many parts the lines of standard input have, and how many of them a path with a wider selection.
+fn print_selections(words: &[&str]) -> io::Result<()> {
+    let [parts, wider] = selections::count(words, &mut io::stdin().lock())?;
+    print(|out| writeln!(out, "{parts} {wider}"))
 }
 
 /// Prints the nanoseconds and the sum of answers of both comparisons, if there is such a shape.

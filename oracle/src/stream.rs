@@ -23,7 +23,7 @@ pub fn answer_all(input: &mut dyn BufRead, out: &mut dyn Write, explained: bool)
 
 /// Reads a line without its newline, and answers whether there was a line. The last one may lack the newline. Of a line
 /// too long to be a call, one byte more is kept than a call may have.
-fn next_line(input: &mut dyn BufRead, line: &mut Vec<u8>) -> io::Result<bool> {
+pub fn next_line(input: &mut dyn BufRead, line: &mut Vec<u8>) -> io::Result<bool> {
     line.clear();
     let mut found = false;
     loop {

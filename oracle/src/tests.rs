@@ -1,5 +1,5 @@
-//! The examples of document 01, the edges of the language, inputs that mean nothing, the plain reader of snapshots, the
-//! plain comparison, ordering, culling and erasing; the scripts.
+//! The examples of document 01, the wider selections of document 02, the edges of the language, inputs that mean
+//! nothing, the plain reader of snapshots, the plain comparison, ordering, culling and erasing; the scripts.
 
 mod culls;
 mod deepening;
@@ -12,6 +12,7 @@ mod orders;
 mod paths;
 mod robustness;
 mod saving;
+mod selections;
 mod setting;
 mod snapshots;
 mod strength;

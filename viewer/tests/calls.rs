@@ -39,6 +39,20 @@ fn the_ring() {
     assert_eq!(stored[..], snapshot(&ring()));
 }
 
+/// Selections as makers write them, empty or with `-` and `|`; others are refused.
+#[test]
+fn makers_selections() {
+    let mut nodes = ring();
+    nodes[2].path = b"/Cell{drive=}".to_vec();
+    nodes[3].path = b"/Cell{drive=ac-400|b}".to_vec();
+    let mut arena = arena_of(&nodes);
+    assert_eq!((count(&arena), compare_sibling_node_strength(&arena, 3, 4)), (Ok(6), Ok(Less)));
+    for path in ["/Cell{drive=.}", "/Cell-1", "/Cell{drive-1=}"] {
+        nodes[3].path = path.into();
+        assert_eq!(refused(read_snapshot(&mut arena, &snapshot(&nodes))), 5);
+    }
+}
+
 #[test]
 fn one_node_twice_and_ancestors() {
     let arena = arena_of(&ring());

@@ -1,4 +1,4 @@
-//! Document 01, "Path": the prim count, or that bytes are no path.
+//! Document 01, "Path", as document 02, W2, widens it: the prim count, or that bytes are no path.
 
 pub const MAX_BYTES: usize = 255;
 
@@ -55,13 +55,10 @@ fn name(bytes: &[u8]) -> Option<&[u8]> {
     begins_name(first).then(|| &bytes[word_length(bytes)..])
 }
 
-/// What follows a selection, from behind its opening brace.
+/// What follows a set and its selection, which may be empty, from behind their opening brace.
 fn selection(bytes: &[u8]) -> Option<&[u8]> {
     let value = name(bytes)?.strip_prefix(b"=")?;
-    let length = word_length(value);
-    if length == 0 {
-        return None;
-    }
+    let length = value.iter().position(|&byte| !in_selection(byte)).unwrap_or(value.len());
     value[length..].strip_prefix(b"}")
 }
 
@@ -74,6 +71,10 @@ fn in_word(byte: u8) -> bool {
     byte.is_ascii_alphanumeric() || byte == b'_'
 }
 
+fn in_selection(byte: u8) -> bool {
+    in_word(byte) || byte == b'-' || byte == b'|'
+}
+
 fn begins_name(byte: u8) -> bool {
     byte.is_ascii_alphabetic() || byte == b'_'
 }
@@ -84,7 +85,7 @@ mod tests {
 
     #[test]
     fn prim_counts() {
-        let counted: [(&[u8], u8); 7] = [
+        let counted: [(&[u8], u8); 16] = [
             (b"/", 0),
             (b"/A", 1),
             (b"/A{v=x}", 1),
@@ -92,6 +93,15 @@ mod tests {
             (b"/A{v=x}{w=y}", 1),
             (b"/A{v=x}B/C", 3),
             (b"/_9{_=9}_9", 2),
+            (b"/Cell{drive=}", 1),
+            (b"/Cell{drive=ac-400|b}", 1),
+            (b"/A{v=}B", 2),
+            (b"/A{v=}{w=}", 1),
+            (b"/A{v=}{w=}B/C", 3),
+            (b"/A{v=-}", 1),
+            (b"/A{v=|}B", 2),
+            (b"/A{v=9-}", 1),
+            (b"/A{v=-|_aZ09}", 1),
         ];
         for (path, count) in counted {
             assert_eq!(prim_count(path), Some(count), "{}", String::from_utf8_lossy(path));
@@ -100,12 +110,14 @@ mod tests {
 
     #[test]
     fn paths_taken_back() {
-        let taken: [(&[u8], usize, &[u8]); 8] = [
+        let taken: [(&[u8], usize, &[u8]); 10] = [
             (b"/A{v=x}B{w=y}", 0, b"/A{v=x}B{w=y}"),
             (b"/A{v=x}B{w=y}", 1, b"/A{v=x}"),
             (b"/A{v=x}B{w=y}", 2, b"/"),
             (b"/A{v=x}B{w=y}", 9, b"/"),
             (b"/A{v=x}{w=y}B/C", 2, b"/A{v=x}{w=y}"),
+            (b"/A{v=}B{w=-|}", 1, b"/A{v=}"),
+            (b"/A{v=}{w=}", 1, b"/"),
             (b"/A/B", 1, b"/A"),
             (b"/A", 1, b"/"),
             (b"/", 1, b"/"),
@@ -119,7 +131,9 @@ mod tests {
     fn malformed_paths() {
         let malformed = [
             "", "A", "//", "/A/", "/A//B", "/1", "/A/1", "/{v=x}", "{v=x}", "/A{v=x}/B", "/A{v=x}1", "/A{1=x}",
-            "/A{=x}", "/A{v=}", "/A{v}", "/A{v=x", "/A{v=x}}", "/A}", "/A{{v=x}", "/A{v=x=y}", "/A=B", "/A B", "/É",
+            "/A{=x}", "/A{v}", "/A{v=x", "/A{v=x}}", "/A}", "/A{{v=x}", "/A{v=x=y}", "/A=B", "/A B", "/É", "/A{v=",
+            "/A{v=.}", "/A{v=+}", "/A{v=,}", "/A{v=~}", "/A{v={}", "/A{v=x y}", "/A{v==}", "/A-B", "/A|B", "/A{v-w=x}",
+            "/A{v|w=x}", "/A{-=x}", "/A{|=}", "/-", "/A{v=x}-", "/A{v=x}|B", "/A{v=}1", "/A{v=}/B", "/A{=}", "/{v=}",
         ];
         for path in malformed {
             assert_eq!(prim_count(path.as_bytes()), None, "{path}");
@@ -131,5 +145,7 @@ mod tests {
         assert_eq!(prim_count("/a".repeat(127).as_bytes()), Some(127));
         assert_eq!(prim_count(format!("/{}", "a".repeat(254)).as_bytes()), Some(1));
         assert_eq!(prim_count(format!("/{}", "a".repeat(255)).as_bytes()), None);
+        assert_eq!(prim_count(format!("/{}{{v=}}", "a".repeat(250)).as_bytes()), Some(1));
+        assert_eq!(prim_count(format!("/{}{{v=}}", "a".repeat(251)).as_bytes()), None);
     }
 }

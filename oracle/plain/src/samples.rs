@@ -13,17 +13,27 @@ pub mod twisted;
 
 use crate::random::Random;
 
-const WORDS: [&str; 8] = ["Line", "Cell_12", "Drive", "Filler", "capper02", "x", "Conveyor_long", "motor"];
+/// Names, and with each a set and its selection. Some selections are empty or have `-` or `|`, as document 02, W2, allows.
+const WORDS: [(&str, &str); 8] = [
+    ("Line", "variant=Line"),
+    ("Cell_12", "variant=ac-400|"),
+    ("Drive", "variantDrive="),
+    ("Filler", "variant=Filler"),
+    ("capper02", "variant=02-|-400"),
+    ("x", "variant=|"),
+    ("Conveyor_long", "variant=Conveyor_long"),
+    ("motor", "variantMotor="),
+];
 
 /// A path of about `length` bytes, with names as planners write them and now and then a selection.
 pub fn path(random: &mut Random, length: usize) -> Vec<u8> {
     let mut path = b"/World".to_vec();
     while path.len() < length {
-        let word = random.pick(&WORDS);
+        let (name, selected) = random.pick(&WORDS);
         if random.one_in(6) {
-            path.extend(format!("{{variant={word}}}{word}").as_bytes());
+            path.extend(format!("{{{selected}}}{name}").as_bytes());
         } else {
-            path.extend(format!("/{word}").as_bytes());
+            path.extend(format!("/{name}").as_bytes());
         }
     }
     path

@@ -5,6 +5,7 @@ mod clock;
 mod culls;
 mod definitions;
 mod orders;
+mod paths;
 mod snapshots;
 mod stack;
 mod strength;

@@ -32,8 +32,8 @@ fn siblings(first: u8, second: u8, others: u32, out: &mut dyn Write) -> io::Resu
     }
     let parent = nodes.len() as u32 - 1;
     nodes.push(Node { parent, origin: parent, depth: 2, ..Node::reference(b"/Maker".to_vec()) });
-    nodes.push(sibling(first, parent, others, b"/Cell"));
-    nodes.push(sibling(second, parent, others >> OTHERS, b"/Drive"));
+    nodes.push(sibling(first, parent, others, b"/Cell{drive=}"));
+    nodes.push(sibling(second, parent, others >> OTHERS, b"/Cell{drive=ac-400|b}"));
     add_all(&nodes, out)?;
     let (a, b) = (parent + 2, parent + 3);
     writeln!(out, "sibling {a} {b}\nsibling {b} {a}\ncompare {a} {b}\ncompare {b} {a}\norder\nlist")

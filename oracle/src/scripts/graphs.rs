@@ -171,7 +171,7 @@ impl Script<'_> {
             child = child_of(&child, self.random.pick(&["k", "Child", "_0"]));
         }
         if self.random.one_in(25) {
-            child = self.random.pick(&["/", "//", "/A{v=x}", "/A/", "A"]).into();
+            child = self.random.pick(&["/", "//", "/A{v=}", "/A/", "A"]).into();
         }
         if self.random.one_in(25) {
             child = format!("/{}", "n".repeat(self.random.between(240, 255)));

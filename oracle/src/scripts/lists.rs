@@ -20,7 +20,7 @@ const SHOWN: &str = "marks\nlist\ncompares\ndump\nchains\n";
 const UNDEEPENED: &str = "marks\nlist\ncompares\nchains\n";
 
 /// Names that fit behind nearly every path.
-const CHILDREN: [&str; 3] = ["/k", "/M/Child", "/A{v=x}_0"];
+const CHILDREN: [&str; 3] = ["/k", "/M/Child", "/A{v=}_0"];
 
 /// A graph has no more nodes than this.
 const NODES: usize = 12;

@@ -1,5 +1,5 @@
-//! Lines on paths: every short string over the classes of bytes that the rules tell apart, paths and joined paths
-//! around the limit of 255 bytes, damaged paths, and lines that write no call.
+//! Lines on paths: every short string over the classes of bytes that the rules tell apart, and over `-`, `|` and their
+//! neighbours; paths and joined paths around the limit of 255 bytes, damaged paths, and lines that write no call.
 
 use std::io::{self, Write};
 
@@ -7,7 +7,7 @@ use crate::line::MAX_LINE;
 use crate::sdf::Path;
 use plain::random::Random;
 
-/// The bytes that document 01's rules tell apart.
+/// The bytes that the rules of paths tell apart: document 01's, as document 02, W2, widens them.
 #[derive(Clone, Copy)]
 enum Class {
     Mark(u8),
@@ -16,15 +16,31 @@ enum Class {
     Other,
 }
 
-const CLASSES: [Class; 8] = [
+const CLASSES: [Class; 10] = [
     Class::Mark(b'/'),
     Class::Mark(b'{'),
     Class::Mark(b'}'),
     Class::Mark(b'='),
     Class::Mark(b'_'),
+    Class::Mark(b'-'),
+    Class::Mark(b'|'),
     Class::Letter,
     Class::Digit,
     Class::Other,
+];
+
+/// `-` and `|` among their neighbours, with a letter, a digit and `=`.
+const NEIGHBOURS: [Class; 10] = [
+    Class::Mark(b'-'),
+    Class::Mark(b'|'),
+    Class::Mark(b','),
+    Class::Mark(b'.'),
+    Class::Mark(b'{'),
+    Class::Mark(b'}'),
+    Class::Mark(b'~'),
+    Class::Mark(b'='),
+    Class::Mark(b'z'),
+    Class::Mark(b'0'),
 ];
 
 /// A byte that separates words or lines and so cannot stand in a word.
@@ -34,14 +50,19 @@ fn separates(byte: u8) -> bool {
 
 pub fn paths(seed: u64, out: &mut dyn Write) -> io::Result<()> {
     let mut script = Script { random: Random::new(seed), out };
-    script.short_strings(b"", 6)?;
-    // Selections need more bytes than six: all that can follow their beginnings.
-    script.short_strings(b"/A{v", 4)?;
-    script.short_strings(b"/A{v=x}", 4)?;
-    script.short_strings(b"/A{v=x}B", 3)?;
-    for _ in 0..1_000 {
+    script.short_strings(&CLASSES, b"", 5)?;
+    // Selections need more bytes than five: all that can follow their beginnings.
+    script.short_strings(&CLASSES, b"/A{v", 4)?;
+    script.short_strings(&CLASSES, b"/A{v=", 5)?;
+    script.short_strings(&CLASSES, b"/A{v=x}", 4)?;
+    script.short_strings(&CLASSES, b"/A{v=x}B", 3)?;
+    for prefix in [&b"/A"[..], b"/A{v", b"/A{v=", b"/A{v=x}"] {
+        script.short_strings(&NEIGHBOURS, prefix, 4)?;
+    }
+    for at in 0..1_000 {
         for length in 250..=258 {
-            script.around_the_limit(length)?;
+            let path = if at % 4 == 0 { script.empty_selection_at(length) } else { script.path_of(length) };
+            script.around_the_limit(path)?;
         }
     }
     for _ in 0..5_000 {
@@ -70,13 +91,13 @@ impl Script<'_> {
         self.line(&[b"back", steps.to_string().as_bytes(), path])
     }
 
-    /// `prefix` followed by every string of at most `longest` classes, each class by a byte of its own.
-    fn short_strings(&mut self, prefix: &[u8], longest: u32) -> io::Result<()> {
+    /// `prefix` followed by every string of at most `longest` of the classes, each by a byte of its own.
+    fn short_strings(&mut self, classes: &[Class], prefix: &[u8], longest: u32) -> io::Result<()> {
         for length in 1..=longest {
-            for code in 0..CLASSES.len().pow(length) {
+            for code in 0..classes.len().pow(length) {
                 let mut path = prefix.to_vec();
                 for place in 0..length {
-                    let class = CLASSES[code / CLASSES.len().pow(place) % CLASSES.len()];
+                    let class = classes[code / classes.len().pow(place) % classes.len()];
                     path.push(self.byte_of(class));
                 }
                 self.short_string(&path)?;
@@ -104,20 +125,20 @@ impl Script<'_> {
         }
     }
 
-    /// A byte that no path has. Neighbours of the classes, bytes above 127 and control bytes come often.
+    /// A byte that no path has. Neighbours of the classes, those of `-` and `|` most of all, bytes above 127 and control
+    /// bytes come often.
     fn other_byte(&mut self) -> u8 {
-        let near = b"@[`^.:;<>|~-\"\\,\t\r\0\x7f\x80\xaf\xc1\xff";
+        let near = b",.~,.~+*@[`^:;<>\"\\\t\r\0\x7f\x80\xaf\xc1\xff";
         loop {
             let byte = if self.random.one_in(2) { self.random.pick(near) } else { self.random.byte() };
-            if !byte.is_ascii_alphanumeric() && !b"/{}=_".contains(&byte) && !separates(byte) {
+            if !byte.is_ascii_alphanumeric() && !b"/{}=_-|".contains(&byte) && !separates(byte) {
                 return byte;
             }
         }
     }
 
-    /// Lines on one path of `length` bytes.
-    fn around_the_limit(&mut self, length: usize) -> io::Result<()> {
-        let path = self.path_of(length);
+    /// Lines on one path of about 255 bytes.
+    fn around_the_limit(&mut self, path: Vec<u8>) -> io::Result<()> {
         self.path(&path)?;
         let steps = self.steps(&path);
         self.back(steps, &path)?;
@@ -160,12 +181,12 @@ impl Script<'_> {
     fn child_of(&mut self, name_length: usize) -> Vec<u8> {
         let mut child = match self.random.below(3) {
             0 => b"/".to_vec(),
-            1 => b"/A{v=x}".to_vec(),
+            1 => self.random.pick(&[&b"/A{v=x}"[..], b"/A{v=}", b"/A{v=9-|}"]).to_vec(),
             _ => b"/A/b/".to_vec(),
         };
         child.extend(self.name(name_length));
         if self.random.one_in(20) {
-            child.extend(b"{v=x}");
+            child.extend(self.random.pick(&[&b"{v=x}"[..], b"{v=}", b"{v=|-}"]));
         }
         child
     }
@@ -187,9 +208,19 @@ impl Script<'_> {
         path
     }
 
+    /// The same that ends in an empty selection. There are at least 12 bytes.
+    fn empty_selection_at(&mut self, length: usize) -> Vec<u8> {
+        let set_length = self.random.between(1, 7);
+        let mut path = self.path_of(length - set_length - 3);
+        path.push(b'{');
+        path.extend(self.name(set_length));
+        path.extend(b"=}");
+        path
+    }
+
     /// What may follow in a path and has at most `left` bytes.
     fn piece(&mut self, left: usize, after_selection: bool, longest_name: usize, selections: usize) -> Vec<u8> {
-        if left >= 5 && self.random.one_in(selections) {
+        if left >= 4 && self.random.one_in(selections) {
             return self.selection(left, longest_name);
         }
         if left == 1 && !after_selection {
@@ -203,14 +234,14 @@ impl Script<'_> {
         piece
     }
 
-    /// `{set=selection}` of at most `left` bytes, which are at least 5.
+    /// `{set=selection}` of at most `left` bytes, which are at least 4; the selection may be empty.
     fn selection(&mut self, left: usize, longest_name: usize) -> Vec<u8> {
-        let set_length = self.random.between(1, longest_name.min(left - 4));
-        let selection_length = self.random.between(1, longest_name.min(left - 3 - set_length));
+        let set_length = self.random.between(1, longest_name.min(left - 3));
+        let selection_length = self.random.between(0, longest_name.min(left - 3 - set_length));
         let mut piece = b"{".to_vec();
         piece.extend(self.name(set_length));
         piece.push(b'=');
-        piece.extend((0..selection_length).map(|_| self.random.pick(b"aZ_09")));
+        piece.extend((0..selection_length).map(|_| self.random.pick(b"aZ_09-|")));
         piece.push(b'}');
         piece
     }
@@ -226,7 +257,7 @@ impl Script<'_> {
             0 => drop(path.remove(at)),
             1 => path.insert(at, path[at]),
             2 => path.truncate(at),
-            3 => path[at] = self.random.pick(b"/{}=_a0"),
+            3 => path[at] = self.random.pick(b"/{}=_a0-|,.~"),
             _ => path[at] = self.any_byte(),
         }
         let steps = self.steps(&path);

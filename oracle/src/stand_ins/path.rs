@@ -1,5 +1,6 @@
-//! Stands for `sdf::Path`. Its file is not supplied, so this is document 01's section on paths, and nothing more. Every
-//! path in the crate is one of these: those of the graph, and those of the lines `path`, `back` and `join`.
+//! Stands for `sdf::Path`. Its file is not supplied, so this is document 01's section on paths, as document 02, W2,
+//! widens it, and nothing more. Every path in the crate is one of these: those of the graph, and those of the lines
+//! `path`, `back` and `join`.
 
 use std::fmt;
 
@@ -116,23 +117,32 @@ fn follows_grammar(bytes: &[u8]) -> bool {
 /// What follows `set=selection}`.
 fn after_set_and_selection(bytes: &[u8]) -> Option<&[u8]> {
     let rest = after_name(bytes)?.strip_prefix(b"=")?;
-    after_word(rest)?.strip_prefix(b"}")
+    after_selection(rest).strip_prefix(b"}")
 }
 
 /// What follows the name, or the set, that `bytes` begin with.
 fn after_name(bytes: &[u8]) -> Option<&[u8]> {
     let first = *bytes.first()?;
-    begins_name(first.into()).then(|| after_word(bytes))?
+    begins_name(first.into()).then(|| after_run(bytes, in_word))
 }
 
-/// What follows the letters, digits and `_` that `bytes` begin with; there must be one.
-fn after_word(bytes: &[u8]) -> Option<&[u8]> {
-    let length = bytes.iter().take_while(|&&byte| in_word(byte.into())).count();
-    (length > 0).then_some(&bytes[length..])
+/// What follows the selection that `bytes` begin with, "any run, also of length nothing".
+fn after_selection(bytes: &[u8]) -> &[u8] {
+    after_run(bytes, in_selection)
+}
+
+/// What follows the characters of one sort that `bytes` begin with.
+fn after_run(bytes: &[u8], belongs: fn(char) -> bool) -> &[u8] {
+    let length = bytes.iter().take_while(|&&byte| belongs(byte.into())).count();
+    &bytes[length..]
 }
 
 fn in_word(character: char) -> bool {
     character.is_ascii_alphanumeric() || character == '_'
+}
+
+fn in_selection(character: char) -> bool {
+    in_word(character) || character == '-' || character == '|'
 }
 
 fn begins_name(character: char) -> bool {

@@ -45,12 +45,12 @@ fn random_bytes() {
 
 #[test]
 fn random_words() {
-    const WORDS: [&str; 57] = [
+    const WORDS: [&str; 59] = [
         "mark", "spec", "specs", "restrict", "due", "introduced", "ancestor", "site", "propagated", "copy", "class",
         "path", "back", "join", "new", "init", "add", "read", "write", "dump", "chains", "marks", "compare", "sibling",
         "compares", "order", "list", "cull", "erasable", "erase", "deepen", "seed", "swap", "save", "restore", "using",
         "below", "intro", "0", "1", "2", "6", "8", "65535", "65536", "4294967295", "4294967296", "-", "/", "/A",
-        "/A{v=x}", "/A{v=x}B", "//", "01", "00000003010000", "0000", "\u{e9}",
+        "/A{v=x}", "/A{v=x}B", "/A{v=}", "/A{v=-|}B", "//", "01", "00000003010000", "0000", "\u{e9}",
     ];
     let mut random = Random::new(4);
     let mut script = String::from("init 0 0 /A\n");
@@ -140,7 +140,7 @@ fn scripts_with_bytes_changed() {
     let mut random = Random::new(8);
     for _ in 0..script.len() / 50 {
         let at = random.below(script.len());
-        script[at] = random.pick(b"0123456789 -/{}=aA_\n");
+        script[at] = random.pick(b"0123456789 -|/{}=aA_\n");
     }
     let unfinished = usize::from(!script.ends_with(b"\n"));
     assert_eq!(lines(&answers(&script)), lines(&script) + unfinished);

@@ -10,7 +10,7 @@ use crate::record::{CULLED, HAS_SPECIALIZES, INERT, INHERIT, REFERENCE, ROOT, SP
 
 /// With 0 to 3 prims, most with 2: what is at depth 1 below them was introduced above.
 const PATHS: [&str; 10] =
-    ["/A/b", "/A/b", "/C/b", "/C{v=x}b", "/A/b{v=x}", "/A/b/c", "/C/b{v=x}c", "/A", "/A{v=x}{w=y}", "/"];
+    ["/A/b", "/A/b", "/C/b", "/C{vw=}b", "/A/b{v=x}", "/A/b/c", "/C/b{v=|}c", "/A", "/A{v=9-}{w=}", "/"];
 
 /// What the nodes of one graph have in common.
 struct Style {

@@ -1,6 +1,6 @@
 //! Snapshots that are not as they were written. Some of the changes leave them acceptable.
 
-use super::graphs::{self, Node, path_of, set_length};
+use super::graphs::{self, Node, path_of, selecting_path_of, set_length};
 use crate::layout::INVALID;
 use crate::path;
 use crate::random::Random;
@@ -53,8 +53,8 @@ fn change_field(random: &mut Random, nodes: &mut [Node]) {
         6 => node.flags ^= random.pick(&[1, 2, 3]),
         7 => node.has_specs = random.pick(&[0, 1, 2, 255]),
         8 => node.path = path_of(random.between(1, path::MAX_BYTES)),
-        9 => node.path = random.pick(&["", "A", "//", "/A{v=x}/B", "/A{v=x}1", "/A{v=x}B", "/A/", "/1"]).into(),
-        10 => node.path = path_of(random.pick(&[path::MAX_BYTES, path::MAX_BYTES + 1])),
+        9 => node.path = random.pick(&OTHER_PATHS).into(),
+        10 => node.path = [path_of, selecting_path_of][at % 2](random.pick(&[path::MAX_BYTES, path::MAX_BYTES + 1])),
         11 => change_letter(random, &mut node.path),
         12 | 13 => node.arc = ROOT,
         14 => node.depth = random.pick(&[0, 1, 2, 5, 65_535]),
@@ -62,10 +62,17 @@ fn change_field(random: &mut Random, nodes: &mut [Node]) {
     }
 }
 
+/// Paths, most of them malformed.
+const OTHER_PATHS: [&str; 24] = [
+    "", "A", "//", "/A{v=x}/B", "/A{v=x}1", "/A{v=x}B", "/A/", "/1", // document 01's rules
+    "", "-", "/-", "/A{v=.,~}", "/A{v=x}-", "/A{v=|}B", "/A-", "/|", // as document 02, W2, widens them
+    "", "|", "/|", "/A{v-w=x}", "/A{v=+}B", "/A{v=-}B", "/A|", "/-",
+];
+
 /// Puts a byte of those that paths have, or any other, into a path.
 pub fn change_letter(random: &mut Random, path: &mut [u8]) {
     let at = random.below(path.len());
-    let byte = if random.one_in(8) { random.byte() } else { random.pick(b"/{}=_aZ09") };
+    let byte = if random.one_in(8) { random.byte() } else { random.pick(b"/{}=_aZ09/{}=_aZ-|") };
     if let Some(letter) = path.get_mut(at) {
         *letter = byte;
     }

@@ -134,13 +134,13 @@ fn fields(random: &mut Random) -> Node {
     }
 }
 
-/// Mostly short; now and then `/`, or one that ends in a selection, or one of 255 bytes.
+/// Mostly short; now and then `/`, or one that ends in an empty selection, or one of 255 bytes, which may do so too.
 fn random_path(random: &mut Random) -> Vec<u8> {
     let length = random.below(40);
     match random.below(12) {
         0 => b"/".to_vec(),
-        1 => [&super::path(random, length)[..], b"{v=x}"].concat(),
-        2 if random.one_in(8) => path_of(path::MAX_BYTES),
+        1 => [&super::path(random, length)[..], b"{vw=}"].concat(),
+        2 if random.one_in(8) => [path_of, selecting_path_of][length % 2](path::MAX_BYTES),
         _ => super::path(random, length),
     }
 }
@@ -150,6 +150,11 @@ pub fn path_of(length: usize) -> Vec<u8> {
     let mut path = vec![b'n'; length];
     path[0] = b'/';
     path
+}
+
+/// The same, of 6 bytes or more: one name and an empty selection.
+pub fn selecting_path_of(length: usize) -> Vec<u8> {
+    [&path_of(length - 4)[..], b"{v=}"].concat()
 }
 
 /// Adds References until there are `wanted` nodes.

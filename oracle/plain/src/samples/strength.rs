@@ -6,7 +6,7 @@ use crate::layout::INVALID;
 use crate::random::Random;
 use crate::record::{HAS_SPECIALIZES, INERT, INHERIT, REFERENCE, RELOCATE, ROOT, SPECIALIZE};
 
-const PATHS: [&str; 6] = ["/A", "/A/b", "/A/b/c", "/M{v=x}", "/M{v=x}n", "/"];
+const PATHS: [&str; 6] = ["/A", "/A/b", "/A/b/c", "/M{v=-}", "/M{vw=}n", "/"];
 
 /// What the nodes of one graph have in common.
 struct Style {

@@ -8,7 +8,7 @@ use crate::layout::{INVALID, MAX_NODES};
 use crate::random::Random;
 use crate::record::{HAS_SPECIALIZES, INERT, INHERIT, REFERENCE, RELOCATE, ROOT, SPECIALIZE};
 
-const PATHS: [&str; 4] = ["/A", "/A/b", "/A/b/c", "/B"];
+const PATHS: [&str; 4] = ["/A", "/A{v=}b", "/A/b/c", "/B{v=-|}"];
 
 /// What the nodes of one graph have in common.
 struct Style {

@@ -1,4 +1,5 @@
-//! `holdsGraph` and `readSnapshot` as crates/model/specs defines them, line by line, and as slow as that is.
+//! `wellFormed`, `primCount`, `holdsGraph` and `readSnapshot` as crates/model/specs defines them, line by line, and as slow
+//! as that is.
 
 const INVALID: u64 = 4_294_967_295;
 
@@ -10,7 +11,6 @@ enum State {
     Name,
     SetStart,
     Set,
-    SelectionStart,
     Selection,
     Closed,
     Dead,
@@ -20,6 +20,7 @@ fn step(state: State, byte: u8) -> State {
     use State::*;
     let start = byte.is_ascii_alphabetic() || byte == b'_';
     let word = start || byte.is_ascii_digit();
+    let selection = word || byte == b'-' || byte == b'|';
     match (state, byte) {
         (Start, b'/') => Root,
         (Root | Slash | Closed, _) if start => Name,
@@ -28,19 +29,19 @@ fn step(state: State, byte: u8) -> State {
         (Name | Closed, b'{') => SetStart,
         (SetStart, _) if start => Set,
         (Set, _) if word => Set,
-        (Set, b'=') => SelectionStart,
-        (SelectionStart | Selection, _) if word => Selection,
+        (Set, b'=') => Selection,
+        (Selection, _) if selection => Selection,
         (Selection, b'}') => Closed,
         _ => Dead,
     }
 }
 
-fn well_formed(path: &[u8]) -> bool {
+pub fn well_formed(path: &[u8]) -> bool {
     let end = path.iter().fold(State::Start, |state, &byte| step(state, byte));
     matches!(end, State::Root | State::Name | State::Closed) && path.len() <= 255
 }
 
-fn prim_count(path: &[u8]) -> u64 {
+pub fn prim_count(path: &[u8]) -> u64 {
     let mut state = State::Start;
     let mut names = 0;
     for &byte in path {

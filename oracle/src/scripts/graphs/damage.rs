@@ -21,7 +21,7 @@ pub fn change_record(random: &mut Random, records: &mut [Record]) {
         6 => record.origin = None,
         7 => record.depth = Some(random.pick(&[0, 1, 2, 5, 65_535])),
         8 => record.has_specs = random.below(3) as u8,
-        9 => record.path = random.pick(&["/", "/A", "/A/B{v=x}", "/A{v=x}/B", "//"]).as_bytes(),
+        9 => record.path = random.pick(&["/", "/A", "/A/B{v=-}", "/A{vw=}/B", "//"]).as_bytes(),
         10 => record.sibling = random.below(3) as u16,
         _ => record.spec_from = random.below(9) as u16,
     }

@@ -117,7 +117,7 @@ impl Script<'_> {
     fn spoil(&mut self, line: &str) -> String {
         const WORDS: [&str; 20] = [
             "-", "0", "2", "3", "6", "7", "255", "256", "1023", "65535", "65536", "4294967294", "4294967295",
-            "4294967296", "x", "//", "/A{v=}", "/1", "", "+1",
+            "4294967296", "x", "//", "/A{v=.}", "/1", "", "+1",
         ];
         let mut words: Vec<&str> = line.split(' ').collect();
         let at = self.random.between(1, words.len() - 1);

@@ -5,7 +5,8 @@ use crate::pcp::prim_graph::ArcType::{self, Inherit, Payload, Reference, Relocat
 use plain::random::Random;
 
 const NAMES: [&str; 6] = ["A", "B", "c_1", "_d", "Drive", "M"];
-const SELECTIONS: [&str; 6] = ["", "", "", "{v=x}", "{v=y}", "{set=0}{w=_}"];
+/// The last two are such only since document 02, W2.
+const SELECTIONS: [&str; 6] = ["", "", "", "{v=x}", "{v=|}", "{w=9-}{set=}"];
 
 pub struct Style {
     pub nodes: usize,
