@@ -1,6 +1,6 @@
 -- The tables by which many paths are read, and what the functions that read by them promise each
--- other. Bytes of one kind are read alike. What a name, a set or a selection may hold is in the
--- kinds' table alone.
+-- other. Bytes of one kind are read alike; what a name, a set or a selection may hold of each kind
+-- is in the rows.
 use mathlib.Core.Path.{_≡_}
 use mathlib.Core.Bool.{Bool, false, _||_, cond}
 use mathlib.Core.List.{List, [], _∷_, _++_}
