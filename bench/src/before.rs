@@ -1,5 +1,6 @@
 //! The proved library beside that of another commit: two processes of this program, each with its own library, turn and
-//! turn about on the same graphs. What the questions take is measured beside each and taken off.
+//! turn about on the same paths and graphs. Of comparing and ordering, what the questions take is measured beside each
+//! and taken off.
 use std::env;
 use std::path::Path;
 use std::time::{Duration, Instant};
@@ -8,8 +9,10 @@ use plain::samples::ordered::ORDERED_SHAPES;
 use plain::samples::strength::SHAPES;
 
 use crate::turns::{self, Turns};
-use crate::{order, strength};
+use crate::{graphs, order, paths, strength};
 
+/// A path's bytes, some more or fewer, and a graph's nodes.
+const LENGTHS: [usize; 4] = [16, 60, 120, 240];
 const SIZES: [usize; 4] = [16, 64, 256, 1_024];
 
 /// The turns on a graph go on for so long, and there are at least so many.
@@ -18,23 +21,25 @@ const LEAST: usize = 10;
 
 /// What is measured, and on which shapes.
 fn measured() -> impl Iterator<Item = (&'static str, &'static str)> {
+    let read = [("prim count", "paths"), ("check", "paths"), ("read", "paths")];
     let compared = |what| SHAPES.iter().map(move |(name, _)| (what, *name));
     let ordered = ORDERED_SHAPES.iter().map(|(name, _)| ("order", *name));
-    compared("siblings").chain(compared("nodes")).chain(ordered)
+    read.into_iter().chain(compared("siblings")).chain(compared("nodes")).chain(ordered)
 }
 
-/// Prints a line for each graph, or for those of one shape: nanoseconds before, now, and their ratio. `other` is this
+/// Prints a line for each size, or for those of one shape: nanoseconds before, now, and their ratio. `other` is this
 /// program with the library of another commit. Fails where one of the two does not answer; no such shape gives nothing.
 pub fn measure(other: &str, only: Option<&str>) -> Option<bool> {
     let shapes: Vec<_> = measured().filter(|(_, shape)| only.is_none_or(|only| only == *shape)).collect();
     shapes.first()?;
-    println!("nanoseconds for a pair, and for ordering a graph, without the questions\n");
-    println!("| what | shape | nodes | before | now | now / before |");
+    println!("nanoseconds: for a path's prim count; for each node, checking an arena and reading a snapshot;");
+    println!("for a pair of nodes and for ordering a graph, both without the questions\n");
+    println!("| what | shape | bytes or nodes | before | now | now / before |");
     println!("|---|---|---|---|---|---|");
     for (what, shape) in shapes {
-        for size in SIZES {
+        for size in if what == "prim count" { LENGTHS } else { SIZES } {
             if compare(other, what, shape, size).is_none() {
-                println!("build {other} first: it measures no {what} of {shape} of {size} nodes");
+                println!("build {other} first: it measures no {what} of {shape} of {size}");
                 return Some(false);
             }
         }
@@ -82,10 +87,20 @@ impl Times {
     }
 }
 
-/// Answers the turns of one graph; nothing where there is no such shape.
+/// Whether libraries from before document 02's W2 read the path too: no selection is empty or has `-` or `|`.
+fn was_path(path: &[u8]) -> bool {
+    !path.iter().any(|byte| b"-|".contains(byte)) && !path.windows(2).any(|two| two == b"=}")
+}
+
+/// Answers the turns of one size; nothing where there is no such shape.
 pub fn serve(what: &str, shape: &str, size: &str) -> Option<bool> {
     let size: usize = size.parse().ok()?;
     let answered = match what {
+        "prim count" => turns::serve(|| paths::turns(size, was_path)),
+        "check" | "read" => {
+            let mut graph = graphs::Graph::of_paths(size, was_path);
+            turns::serve(|| graph.turns(what == "check"))
+        }
         "siblings" | "nodes" => {
             let (_, nodes) = SHAPES.iter().find(|(name, _)| *name == shape)?;
             let graph = strength::Graph::new(nodes(size));

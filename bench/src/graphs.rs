@@ -7,9 +7,9 @@ use plain::arena::holds_graph;
 use plain::layout::{ARENA_BYTES, INVALID, LOCAL_ROOT, SNAPSHOT_BYTES};
 use plain::order;
 use plain::path::prim_count;
-use plain::samples::graphs::{Node, grown, snapshot};
+use plain::samples::graphs::{Node, grown, path_of, snapshot};
 
-use crate::{proved, time};
+use crate::{proved, time, turns};
 
 const SIZES: [usize; 4] = [16, 64, 256, 1_024];
 
@@ -32,7 +32,7 @@ pub fn measure() -> bool {
 }
 
 /// One graph, as it is needed: its children with their parents and paths, its snapshot and an arena that holds it.
-struct Graph {
+pub struct Graph {
     size: usize,
     children: Vec<(u32, Vec<u8>)>,
     snapshot: Vec<u8>,
@@ -41,7 +41,13 @@ struct Graph {
 
 impl Graph {
     fn new(size: usize) -> Self {
-        let children = grown(size);
+        Self::of_paths(size, |_| true)
+    }
+
+    /// With a path of one name, as long, in place of each that is not taken.
+    pub fn of_paths(size: usize, taken: impl Fn(&[u8]) -> bool) -> Self {
+        let path = |path: Vec<u8>| if taken(&path) { path } else { path_of(path.len()) };
+        let children: Vec<_> = grown(size).into_iter().map(|(parent, old)| (parent, path(old))).collect();
         let snapshot = snapshot(&nodes(&children));
         let mut arena = vec![0; ARENA_BYTES];
         assert_eq!(plain::snapshot::read(&snapshot, &mut arena), Ok(size));
@@ -59,6 +65,18 @@ impl Graph {
     fn time(&self, one: impl FnMut(), other: impl FnMut()) -> (f64, f64) {
         let (one, other) = time::least(200, 8_192 / self.size, one, other);
         (one / self.size as f64, other / self.size as f64)
+    }
+
+    /// Nanoseconds for each node, the least of the turns of a while: the check of the arena, or reading the snapshot
+    /// into it, and nothing beside it.
+    pub fn turns(&mut self, check: bool) -> (f64, f64) {
+        let runs = 8_192 / self.size;
+        let Self { snapshot, arena, .. } = self;
+        let mut run = || match check {
+            true => _ = black_box(proved::is_graph(black_box(arena))),
+            false => _ = black_box(proved::read_snapshot(arena, black_box(snapshot))),
+        };
+        (time::least_within(turns::LONG, || (0..runs).for_each(|_| run())) / (runs * self.size) as f64, 0.0)
     }
 
     /// Copies the snapshot.

@@ -24,8 +24,8 @@ usage: bench [paths]                  measure reading paths
        bench strength                 measure comparing nodes
        bench order                    measure ordering graphs, without question 2 and with it
        bench culling                  measure culling, the erasable set and erasing
-       bench before OTHER [SHAPE]     measure comparing and ordering beside OTHER, this program with another library
-       bench turns WHAT SHAPE COUNT   measure one graph for a while for each line of input: what OTHER is asked
+       bench before OTHER [SHAPE]     measure reading, comparing and ordering beside OTHER, this program with another library
+       bench turns WHAT SHAPE COUNT   measure one size for a while for each line of input: what OTHER is asked
        bench arenas SEED COUNT        compare the check on COUNT damaged arenas, and on whole ones
        bench snapshots SEED COUNT     compare the reading of COUNT snapshots, whole and damaged
        bench orders SEED SMALL LARGE  compare the ordering of so many small graphs, and of so many large ones

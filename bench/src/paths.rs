@@ -1,11 +1,12 @@
 //! Reading a path: `path::prim_count` beside a plain Rust scan.
 use std::hint::black_box;
+use std::iter;
 
 use plain::path::prim_count;
 use plain::random::Random;
 use plain::samples;
 
-use crate::{proved, time};
+use crate::{proved, time, turns};
 
 /// What `bench_prim_count` answers for bytes that are no path.
 const MALFORMED: u32 = 65536;
@@ -21,11 +22,22 @@ fn read_all(strings: &[Vec<u8>], read: impl Fn(&[u8]) -> u32) {
     }
 }
 
+/// 2,000 paths of about `length` bytes that are taken; the same ones each time.
+fn strings(length: usize, taken: impl Fn(&[u8]) -> bool) -> Vec<Vec<u8>> {
+    let mut random = Random::new(length as u64);
+    iter::repeat_with(|| samples::path(&mut random, length)).filter(|path| taken(path)).take(2000).collect()
+}
+
+/// Nanoseconds for the prim count of such a path, the least of the turns of a while, and nothing beside it.
+pub fn turns(length: usize, taken: impl Fn(&[u8]) -> bool) -> (f64, f64) {
+    let strings = strings(length, taken);
+    (time::least_within(turns::LONG, || read_all(&strings, proved::prim_count)) / strings.len() as f64, 0.0)
+}
+
 pub fn measure() -> bool {
     println!("reading a path: bytes, plain Rust ns, proved ns, proved / plain");
     for length in [10, 30, 60, 120, 240] {
-        let mut random = Random::new(length as u64);
-        let strings: Vec<Vec<u8>> = (0..2000).map(|_| samples::path(&mut random, length)).collect();
+        let strings = strings(length, |_| true);
         for string in &strings {
             assert_eq!(plainly(string), proved::prim_count(string));
         }
