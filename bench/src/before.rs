@@ -39,7 +39,7 @@ pub fn measure(other: &str, only: Option<&str>) -> Option<bool> {
     for (what, shape) in shapes {
         for size in if what == "prim count" { LENGTHS } else { SIZES } {
             if compare(other, what, shape, size).is_none() {
-                println!("build {other} first: it measures no {what} of {shape} of {size}");
+                println!("{other} measures no {what} of {shape} of {size}: it is not built, or its library refuses it");
                 return Some(false);
             }
         }

@@ -103,6 +103,7 @@ impl Graph {
     pub fn new(nodes: &[Node]) -> Self {
         let mut arena = vec![0; ARENA_BYTES];
         assert_eq!(plain::snapshot::read(&snapshot(nodes), &mut arena), Ok(nodes.len()));
+        assert_eq!(proved::is_graph(&arena), 1, "what is refused takes no time");
         let starts = [0].into_iter().chain((0..nodes.len()).map(slot_at));
         let unordered = starts.map(|start| arena[start..][..PRIM_COUNT].try_into().expect("as many bytes")).collect();
         Self { size: nodes.len(), arena, unordered }

@@ -47,6 +47,7 @@ impl Graph {
     pub fn new(nodes: Vec<Node>) -> Self {
         let mut arena = vec![0; ARENA_BYTES];
         assert_eq!(plain::snapshot::read(&snapshot(&nodes), &mut arena), Ok(nodes.len()));
+        assert_eq!(proved::is_graph(&arena), 1, "what is refused takes no time");
         Self {
             size: nodes.len(),
             arena,

@@ -84,7 +84,8 @@ mayEnd selection = false
 mayEnd closed = true
 mayEnd dead = false
 
--- "A whole path has 1 to 255 bytes"
+-- "A whole path has 1 to 255 bytes"; this is what question 5 asks of bytes, and so "question 5 reads
+-- the new rule" (W2)
 unfoldable pub wellFormed : List ℕ → Bool
 wellFormed p = mayEnd (run start p) && leb (length p) 255
 
