@@ -7,7 +7,7 @@ use mathlib.Core.List.{List, [], _∷_}
 use Prim.Native.Nat.{ℕ, suc, _<_, _≤_}
 use lib.Dec.{eqb, ltb}
 use lib.ListN.{length, getD, drop}
-use Rattle.model.specs.Path.{State, name, setStart, closed, step, mayEnd, inName, isNameStart, isWordByte}
+use Rattle.model.specs.Path.{State, name, setStart, closed, step, mayEnd, inName, isNameStart, isWordByte, isSelectionByte}
 use Rattle.model.specs.declared.PrimCount.{PrimCount}
 use Rattle.model.specs.declared.PrimCount.the-variants.{Names, Malformed}
 use Rattle.path.specs.declared.scan.Part.{Part}
@@ -22,6 +22,11 @@ counted q r n = cond (not (inName q) && inName r) (suc n) n
 abbrev pub reading : State → ℕ → List ℕ → PrimCount
 reading q n [] = cond (mayEnd q) (Names n) Malformed
 reading q n (b ∷ bs) = reading (step q b) (counted q (step q b) n) bs
+
+-- a byte of a selection, or else of a name or a set
+abbrev pub inRun : Bool → ℕ → Bool
+inRun true = isSelectionByte
+inRun false = isWordByte
 
 -- from `at` up to i stand bytes that pass the test
 pub record Passed (test : ℕ → Bool) (p : List ℕ) (at i : ℕ) : Type 0 where

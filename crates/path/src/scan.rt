@@ -6,9 +6,9 @@ ghost use mathlib.Core.Path.{_≡_};
 ghost use mathlib.Core.Bool.{true, false};
 ghost use Prim.Native.Nat.{_+_, _<_, _≤_};
 ghost use lib.ListN.{length, drop};
-ghost use Rattle.model.specs.Path.{start, slash, name, between, isNameStart, isWordByte, isSelectionByte};
+ghost use Rattle.model.specs.Path.{start, slash, name, between, isNameStart, isWordByte};
 ghost use Rattle.path.specs.PathReading.{Run, Stops, NameRead, SelectionRead, ElementRead, reading};
-ghost use Rattle.path.specs.PathReading.{standing, beginsName, standsAt, asName, asSelection};
+ghost use Rattle.path.specs.PathReading.{inRun, standing, beginsName, standsAt, asName, asSelection};
 
 // A part of a path: where it ends, or that it is malformed.
 pub enum Part {
@@ -54,11 +54,15 @@ fn is_word_byte(b: u8) -> bool
     within(b'0', b'9', b)
 }
 
-fn is_selection_byte(b: u8) -> bool
-    ensures { λ r. ⌜ r ≡ isSelectionByte b ⌝ }
+// Whether the byte may stand in a selection, or else in a name or a set.
+fn in_run(b: u8, selection: bool) -> bool
+    ensures { λ r. ⌜ r ≡ inRun selection b ⌝ }
 {
     if is_word_byte(b) {
         return true;
+    }
+    if !selection {
+        return false;
     }
     if b == b'-' {
         return true;
@@ -66,29 +70,14 @@ fn is_selection_byte(b: u8) -> bool
     b == b'|'
 }
 
-// Where the run of word bytes from `at` ends.
-fn word_end(path: &[u8], at: usize) -> usize
+// Where the run of such bytes from `at` ends.
+fn run_end(path: &[u8], at: usize, selection: bool) -> usize
     requires { ⌜ at ≤ length (now path) ⌝ }
-    ensures { λ r. ⌜ Run isWordByte (now (path .entry)) at r ⌝ }
+    ensures { λ r. ⌜ Run (inRun selection) (now (path .entry)) at r ⌝ }
 {
     let mut i = at;
     while i < path.len() {
-        if !is_word_byte(path[i]) {
-            return i;
-        }
-        i += 1;
-    }
-    i
-}
-
-// Where the run of selection bytes from `at` ends.
-fn selection_end(path: &[u8], at: usize) -> usize
-    requires { ⌜ at ≤ length (now path) ⌝ }
-    ensures { λ r. ⌜ Run isSelectionByte (now (path .entry)) at r ⌝ }
-{
-    let mut i = at;
-    while i < path.len() {
-        if !is_selection_byte(path[i]) {
+        if !in_run(path[i], selection) {
             return i;
         }
         i += 1;
@@ -123,7 +112,7 @@ fn read_name(path: &[u8], at: usize) -> Part
     if !name_begins(path, at) {
         return Part::Malformed;
     }
-    Part::To(word_end(path, at + 1))
+    Part::To(run_end(path, at + 1, false))
 }
 
 // The selection, which may be empty, whose set begins at `at`, with its closing brace.
@@ -133,12 +122,12 @@ fn read_selection(path: &[u8], at: usize) -> Part
     if !name_begins(path, at) {
         return Part::Malformed;
     }
-    let sign = word_end(path, at + 1);
+    let sign = run_end(path, at + 1, false);
     if !stands(path, sign, b'=') {
         return Part::Malformed;
     }
     let first = sign + 1;
-    let last = selection_end(path, first);
+    let last = run_end(path, first, true);
     if !stands(path, last, b'}') {
         return Part::Malformed;
     }

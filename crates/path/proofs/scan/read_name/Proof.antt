@@ -16,21 +16,21 @@ returns c =
     let s = c .before .before .before .args in
     no-name (s .path .now) (s .at) (sym (c .before .name-begins .ensures) ∙ not-true _ (c .if1 .taken))
 
-add-word-end : tie.Need-add-word-end
-add-word-end c =
+add-run-end : tie.Need-add-run-end
+add-run-end c =
     let s = c .before .before .before .args in
     omega (arith, begins-within (s .path .now) (s .at) (sym (c .before .name-begins .ensures) ∙ not-false _ (c .if1 .left)))
 
-word-end-requires : tie.Need-word-end-requires
-word-end-requires c κs =
+run-end-requires : tie.Need-run-end-requires
+run-end-requires c κs =
     let s = c .before .before .before .args in
     omega (arith, begins-within (s .path .now) (s .at) (sym (c .before .name-begins .ensures) ∙ not-false _ (c .if1 .left)))
 
 returns-2 : tie.Need-returns-2
 returns-2 c =
     let s = c .before .before .before .before .args in
-    name-read (s .path .now) (s .at) (c .word-end .result) (sym (c .before .before .name-begins .ensures) ∙ not-false _ (c .before .if1 .left)) (c .word-end .ensures)
+    name-read (s .path .now) (s .at) (c .run-end .result) (sym (c .before .before .name-begins .ensures) ∙ not-false _ (c .before .if1 .left)) (c .run-end .ensures)
 
 pub read-name-spec : {M : Type 1} → statement M
 read-name-spec =
-    tie.close (tie.spec name-begins-requires returns add-word-end word-end-requires returns-2)
+    tie.close (tie.spec name-begins-requires returns add-run-end run-end-requires returns-2)

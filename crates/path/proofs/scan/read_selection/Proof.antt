@@ -19,7 +19,7 @@ begun : (c : tie.Else1) → beginsName (c .before .before .before .args .path .n
 begun c = sym (c .before .name-begins .ensures) ∙ not-false _ (c .if1 .left)
 
 -- past the second `=` stands behind it
-signed : (c : tie.Else2) → standsAt (entry c .args .path .now) (c .before .before .word-end .result) equalsSign ≡ true
+signed : (c : tie.Else2) → standsAt (entry c .args .path .now) (c .before .before .run-end .result) equalsSign ≡ true
 signed c = sym (c .before .stands .ensures) ∙ not-false _ (c .if2 .left)
 
 name-begins-requires : tie.Need-name-begins-requires
@@ -30,13 +30,13 @@ returns c =
     let s = c .before .before .before .args in
     no-set (s .path .now) (s .at) (sym (c .before .name-begins .ensures) ∙ not-true _ (c .if1 .taken))
 
-add-word-end : tie.Need-add-word-end
-add-word-end c =
+add-run-end : tie.Need-add-run-end
+add-run-end c =
     let s = c .before .before .before .args in
     omega (arith, begins-within (s .path .now) (s .at) (begun c))
 
-word-end-requires : tie.Need-word-end-requires
-word-end-requires c κs =
+run-end-requires : tie.Need-run-end-requires
+run-end-requires c κs =
     let s = c .before .before .before .args in
     omega (arith, begins-within (s .path .now) (s .at) (begun c))
 
@@ -46,16 +46,16 @@ stands-requires c κs = search needs
 returns-2 : tie.Need-returns-2
 returns-2 c =
     let s = c .before .before .before .before .before .before .args in
-    no-sign (s .path .now) (s .at) (c .before .before .word-end .result) (begun (c .before .before .before)) (c .before .before .word-end .ensures)
+    no-sign (s .path .now) (s .at) (c .before .before .run-end .result) (begun (c .before .before .before)) (c .before .before .run-end .ensures)
     (sym (c .before .stands .ensures) ∙ not-true _ (c .if2 .taken))
 
 add-first : tie.Need-add-first
 add-first c = search needs
 
-selection-end-requires : tie.Need-selection-end-requires
-selection-end-requires c κs =
+run-end-requires-2 : tie.Need-run-end-requires-2
+run-end-requires-2 c κs =
     let s = entry c .args in
-    omega (arith, stands-within (s .path .now) (c .before .before .word-end .result) equalsSign (signed c))
+    omega (arith, stands-within (s .path .now) (c .before .before .run-end .result) equalsSign (signed c))
 
 stands-requires-2 : tie.Need-stands-requires-2
 stands-requires-2 c κs = search needs
@@ -63,9 +63,9 @@ stands-requires-2 c κs = search needs
 returns-3 : tie.Need-returns-3
 returns-3 c =
     let s = entry (c .before .before .before) .args in
-    let word = c .before .before .before .before .before .word-end in
+    let word = c .before .before .before .before .before .run-end in
     no-brace (s .path .now) (s .at) (word .result) (begun (c .before .before .before .before .before .before)) (word .ensures)
-    (signed (c .before .before .before)) (c .before .before .selection-end .result) (c .before .before .selection-end .ensures)
+    (signed (c .before .before .before)) (c .before .before .run-end2 .result) (c .before .before .run-end2 .ensures)
     (sym (c .before .stands2 .ensures) ∙ not-true _ (c .if3 .taken))
 
 add-t8 : tie.Need-add-t8
@@ -74,9 +74,9 @@ add-t8 c = search needs
 returns-4 : tie.Need-returns-4
 returns-4 c =
     let s = entry (c .before .before .before) .args in
-    let word = c .before .before .before .before .before .word-end in
+    let word = c .before .before .before .before .before .run-end in
     selection-read (s .path .now) (s .at) (word .result) (begun (c .before .before .before .before .before .before)) (word .ensures)
-    (signed (c .before .before .before)) (c .before .before .selection-end .result) (c .before .before .selection-end .ensures)
+    (signed (c .before .before .before)) (c .before .before .run-end2 .result) (c .before .before .run-end2 .ensures)
     (sym (c .before .stands2 .ensures) ∙ not-false _ (c .if3 .left))
 
 pub read-selection-spec : {M : Type 1} → statement M
@@ -85,12 +85,12 @@ read-selection-spec =
     (tie.spec
     name-begins-requires
     returns
-    add-word-end
-    word-end-requires
+    add-run-end
+    run-end-requires
     stands-requires
     returns-2
     add-first
-    selection-end-requires
+    run-end-requires-2
     stands-requires-2
     returns-3
     add-t8
