@@ -29,19 +29,8 @@ const CLASSES: [Class; 10] = [
     Class::Other,
 ];
 
-/// `-` and `|` among their neighbours, with a letter, a digit and `=`.
-const NEIGHBOURS: [Class; 10] = [
-    Class::Mark(b'-'),
-    Class::Mark(b'|'),
-    Class::Mark(b','),
-    Class::Mark(b'.'),
-    Class::Mark(b'{'),
-    Class::Mark(b'}'),
-    Class::Mark(b'~'),
-    Class::Mark(b'='),
-    Class::Mark(b'z'),
-    Class::Mark(b'0'),
-];
+/// `-` and `|` among their neighbours, with a sign, a letter and a digit.
+const NEIGHBOURS: &[u8; 10] = b"-|,.{}~=z0";
 
 /// A byte that separates words or lines and so cannot stand in a word.
 fn separates(byte: u8) -> bool {
@@ -57,7 +46,7 @@ pub fn paths(seed: u64, out: &mut dyn Write) -> io::Result<()> {
     script.short_strings(&CLASSES, b"/A{v=x}", 4)?;
     script.short_strings(&CLASSES, b"/A{v=x}B", 3)?;
     for prefix in [&b"/A"[..], b"/A{v", b"/A{v=", b"/A{v=x}"] {
-        script.short_strings(&NEIGHBOURS, prefix, 4)?;
+        script.short_strings(&NEIGHBOURS.map(Class::Mark), prefix, 4)?;
     }
     for at in 0..1_000 {
         for length in 250..=258 {
