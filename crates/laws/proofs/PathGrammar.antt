@@ -1,7 +1,7 @@
 -- Document 01's grammar of paths, with the selections of document 02, W2, by the last element of a
--- path, and that the automaton of specs/Path.antt decides it: the reading of the paths of the grammar may end (`grammar-may-end`),
--- and that of no others (`may-end-grammar`); with the limit, `well-formed-decides`. Assumes
--- nothing.
+-- path, and that the automaton of specs/Path.antt decides it: the reading of the paths of the
+-- grammar may end (`grammar-may-end`), and that of no others (`may-end-grammar`); with the limit,
+-- `well-formed-decides`. Assumes nothing.
 use mathlib.Core.Path.{_≡_, refl, sym, _∙_}
 use mathlib.Core.Logic.{_≢_, _↔_}
 use mathlib.Core.Bool.{Bool, true, not, and-false, not-and-self, and-eq-true-iff, true≢false, false≢true}
@@ -42,8 +42,8 @@ select p s v = p ++ openBrace ∷ s ++ equalsSign ∷ v ++ closeBrace ∷ []
 
 -- "A path is `/`, or `/` then a prim name, then any run of: `/name`; `{set=selection}`; and,
 -- straight after `}`, a name with no slash. After `}` a slash is malformed": `/`, or a path with a
--- name appended (by a slash, but not after `/` or `}`), or a path other than `/` with a selection,
--- of those that may be selected.
+-- name appended (by a slash, but not after `/` or `}`), or a path other than `/` with a selection.
+-- What may be selected is given, so that the former grammar can be named too.
 pub data GrammarOf (Selected : List ℕ → Type 0) : List ℕ → Type 0 where
   only-slash : {q : List ℕ} → q ≡ solidus ∷ [] → GrammarOf Selected q
   named : {q : List ℕ} (p w : List ℕ) → GrammarOf Selected p → Name w → q ≡ appendName p w → GrammarOf Selected q
