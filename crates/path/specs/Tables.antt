@@ -12,8 +12,8 @@ use Rattle.model.specs.declared.PrimCount.{PrimCount}
 use Rattle.model.specs.declared.PrimCount.the-variants.{Names, Malformed}
 use Rattle.path.specs.PathReading.{reading}
 
--- the kind of each byte: 0 a letter or `_`, 1 a digit, 2 `/`, 3 `{`, 4 `=`, 5 `}`, 6 `-` or `|`, 7 any
--- other
+-- the kind of each byte: 0 a letter or `_`, 1 a digit, 2 `/`, 3 `{`, 4 `=`, 5 `}`, 6 `-` or `|`, and
+-- 7 any other
 unfoldable pub kindList : List ℕ
 kindList =
     7 ∷ 7 ∷ 7 ∷ 7 ∷ 7 ∷ 7 ∷ 7 ∷ 7 ∷ 7 ∷ 7 ∷ 7 ∷ 7 ∷ 7 ∷ 7 ∷ 7 ∷ 7 ∷ 7 ∷ 7 ∷ 7 ∷ 7 ∷ 7 ∷ 7 ∷ 7 ∷ 7 ∷ 7 ∷ 7 ∷ 7 ∷ 7 ∷ 7 ∷ 7 ∷ 7 ∷ 7 ∷ 7 ∷ 7 ∷
