@@ -8,7 +8,7 @@ use native.Mathlib.Omega.{arith}
 use lib.Dec.{eqb, ltb}
 use lib.ListN.{length}
 use borrow.Author.Tests.{eqb-true, ne_eqb, lt-ltb, le-ltb, ltb-true}
-use Rattle.model.specs.Lists.{any_below_lem}
+use Rattle.model.specs.Lists.{any_below}
 use Rattle.model.specs.Node.{Node}
 use Rattle.model.specs.Graph.{size, node_at, is_local_root}
 use Rattle.model.specs.Refusals.{ask, refusal}
@@ -75,12 +75,12 @@ root-above ns zero e z = let q : ◌≡◌ {A = ℕ} 0 1 = cc in omega arith
 root-above ns (suc k) e z = omega arith
 
 -- there is one where its number is not 0
-pub root-found : (ns : List Node) (k : ℕ) → not (eqb (local_root_below ns k) 0) ≡ any_below_lem (is_local_root ns) k
+pub root-found : (ns : List Node) (k : ℕ) → not (eqb (local_root_below ns k) 0) ≡ any_below (is_local_root ns) k
 root-found ns zero = refl
 root-found ns (suc k) = go (is_local_root ns k) refl (root-found ns k)
   where
-    go : (t : Bool) → is_local_root ns k ≡ t → not (eqb (local_root_below ns k) 0) ≡ any_below_lem (is_local_root ns) k
-        → not (eqb (cond t k (local_root_below ns k)) 0) ≡ (t || any_below_lem (is_local_root ns) k)
+    go : (t : Bool) → is_local_root ns k ≡ t → not (eqb (local_root_below ns k) 0) ≡ any_below (is_local_root ns) k
+        → not (eqb (cond t k (local_root_below ns k)) 0) ≡ (t || any_below (is_local_root ns) k)
     go true e below = rw (ne_eqb k 0 (root-above ns k e))
     go false e below = below
 

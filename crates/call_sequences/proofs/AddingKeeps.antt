@@ -13,7 +13,7 @@ use lib.ListN.{length}
 use Rattle.model.specs.Path.{well_formed, prim_count}
 use Rattle.model.specs.Node.{Node}
 use Rattle.model.specs.Graph.{Graph, size, node_at, with_node}
-use Rattle.model.specs.Refusals.{ask, has_room_lem, added_kind}
+use Rattle.model.specs.Refusals.{ask, has_room, added_kind}
 use Rattle.model.specs.Calls.{has_node_zero, root_node, init_root, NodeDesc, given_or, prims_over, default_depth, added_node, given_below, add_child}
 use Rattle.laws.proofs.BigEndianLaws.{Bytes}
 use Rattle.laws.proofs.PathGrammar.{well-formed-decides}
@@ -109,6 +109,6 @@ module _ (d : NodeDesc) (fit : NumbersFit d.fields) (deep : DepthFits d.depth) (
   unfolding add_child with_node
   adding-keeps =
       decided-encodable
-      (has_node_zero g ∷ ask 4 (given_below (size g) d.parent && given_below (size g) d.origin) ∷ ask 5 (well_formed d.fields.path) ∷ ask 6 (added_kind g (added_node g d)) ∷ ask 7 (has_room_lem g (added_node g d)) ∷ [])
+      (has_node_zero g ∷ ask 4 (given_below (size g) d.parent && given_below (size g) d.origin) ∷ ask 5 (well_formed d.fields.path) ∷ ask 6 (added_kind g (added_node g d)) ∷ ask 7 (has_room g (added_node g d)) ∷ [])
       g (size g) (with_node g (added_node g d)) refl (adding-keeps-legal d (unordered g) ok.legal)
       (λ a. more-encodable g (added_node g d) ok (numbers-added (a 5))) ok

@@ -11,7 +11,7 @@ use lib.ListN.{length, take, drop, get_or}
 use lib.Seq.{take-length}
 use borrow.Author.Tests.{eq-eqb}
 use Rattle.model.specs.Bytes.{stored}
-use Rattle.model.specs.Lists.{any_below_lem}
+use Rattle.model.specs.Lists.{any_below}
 use Rattle.model.specs.Path.{prim_count}
 use Rattle.model.specs.Node.{Node, changed}
 use Rattle.model.specs.Graph.{Graph, size, node_at, children_of, is_local_root, has_local_root}
@@ -143,7 +143,7 @@ module _ (bs : List ℕ) (bytes : Bytes bs) (o : ValidArena bs) where
       sym (ap (λ (x : Graph). encode x bs) same ∙ encode-decode bs bytes o.whole o.holds)
 
   pub encode-empty : count_in bs ≡ 0 → bs ≡ encode h bs
-  encode-empty z = unchanged (ap (any_below_lem (is_local_root g.nodes)) (sizes bs o ∙ z))
+  encode-empty z = unchanged (ap (any_below (is_local_root g.nodes)) (sizes bs o ∙ z))
 
   pub encode-unrooted : 0 < count_in bs → local_root_in bs ≡ 0 → bs ≡ encode h bs
   encode-unrooted some z =

@@ -16,7 +16,7 @@ use Rattle.model.specs.Path.{well_formed}
 use Rattle.model.specs.Node.{root_arc, has_flag, inert_flag, culled_flag, known_flags, Node, changed, with_known_flags, no_node}
 use Rattle.model.specs.Graph.{Graph, empty_graph, size, node_at, with_node, is_local_root, has_local_root}
 use Rattle.model.specs.Snapshot.{big_endian, record_body, record_bytes, records_bytes, snapshot_body, write_snapshot, field, read_snapshot}
-use Rattle.model.specs.Refusals.{ask, refusal, path_bytes, has_room_lem, arc_allowed, has_specs_allowed, flags_known, culled_allowed, former_kind, links_allowed, record_questions, former_questions}
+use Rattle.model.specs.Refusals.{ask, refusal, path_bytes, has_room, arc_allowed, has_specs_allowed, flags_known, culled_allowed, former_kind, links_allowed, record_questions, former_questions}
 use Rattle.model.specs.Calls.{Outcome, read_into, read_formerly}
 use Rattle.model.specs.Clearing.{cleared_record, cleared_records, cleared_snapshot, snapshot_after, cleared_graph}
 use Rattle.laws.proofs.ListLaws.{any-below-cong}
@@ -186,7 +186,7 @@ questions-split links path kind room known = (
 
 record-splits : (g : Graph) (x : Node) → (refusal (record_questions g x) ≡ 0) ↔ ((refusal (former_questions g x) ≡ 0) × (x.flags < 16))
 record-splits g x =
-    let split = questions-split (links_allowed g x) (well_formed x.path) (former_kind g x) (has_room_lem g x) (flags_known x) in
+    let split = questions-split (links_allowed g x) (well_formed x.path) (former_kind g x) (has_room g x) (flags_known x) in
     let kind = kind-splits (arc_allowed g x) (culled_allowed x) (flags_known x) (has_specs_allowed x) in
     (λ e. let p = split.0 (rw kind at e) in (p.0, ltb-true _ _ p.1), λ p. rw kind (split.1 (p.0, lt-ltb _ _ p.1)))
 

@@ -12,7 +12,7 @@ use native.Mathlib.Omega.{arith}
 use lib.Dec.{eqb, ltb}
 use lib.ListN.{length, get_or}
 use borrow.Author.Tests.{eqb-true, eqb-false, eq-eqb, ne_eqb, ltb-true, ltb-false, lt-ltb, le-ltb}
-use Rattle.model.specs.Lists.{All, bit, count, pick, filter, any_below_lem}
+use Rattle.model.specs.Lists.{All, bit, count, pick, filter, any_below}
 use Rattle.model.specs.Order.{concat_map}
 use Rattle.model.specs.Erasing.{new_number}
 use Rattle.laws.proofs.ListLaws.{bit-eq, bit-ne, filter-append}
@@ -88,11 +88,11 @@ module _ (kept : ℕ → Bool) where
 
 -- a test that what goes fails is passed by one of the kept if by any
 pub any-below-kept : (kept p q : ℕ → Bool) (n : ℕ) → ((i : ℕ) → i < n → kept i ≡ true → q (new_number kept i) ≡ p i)
-    → ((i : ℕ) → i < n → kept i ≡ false → p i ≡ false) → any_below_lem q (new_number kept n) ≡ any_below_lem p n
+    → ((i : ℕ) → i < n → kept i ≡ false → p i ≡ false) → any_below q (new_number kept n) ≡ any_below p n
 any-below-kept kept p q zero h g = refl
 any-below-kept kept p q (suc n) h g = go (kept n) refl (any-below-kept kept p q n (λ i l. h i (omega arith)) (λ i l. g i (omega arith)))
   where
-    go : (b : Bool) → kept n ≡ b → any_below_lem q (new_number kept n) ≡ any_below_lem p n → any_below_lem q (bit b + new_number kept n) ≡ (p n || any_below_lem p n)
+    go : (b : Bool) → kept n ≡ b → any_below q (new_number kept n) ≡ any_below p n → any_below q (bit b + new_number kept n) ≡ (p n || any_below p n)
     go true k ih = rw (one-add (new_number kept n)) (ap₂ (λ (x y : Bool). x || y) (h n (omega arith) k) ih)
     go false k ih = rw (zero-add (new_number kept n), g n (omega arith) k) ih
 

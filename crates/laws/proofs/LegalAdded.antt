@@ -16,7 +16,7 @@ use Rattle.model.specs.Path.{well_formed, prim_count}
 use Rattle.model.specs.Node.{invalid, root_arc, Node, is_inert, is_culled}
 use Rattle.model.specs.Graph.{Graph, empty_graph, size, node_at, with_node, is_shallow, is_local_root, has_local_root}
 use Rattle.model.specs.Strength.{view}
-use Rattle.model.specs.Refusals.{Question, ask, most_nodes, most_path_bytes, path_bytes, has_room_lem, arc_allowed, flags_known, fields_allowed, added_kind, culled_allowed, root_record, record_questions, refusal}
+use Rattle.model.specs.Refusals.{Question, ask, most_nodes, most_path_bytes, path_bytes, has_room, arc_allowed, flags_known, fields_allowed, added_kind, culled_allowed, root_record, record_questions, refusal}
 use Rattle.model.specs.Snapshot.{read_snapshot}
 use Rattle.model.specs.Calls.{Outcome, has_node_zero, NodeDesc, root_node, init_root, given_or, added_node, given_below, add_child, read_if, read_on, read_or12, read_into}
 use Rattle.laws.proofs.PathGrammar.{well-formed-length}
@@ -177,7 +177,7 @@ arc-allowed g x e = (leb-true x.arc 6 parts.0, root)
 fields-allowed : (x : Node) → fields_allowed x ≡ true → (x.flags < 16) × (x.has_specs ≤ 1)
 fields-allowed x e = let both = (and-eq-true_iff (flags_known x) _).0 e in (ltb-true _ _ both.0, leb-true _ _ both.1)
 
-has_room_lem : (g : Graph) (x : Node) → has_room_lem g x ≡ true → (size g < most_nodes) × (path_bytes g.nodes + length x.path ≤ most_path_bytes)
+has_room_lem : (g : Graph) (x : Node) → has_room g x ≡ true → (size g < most_nodes) × (path_bytes g.nodes + length x.path ≤ most_path_bytes)
 has_room_lem g x e = let both = (and-eq-true_iff (ltb (size g) most_nodes) _).0 e in (ltb-true _ _ both.0, leb-true _ _ both.1)
 
 -- ---- Starting: node 0
@@ -212,7 +212,7 @@ link-below count (some n) default e h = ltb-true n count e
 
 abbrev add_questions : NodeDesc → Graph → List Question
 add_questions d g =
-    has_node_zero g ∷ ask 4 (given_below (size g) d.parent && given_below (size g) d.origin) ∷ ask 5 (well_formed d.fields.path) ∷ ask 6 (added_kind g (added_node g d)) ∷ ask 7 (has_room_lem g (added_node g d)) ∷ []
+    has_node_zero g ∷ ask 4 (given_below (size g) d.parent && given_below (size g) d.origin) ∷ ask 5 (well_formed d.fields.path) ∷ ask 6 (added_kind g (added_node g d)) ∷ ask 7 (has_room g (added_node g d)) ∷ []
 
 pub adding-keeps-legal : (d : NodeDesc) (g : Graph) → Legal g → Legal (add_child d g).graph
 unfolding add_child
@@ -224,7 +224,7 @@ adding-keeps-legal d g legal =
     x = added_node g d
 
     addable : 0 < size g → (given_below (size g) d.parent && given_below (size g) d.origin) ≡ true
-        → well_formed d.fields.path ≡ true → added_kind g x ≡ true → has_room_lem g x ≡ true → Addable g x
+        → well_formed d.fields.path ≡ true → added_kind g x ≡ true → has_room g x ≡ true → Addable g x
     addable some-node links well kind room =
         let below = (and-eq-true_iff (given_below (size g) d.parent) _).0 links in
         let parent : x.parent < size g = link-below (size g) d.parent 0 below.0 some-node in

@@ -12,7 +12,7 @@ use lib.Seq.{append_snoc, get_or-append_seam}
 use borrow.Author.Tests.{eqb-true, eqb-false, eq-eqb, ltb-true, lt-ltb, le-leb}
 use Rattle.model.specs.Node.{invalid, root_arc, Node, no_node, is_culled}
 use Rattle.model.specs.Graph.{Graph, empty_graph, size, node_at, with_node, is_local_root, has_local_root}
-use Rattle.model.specs.Refusals.{most_nodes, most_path_bytes, path_bytes, has_room_lem, arc_allowed, read_kind, links_allowed, record_questions, refusal}
+use Rattle.model.specs.Refusals.{most_nodes, most_path_bytes, path_bytes, has_room, arc_allowed, read_kind, links_allowed, record_questions, refusal}
 use Rattle.laws.proofs.ListLaws.{any-below-fails}
 use Rattle.laws.proofs.SnapshotReadLaws.{built, GrowsFrom, Grows}
 use Rattle.laws.proofs.LegalGraphs.{RootRecord, LocalRoot, Legal, empty-legal}
@@ -54,7 +54,7 @@ module _ (g : Graph) (x : Node) (new : Addable g x) where
       go false q = refl
       go true q = rw (new.record-legal.root-unculled (eqb-true x.arc root_arc q))
 
-  room-passes : has_room_lem g x ≡ true
+  room-passes : has_room g x ≡ true
   room-passes =
       rw (lt-ltb (size g) most_nodes new.node-fits) (le-leb (path_bytes g.nodes + length x.path) most_path_bytes new.path-fits)
 

@@ -1,6 +1,6 @@
 -- What the other files cite of the lists of specs/Lists.antt: `All` and `Pairs` through `++`,
 -- `map`, `filter` and `concat_map`; `count`, and what permutations share; `every`, `all_below` and
--- `any_below_lem` as "for all" and "for some"; and where `keep_at` puts an element. Assumes nothing.
+-- `any_below` as "for all" and "for some"; and where `keep_at` puts an element. Assumes nothing.
 use mathlib.Core.Path.{◌≡◌, refl, sym, ap, ap₂, ◌∙◌}
 use mathlib.Core.Logic.{◌⊎◌, inl, inr, ◌↔◌}
 use mathlib.Core.Bool.{Bool, true, false, ◌||◌, ◌&&◌, cond, and-eq-true_iff, or-true, true≢false, false≢true}
@@ -12,7 +12,7 @@ use native.Mathlib.Omega.{arith}
 use lib.Dec.{eqb}
 use lib.ListN.{length, get_or}
 use borrow.Author.Tests.{eqb-true, eq-eqb, ne_eqb}
-use Rattle.model.specs.Lists.{All, Pairs, bit, count, SameCounts, pick, filter, every, all_below, any_below_lem, keep_at}
+use Rattle.model.specs.Lists.{All, Pairs, bit, count, SameCounts, pick, filter, every, all_below, any_below, keep_at}
 use Rattle.model.specs.Order.{concat_map}
 use Rattle.model.specs.Erasing.{new_number}
 
@@ -212,30 +212,30 @@ all-below-fails p n = (find n, λ k. refute (all_below p n) refl k)
     refute true e k = absurd (true≢false (sym ((all-below p n).0 e k.0 k.1) ∙ k.2))
     refute false e k = refl
 
-pub any_below_lem : (p : ℕ → Bool) (n : ℕ) → (any_below_lem p n ≡ true) ↔ ((i : ℕ) × (i < n) × (p i ≡ true))
+pub any_below_lem : (p : ℕ → Bool) (n : ℕ) → (any_below p n ≡ true) ↔ ((i : ℕ) × (i < n) × (p i ≡ true))
 any_below_lem p zero = (λ e. absurd (false≢true e), λ k. absurd (omega (arith, k.1)))
 any_below_lem p (suc n) = (
   find (p n) refl (any_below_lem p n).0,
   λ k. meet k.0 k.2 (λ l. (any_below_lem p n).1 (k.0, l, k.2)) (eq-or-lt_of_le {n = k.0} {m = n} (omega (arith, k.1))),
 )
   where
-    find : (b : Bool) → p n ≡ b → (any_below_lem p n ≡ true → (i : ℕ) × (i < n) × (p i ≡ true)) → (b || any_below_lem p n) ≡ true
+    find : (b : Bool) → p n ≡ b → (any_below p n ≡ true → (i : ℕ) × (i < n) × (p i ≡ true)) → (b || any_below p n) ≡ true
         → (i : ℕ) × (i < suc n) × (p i ≡ true)
     find true q rest e = (n, omega arith, q)
     find false q rest e = let k = rest e in (k.0, omega arith, k.2)
 
-    meet : (i : ℕ) → p i ≡ true → (i < n → any_below_lem p n ≡ true) → (i ≡ n) ⊎ (i < n) → (p n || any_below_lem p n) ≡ true
+    meet : (i : ℕ) → p i ≡ true → (i < n → any_below p n ≡ true) → (i ≡ n) ⊎ (i < n) → (p n || any_below p n) ≡ true
     meet i e rest (inl q) = rw (← q, e)
     meet i e rest (inr l) = rw (rest l) (or-true (p n))
 
-pub any-below-fails : (p : ℕ → Bool) (n : ℕ) → (any_below_lem p n ≡ false) ↔ ((i : ℕ) → i < n → p i ≡ false)
-any-below-fails p n = (λ e i h. refute e i h (p i) refl, λ h. go h (any_below_lem p n) refl)
+pub any-below-fails : (p : ℕ → Bool) (n : ℕ) → (any_below p n ≡ false) ↔ ((i : ℕ) → i < n → p i ≡ false)
+any-below-fails p n = (λ e i h. refute e i h (p i) refl, λ h. go h (any_below p n) refl)
   where
-    refute : any_below_lem p n ≡ false → (i : ℕ) → i < n → (b : Bool) → p i ≡ b → b ≡ false
+    refute : any_below p n ≡ false → (i : ℕ) → i < n → (b : Bool) → p i ≡ b → b ≡ false
     refute e i h true q = absurd (true≢false (sym ((any_below_lem p n).1 (i, h, q)) ∙ e))
     refute e i h false q = refl
 
-    go : ((i : ℕ) → i < n → p i ≡ false) → (b : Bool) → any_below_lem p n ≡ b → b ≡ false
+    go : ((i : ℕ) → i < n → p i ≡ false) → (b : Bool) → any_below p n ≡ b → b ≡ false
     go h true e = let k = (any_below_lem p n).0 e in absurd (true≢false (sym k.2 ∙ h k.0 k.1))
     go h false e = refl
 
@@ -243,7 +243,7 @@ pub all-below-cong : (p q : ℕ → Bool) (n : ℕ) → ((i : ℕ) → i < n →
 all-below-cong p q zero h = refl
 all-below-cong p q (suc n) h = ap₂ ◌&&◌ (h n (omega arith)) (all-below-cong p q n (λ i l. h i (omega arith)))
 
-pub any-below-cong : (p q : ℕ → Bool) (n : ℕ) → ((i : ℕ) → i < n → p i ≡ q i) → any_below_lem p n ≡ any_below_lem q n
+pub any-below-cong : (p q : ℕ → Bool) (n : ℕ) → ((i : ℕ) → i < n → p i ≡ q i) → any_below p n ≡ any_below q n
 any-below-cong p q zero h = refl
 any-below-cong p q (suc n) h = ap₂ ◌||◌ (h n (omega arith)) (any-below-cong p q n (λ i l. h i (omega arith)))
 

@@ -21,7 +21,7 @@ use Rattle.model.specs.declared.Ordering.TheVariants.{Less}
 use Rattle.model.specs.Lists.{All, Pairs, count, SameCounts, pick}
 use Rattle.model.specs.Graph.{Graph, size, children_of}
 use Rattle.model.specs.Strength.{View, view_of, origin_root_node, sibling_lines, nodes_by, compare_sibling_node_strength, compare_node_strength}
-use Rattle.model.specs.Order.{Sorted, is_less, is_sorted_lem, walk, is_stronger, sorted_children, has_order}
+use Rattle.model.specs.Order.{Sorted, is_less, is_sorted, walk, is_stronger, sorted_children, has_order}
 use Rattle.model.specs.Places.{by_place, Fits, Certified}
 use Rattle.laws.proofs.Views.{LegalView}
 use Rattle.laws.proofs.ListLaws.{all-at, all-imp, pairs-imp, pairs-once, pairs-both, pairs-at, all-below}
@@ -51,7 +51,7 @@ pub authored-order : (g : Graph) (lists : ℕ → List ℕ) → ((v : ℕ) → v
     → SortedLists (view_of g) (size g) lists → OrderIs g lists
 unfolding has_order is_stronger
 authored-order g lists same sorted = record {
-  has-order = (all-below (λ v. is_sorted_lem (is_stronger g) (sorted_children g v)) (size g)).1
+  has-order = (all-below (λ v. is_sorted (is_stronger g) (sorted_children g v)) (size g)).1
       (λ v h. rw (reached v h) ((is_sorted_lem (is_stronger g) (lists v)).1 (sorted v h)));
   sorted-as = reached;
 }

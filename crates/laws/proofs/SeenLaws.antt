@@ -11,7 +11,7 @@ use lib.Dec.{eqb, ltb}
 use lib.ListN.{length, set}
 use lib.Seq.{get_or-set_same, get_or-set_other, set_out}
 use borrow.Author.Tests.{eqb-true, eqb-false, ltb-true, ltb-false}
-use Rattle.model.specs.Lists.{any_below_lem}
+use Rattle.model.specs.Lists.{any_below}
 use Rattle.model.specs.Path.{prim_count, path_at_intro_depth, same_path}
 use Rattle.model.specs.Node.{root_arc, Node, no_node, has_specializes, same_site}
 use Rattle.model.specs.Graph.{node_at, depth_below_introduction, path_at_introduction, is_local_root, in_local_stack}
@@ -68,7 +68,7 @@ module _ (ns ms : List Node) (c : SeenAlike ns ms) where
 
   pub local-stack-kept : (n : ℕ) → in_local_stack ms n ≡ in_local_stack ns n
   unfolding in_local_stack
-  local-stack-kept n = λ t. any_below_lem (λ i. local-root-kept i t && eqb ((c.node i).stack t) ((c.node n).stack t)) (c.same_length t)
+  local-stack-kept n = λ t. any_below (λ i. local-root-kept i t && eqb ((c.node i).stack t) ((c.node n).stack t)) (c.same_length t)
 
   pub view-kept : view ms ≡ view ns
   unfolding same_site

@@ -13,12 +13,12 @@ use lib.Dec.{eqb, ltb}
 use lib.ListN.{length, get_or, set, length-append, length-set, get_or-append}
 use lib.Seq.{append_snoc, get_or-append_seam, get_or-set_same, get_or-set_other, ext_get_or}
 use borrow.Author.Tests.{ltb-true, lt-ltb, eqb-true, eqb-false, ne_eqb}
-use Rattle.model.specs.Lists.{pick, filter, any_below_lem}
+use Rattle.model.specs.Lists.{pick, filter, any_below}
 use Rattle.model.specs.Path.{well_formed}
 use Rattle.model.specs.Node.{Node, no_node}
 use Rattle.model.specs.Graph.{Graph, empty_graph, size, node_at, children_of, is_shallow, with_node}
 use Rattle.model.specs.Snapshot.{write_snapshot, read_snapshot}
-use Rattle.model.specs.Refusals.{Question, ask, refusal, has_room_lem, read_kind, links_allowed, record_questions}
+use Rattle.model.specs.Refusals.{Question, ask, refusal, has_room, read_kind, links_allowed, record_questions}
 use Rattle.model.specs.Calls.{Outcome, unchanged, read_if, read_on, read_or12, read_into}
 use Rattle.laws.proofs.BigEndianLaws.{Bytes}
 use Rattle.laws.proofs.SnapshotLaws.{NodesFit, written-reads-back, read-is-written}
@@ -44,7 +44,7 @@ pub record Fresh (g : Graph) : Type 0 where
   pub parents-lower : (c : ℕ) → 0 < c → c < size g → (node_at g.nodes c).parent < c
   pub lists : length g.children ≡ size g
   pub children : (v : ℕ) → children_of g v ≡ filter (has_parent g.nodes v) (below (size g))
-  pub shallow : g.shallow ≡ any_below_lem (λ c. is_shallow g.nodes c (node_at g.nodes c)) (size g)
+  pub shallow : g.shallow ≡ any_below (λ c. is_shallow g.nodes c (node_at g.nodes c)) (size g)
   pub order : g.order ≡ []
   pub not-ordered : g.ordered ≡ false
   pub not-finalized : g.finalized ≡ false
@@ -72,7 +72,7 @@ filter_same p q zero h = refl
 filter_same p q (suc n) h =
     rw (filter-snoc p (below n) n, filter-snoc q (below n) n, filter_same p q n (λ c l. h c (omega arith)), h n (omega arith))
 
-any_same : (p q : ℕ → Bool) (n : ℕ) → ((c : ℕ) → c < n → p c ≡ q c) → any_below_lem p n ≡ any_below_lem q n
+any_same : (p q : ℕ → Bool) (n : ℕ) → ((c : ℕ) → c < n → p c ≡ q c) → any_below p n ≡ any_below q n
 any_same p q zero h = refl
 any_same p q (suc n) h = rw (h n (omega arith), any_same p q n (λ c l. h c (omega arith)))
 
@@ -135,8 +135,8 @@ module _ (g : Graph) (x : Node) (f : Fresh g) (p : 0 < size g → x.parent < siz
         filter_same (has_parent more v) (has_parent g.nodes v) (size g) (λ c l. ap (λ (y : Node). ltb 0 c && eqb y.parent v) (earlier c l)),
       )
 
-  shallow-step : any_below_lem (λ c. is_shallow more c (node_at more c)) (length more)
-      ≡ is_shallow g.nodes (size g) x || any_below_lem (λ c. is_shallow g.nodes c (node_at g.nodes c)) (size g)
+  shallow-step : any_below (λ c. is_shallow more c (node_at more c)) (length more)
+      ≡ is_shallow g.nodes (size g) x || any_below (λ c. is_shallow g.nodes c (node_at g.nodes c)) (size g)
   shallow-step =
       rw (
         length-snoc g.nodes x,
@@ -189,7 +189,7 @@ fresh-is-built g f =
     ext_get_or [] (built g.nodes).children g.children (b.lists ∙ ap length same ∙ sym f.lists)
     (λ v l. b.children v ∙ ap (λ (ns : List Node). filter (has_parent ns v) (below (length ns))) same ∙ sym (f.children v)) in
     let marks : (built g.nodes).shallow ≡ g.shallow =
-    b.shallow ∙ ap (λ (ns : List Node). any_below_lem (λ c. is_shallow ns c (node_at ns c)) (length ns)) same ∙ sym f.shallow in
+    b.shallow ∙ ap (λ (ns : List Node). any_below (λ c. is_shallow ns c (node_at ns c)) (length ns)) same ∙ sym f.shallow in
     λ i. record {
       nodes = same i;
       children = lists i;
@@ -205,7 +205,7 @@ pub record RecordPasses (g : Graph) (x : Node) : Type 0 where
   pub links : links_allowed g x ≡ true
   pub path : well_formed x.path ≡ true
   pub kind : read_kind g x ≡ true
-  pub room : has_room_lem g x ≡ true
+  pub room : has_room g x ≡ true
 
 pub all_pass : (a b c d : Bool) → refusal (ask 4 a ∷ ask 5 b ∷ ask 6 c ∷ ask 7 d ∷ []) ≡ 0
     → (a ≡ true) × (b ≡ true) × (c ≡ true) × (d ≡ true)
@@ -217,7 +217,7 @@ all_pass false b c d e = absurd (omega arith)
 
 pub record-passes : (g : Graph) (x : Node) → refusal (record_questions g x) ≡ 0 → RecordPasses g x
 record-passes g x e =
-    let t = all_pass (links_allowed g x) (well_formed x.path) (read_kind g x) (has_room_lem g x) e in
+    let t = all_pass (links_allowed g x) (well_formed x.path) (read_kind g x) (has_room g x) e in
     record { links = t.0; path = t.1; kind = t.2; room = t.3 }
 
 -- ---- Reading

@@ -12,7 +12,7 @@ use Rattle.model.specs.Setting.{marked, may_mark, with_first_spec, restricted_at
 use Rattle.model.specs.Erasing.{stays, can_erase, new_number, erase}
 use Rattle.model.specs.Deepening.{append_child_name_to_all_sites}
 use Rattle.model.specs.Snapshot.{read_snapshot}
-use Rattle.model.specs.Refusals.{Question, ask, refusal, most_path_bytes, path_bytes, has_room_lem, added_kind, record_questions, former_questions}
+use Rattle.model.specs.Refusals.{Question, ask, refusal, most_path_bytes, path_bytes, has_room, added_kind, record_questions, former_questions}
 
 -- ---- What a call that writes a graph comes to
 
@@ -110,7 +110,7 @@ given_below count (some n) = ltb n count
 unfoldable pub add_child : NodeDesc → Graph → Outcome
 add_child d g =
     decided
-    (has_node_zero g ∷ ask 4 (given_below (size g) d.parent && given_below (size g) d.origin) ∷ ask 5 (well_formed d.fields.path) ∷ ask 6 (added_kind g (added_node g d)) ∷ ask 7 (has_room_lem g (added_node g d)) ∷ [])
+    (has_node_zero g ∷ ask 4 (given_below (size g) d.parent && given_below (size g) d.origin) ∷ ask 5 (well_formed d.fields.path) ∷ ask 6 (added_kind g (added_node g d)) ∷ ask 7 (has_room g (added_node g d)) ∷ [])
     g (size g) (with_node g (added_node g d))
 
 -- ---- Setting fields of one node

@@ -1,7 +1,7 @@
 -- Document 01, "Node and site": the graph that the nodes make, a node more, and what is asked of
 -- one node.
 use Rattle.std.specs.Prelude.{Bool, false, not, ◌||◌, ◌&&◌, cond, List, [], ◌∷◌, ◌++◌, ℕ, suc, ◌+◌, ◌-◌, eqb, ltb, length, get_or, set}
-use Rattle.model.specs.Lists.{any_below_lem}
+use Rattle.model.specs.Lists.{any_below}
 use Rattle.model.specs.Path.{prim_count, same_path, path_at_intro_depth, absolute_root}
 use Rattle.model.specs.Node.{invalid, root_arc, Node, no_node, is_inert, is_culled}
 
@@ -72,11 +72,11 @@ unfoldable pub is_local_root : List Node → ℕ → Bool
 is_local_root ns n = ltb 0 n && eqb (node_at ns n).arc root_arc
 
 abbrev pub has_local_root : List Node → Bool
-has_local_root ns = any_below_lem (is_local_root ns) (length ns)
+has_local_root ns = any_below (is_local_root ns) (length ns)
 
 -- has the local root's stack
 unfoldable pub in_local_stack : List Node → ℕ → Bool
-in_local_stack ns n = any_below_lem (λ i. is_local_root ns i && eqb (node_at ns i).stack (node_at ns n).stack) (length ns)
+in_local_stack ns n = any_below (λ i. is_local_root ns i && eqb (node_at ns i).stack (node_at ns n).stack) (length ns)
 
 -- "`node_using_site`: the lowest node neither INERT nor CULLED with that stack and path, else no
 -- node"

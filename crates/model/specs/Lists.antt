@@ -42,9 +42,9 @@ abbrev pub all_below : (ℕ → Bool) → ℕ → Bool
 all_below p zero = true
 all_below p (suc n) = p n && all_below p n
 
-abbrev pub any_below_lem : (ℕ → Bool) → ℕ → Bool
-any_below_lem p zero = false
-any_below_lem p (suc n) = p n || any_below_lem p n
+abbrev pub any_below : (ℕ → Bool) → ℕ → Bool
+any_below p zero = false
+any_below p (suc n) = p n || any_below p n
 
 -- the elements whose places pass the test (`rest` once: an example of 20 nodes would take 2²⁰
 -- steps)

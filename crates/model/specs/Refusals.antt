@@ -50,8 +50,8 @@ path_bytes [] = 0
 path_bytes (x ∷ xs) = length x.path + path_bytes xs
 
 -- "Do 1,024 nodes, 32,768 path bytes as the sum now held" suffice for a node more?
-abbrev pub has_room_lem : Graph → Node → Bool
-has_room_lem g x = ltb (size g) most_nodes && leb (path_bytes g.nodes + length x.path) most_path_bytes
+abbrev pub has_room : Graph → Node → Bool
+has_room g x = ltb (size g) most_nodes && leb (path_bytes g.nodes + length x.path) most_path_bytes
 
 -- ---- Question 6: "Are arc, flags and has-specs allowed?"
 
@@ -100,7 +100,7 @@ links_allowed g x = cond (eqb (size g) 0) (root_record x) (ltb x.parent (size g)
 -- "Asked before 4 to 7 in a snapshot; those go record by record": by a rule for question 6
 abbrev pub questions_by : (Graph → Node → Bool) → Graph → Node → List Question
 questions_by kind g x =
-    ask 4 (links_allowed g x) ∷ ask 5 (well_formed x.path) ∷ ask 6 (kind g x) ∷ ask 7 (has_room_lem g x) ∷ []
+    ask 4 (links_allowed g x) ∷ ask 5 (well_formed x.path) ∷ ask 6 (kind g x) ∷ ask 7 (has_room g x) ∷ []
 
 abbrev pub record_questions : Graph → Node → List Question
 record_questions g x = questions_by read_kind g x

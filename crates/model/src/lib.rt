@@ -2,9 +2,9 @@
 // its number, Answers.antt each answer its refusal and its value, Path.antt says what the answers
 // about a path are.
 ghost use Rattle.std.specs.Prelude.{◌≡◌, not, eqb};
-ghost use Rattle.model.specs.Answers.{orderingNumber, nodeOption, nodeNumber};
+ghost use Rattle.model.specs.Answers.{ordering_number, node_option, node_number};
 ghost use Rattle.model.specs.Node.{invalid, optional};
-ghost use Rattle.model.specs.Refusals.{refusalNumber};
+ghost use Rattle.model.specs.Refusals.{refusal_number};
 
 // A node's number.
 #[derive(Drop)]
@@ -38,7 +38,7 @@ pub enum NodeOption {
 impl NodeOption {
     // The node of that number, or none where it is the number that no node has.
     pub fn of(number: u32) -> NodeOption
-        ensures { nodeOption result ≡ optional number }
+        ensures { node_option result ≡ optional number }
     {
         let node = NodeId::new(number);
         if node.is_valid() {
@@ -49,7 +49,7 @@ impl NodeOption {
 
     // The node's number, or the number that no node has.
     pub fn number(self) -> u32
-        ensures { result ≡ nodeNumber (nodeOption self) }
+        ensures { result ≡ node_number (node_option self) }
     {
         match self {
             NodeOption::Some(node) => node.0,
@@ -76,7 +76,7 @@ pub enum Ordering {
 impl Ordering {
     // Less is 0, Equal 1 and Greater 2.
     pub fn number(self) -> u8
-        ensures { result ≡ orderingNumber self }
+        ensures { result ≡ ordering_number self }
     {
         match self {
             Ordering::Less => 0,
@@ -106,7 +106,7 @@ pub enum Refusal {
 impl Refusal {
     // The question's number, 1 to 12.
     pub fn number(self) -> u8
-        ensures { result ≡ refusalNumber self }
+        ensures { result ≡ refusal_number self }
     {
         match self {
             Refusal::Size => 1,

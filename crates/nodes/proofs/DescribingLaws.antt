@@ -14,7 +14,7 @@ use borrow.Author.Tests.{ne_eqb, lt-ltb}
 use Rattle.model.specs.Path.{well_formed}
 use Rattle.model.specs.Node as model
 use Rattle.model.specs.Graph.{Graph, size, has_local_root}
-use Rattle.model.specs.Refusals.{ask, refusal, path_bytes, has_room_lem, added_kind}
+use Rattle.model.specs.Refusals.{ask, refusal, path_bytes, has_room, added_kind}
 use Rattle.model.specs.Calls as calls
 use Rattle.model.specs.Calls.{given_or, given_below, added_node}
 use Rattle.model.specs.Arena.{count_in, record_length_in, node_in, tabulate, decode, local_root_in}
@@ -91,7 +91,7 @@ module _ (g : Graph) (d : calls.NodeDesc) (some-node : 0 < size g) where
   add-questions =
       let links : links_at (before_next g false false) (numbers_of x) ≡ (given_below (size g) d.parent && given_below (size g) d.origin) =
       rw (ne_eqb (size g) 0 (λ z. omega arith)) links-asked in
-      ap (λ (t : Bool). refusal (ask 4 t ∷ ask 5 (well_formed x.path) ∷ ask 6 (added_kind g x) ∷ ask 7 (has_room_lem g x) ∷ [])) links
+      ap (λ (t : Bool). refusal (ask 4 t ∷ ask 5 (well_formed x.path) ∷ ask 6 (added_kind g x) ∷ ask 7 (has_room g x) ∷ [])) links
 
 module _ (bs : List ℕ) (o : ValidArena bs) (desc : NodeDesc) (path : List ℕ) (some-node : 0 < count_in bs) where
   abbrev d : calls.NodeDesc

@@ -9,7 +9,7 @@ use native.Mathlib.Omega.{arith}
 use lib.Dec.{eqb}
 use lib.ListN.{length}
 use borrow.Author.Tests.{eqb-true, eqb-false}
-use Rattle.model.specs.Lists.{any_below_lem}
+use Rattle.model.specs.Lists.{any_below}
 use Rattle.model.specs.Node as model
 use Rattle.model.specs.Answers.{node_option}
 use Rattle.model.specs.Graph.{is_local_root}
@@ -45,7 +45,7 @@ shown bs n r x l =
 
 -- 0 is the number of no local root
 none-or-found : (ns : List model.Node) (k : ℕ)
-    → cond (eqb (local_root_below ns k) 0) none (some (local_root_below ns k)) ≡ cond (any_below_lem (is_local_root ns) k) (some (local_root_below ns k)) none
+    → cond (eqb (local_root_below ns k) 0) none (some (local_root_below ns k)) ≡ cond (any_below (is_local_root ns) k) (some (local_root_below ns k)) none
 none-or-found ns k = rw (sym (root-found ns k)) (turned (eqb (local_root_below ns k) 0))
   where
     turned : (t : Bool) → cond t none (some (local_root_below ns k)) ≡ cond (not t) (some (local_root_below ns k)) none

@@ -4,7 +4,7 @@ use Rattle.std.specs.Prelude.{◌≡◌, ◌&&◌, List, [], ◌∷◌, ℕ, ◌
 use Rattle.model.specs.Path.{well_formed, prim_count}
 use Rattle.model.specs.Node.{invalid}
 use Rattle.model.specs.Graph.{Graph, size}
-use Rattle.model.specs.Refusals.{Question, ask, refusal, has_room_lem, added_kind}
+use Rattle.model.specs.Refusals.{Question, ask, refusal, has_room, added_kind}
 use Rattle.model.specs.Calls as calls
 use Rattle.model.specs.Calls.{given_or, given_below, added_node}
 use Rattle.model.specs.Answers.{node_option, number_option}
@@ -43,7 +43,7 @@ desc_of d path = record {
 -- `add_child`'s questions 4 to 7, which are put where there is a node 0
 abbrev pub add_questions : Graph → calls.NodeDesc → List Question
 add_questions g d =
-    ask 4 (given_below (size g) d.parent && given_below (size g) d.origin) ∷ ask 5 (well_formed d.fields.path) ∷ ask 6 (added_kind g (added_node g d)) ∷ ask 7 (has_room_lem g (added_node g d)) ∷ []
+    ask 4 (given_below (size g) d.parent && given_below (size g) d.origin) ∷ ask 5 (well_formed d.fields.path) ∷ ask 6 (added_kind g (added_node g d)) ∷ ask 7 (has_room g (added_node g d)) ∷ []
 
 -- the first no of them; an accepted node has its path's prim count
 pub record DescChecked (g : Graph) (d : calls.NodeDesc) (r : Checked) : Type 0 where

@@ -14,12 +14,12 @@ use lib.Dec.{eqb, ltb}
 use lib.ListN.{length, take, drop, get_or, set, length-drop, length-set, get_or-append}
 use lib.Seq.{take_all, take-suc, drop-cons, drop-length, length-take-le, get_or-append_seam, get_or-set_same, get_or-set_other}
 use borrow.Author.Tests.{ltb-true, leb-true}
-use Rattle.model.specs.Lists.{any_below_lem}
+use Rattle.model.specs.Lists.{any_below}
 use Rattle.model.specs.Path.{well_formed, prim_count}
 use Rattle.model.specs.Node.{root_arc, Node, no_node}
 use Rattle.model.specs.Graph.{Graph, empty_graph, node_at, with_node, is_local_root, has_local_root}
 use Rattle.model.specs.Snapshot.{field, read_record}
-use Rattle.model.specs.Refusals.{refusal_number, refusal, most_nodes, most_path_bytes, path_bytes, has_room_lem, former_kind, links_allowed}
+use Rattle.model.specs.Refusals.{refusal_number, refusal, most_nodes, most_path_bytes, path_bytes, has_room, former_kind, links_allowed}
 use Rattle.model.specs.Calls.{Outcome, read_if, read_on, read_or12}
 use Rattle.model.specs.declared.Refusal.{Refusal}
 use Rattle.model.specs.declared.UnitResult.TheVariants.{Done, Refused as FinishRefused}
@@ -52,8 +52,8 @@ rule-at : (any : Bool) (g : Graph) (x : Node) → rule_of any g x ≡ questions_
 rule-at true g x = former-questions-at g x
 rule-at false g x = questions-at g x
 
-rule-room : (any : Bool) (g : Graph) (x : Node) → refusal (rule_of any g x) ≡ 0 → has_room_lem g x ≡ true
-rule-room true g x e = (all_pass (links_allowed g x) (well_formed x.path) (former_kind g x) (has_room_lem g x) e).3
+rule-room : (any : Bool) (g : Graph) (x : Node) → refusal (rule_of any g x) ≡ 0 → has_room g x ≡ true
+rule-room true g x e = (all_pass (links_allowed g x) (well_formed x.path) (former_kind g x) (has_room g x) e).3
 rule-room false g x e = (record-passes g x e).room
 
 questions-here : (any : Bool) (xs : List Node) (n : ℕ) (x : Node) → n ≤ length xs
@@ -70,7 +70,7 @@ paths-more xs n h =
 root-snoc : (ns : List Node) (x : Node) → has_local_root (ns ++ (x ∷ [])) ≡ (ltb 0 (length ns) && eqb x.arc root_arc) || has_local_root ns
 unfolding is_local_root
 root-snoc ns x =
-    ap (any_below_lem (is_local_root (ns ++ (x ∷ [])))) (length-snoc ns x)
+    ap (any_below (is_local_root (ns ++ (x ∷ [])))) (length-snoc ns x)
     ∙ rw (get_or-append_seam ns x [] no_node)
     (ap (λ (t : Bool). (ltb 0 (length ns) && eqb x.arc root_arc) || t)
     (any-below-cong (is_local_root (ns ++ (x ∷ []))) (is_local_root ns) (length ns)

@@ -12,7 +12,7 @@ use native.Mathlib.Omega.{arith}
 use lib.Dec.{eqb}
 use lib.ListN.{length}
 use borrow.Author.Tests.{eqb-true, eq-eqb}
-use Rattle.model.specs.Lists.{any_below_lem}
+use Rattle.model.specs.Lists.{any_below}
 use Rattle.model.specs.Node.{Node, no_node}
 use Rattle.model.specs.Graph.{Graph, empty_graph, size, node_at, with_node, is_local_root, has_local_root}
 use Rattle.model.specs.Refusals.{refusal, path_bytes, record_questions}
@@ -96,7 +96,7 @@ module _ (bs : List ℕ) where
   root-grown : (k : ℕ) → Fit bs k → has_local_root (grown (node_in bs) k).nodes ≡ not (eqb (root_below bs k) 0)
   root-grown k fit =
       ap has_local_root (grown-nodes (node_in bs) k)
-      ∙ ap (any_below_lem (is_local_root (tabulate (node_in bs) 0 k))) (tabulate-length (node_in bs) 0 k)
+      ∙ ap (any_below (is_local_root (tabulate (node_in bs) 0 k))) (tabulate-length (node_in bs) 0 k)
       ∙ sym (root-found (tabulate (node_in bs) 0 k) k) ∙ ap (λ (r : ℕ). not (eqb r 0)) (root-tabulated k k (omega arith) fit)
 
 module _ (bs : List ℕ) (whole : length bs ≡ arena_bytes) where

@@ -9,7 +9,7 @@ use native.Mathlib.Omega.{arith}
 use lib.Dec.{eqb, ltb}
 use lib.ListN.{length}
 use borrow.Author.Tests.{eq-eqb, ne_eqb, eqb-true, eqb-false, lt-ltb, ltb-true}
-use Rattle.model.specs.Lists.{any_below_lem}
+use Rattle.model.specs.Lists.{any_below}
 use Rattle.model.specs.Node.{root_arc, specialize_arc, Node}
 use Rattle.model.specs.Graph.{node_at, is_local_root, in_local_stack}
 use Rattle.model.specs.Strength.{is_propagated_specializes}
@@ -100,13 +100,13 @@ module _ (bs : List ℕ) (root n : ℕ) (s : ValidNodeAndRoot bs root n) where
   pub local-stack-none : root ≡ 0 → (view_in bs).local_stack n ≡ false
   unfolding in_local_stack
   local-stack-none z =
-      ap (any_below_lem shares) nodes ∙ (any-below-fails shares (count_in bs)).1 (λ i l. rw (none-is-root z i l))
+      ap (any_below shares) nodes ∙ (any-below-fails shares (count_in bs)).1 (λ i l. rw (none-is-root z i l))
 
   pub local-stack-read : (root ≡ 0 → ⊥) → (view_in bs).local_stack n ≡ eqb (node_at (decode bs).nodes root).stack (node_at (decode bs).nodes n).stack
   unfolding in_local_stack
-  local-stack-read some = ap (any_below_lem shares) nodes ∙ go (eqb (node_at (decode bs).nodes root).stack (node_at (decode bs).nodes n).stack) refl
+  local-stack-read some = ap (any_below shares) nodes ∙ go (eqb (node_at (decode bs).nodes root).stack (node_at (decode bs).nodes n).stack) refl
     where
-      go : (t : Bool) → eqb (node_at (decode bs).nodes root).stack (node_at (decode bs).nodes n).stack ≡ t → any_below_lem shares (count_in bs) ≡ t
+      go : (t : Bool) → eqb (node_at (decode bs).nodes root).stack (node_at (decode bs).nodes n).stack ≡ t → any_below shares (count_in bs) ≡ t
       go true e = (any_below_lem shares (count_in bs)).1 (root, root_below some, rw (root-is-root some) e)
       go false e = (any-below-fails shares (count_in bs)).1 (λ i l. other i l (is_local_root (decode bs).nodes i) refl)
         where
