@@ -5,6 +5,8 @@
 // number is a plain u32, as parameter and as a single field; 4,294,967,295 is no node.
 // The layout is in model/specs/Arena.antt; what is read and stored has its names in specs/Slot.antt
 // and specs/Header.antt; proofs/SlotLaws.antt ties the fields to the node that the bytes hold.
+#![tactic(auto)]
+
 pub mod arcs;
 mod header;
 pub mod offsets;
@@ -32,7 +34,7 @@ pub use slot::{
 
 // A node's record by value: its links, the prim count of its path, the record's length and the
 // record's numbers. Its path stays in the arena (`path`).
-#[derive(Drop)]
+#[derive(Clone, Copy)]
 pub struct Node {
     pub first_child: NodeId,
     pub last_child: NodeId,

@@ -2,6 +2,8 @@
 // below it, with its answer as a number, which carries refusal and value where the call may be
 // refused (crates/c_api). Those on many pairs put their questions to all pairs first; they do not
 // put question 3, and refuse node 0 with itself by 8, which the calls of crates/prim_graph do not.
+#![tactic(auto)]
+
 mod reading;
 mod setting;
 mod sums;

@@ -2,6 +2,8 @@
 // lent bytes. Each function requires that the place is within, which its callers prove, so nothing
 // here refuses. What is read is `field` of model/specs/Snapshot.antt and what is written `stored`
 // of model/specs/Bytes.antt; laws/proofs/StoredLaws.antt has the laws of both, at any width.
+#![tactic(auto)]
+
 ghost use Rattle.std.specs.Prelude.{◌≡◌, [], ◌∷◌, ◌+◌, ◌≤◌, length};
 ghost use Rattle.model.specs.Snapshot.{big_endian, value, field};
 ghost use Rattle.model.specs.Bytes.{stored};
@@ -77,5 +79,5 @@ pub fn write_bytes(out: &mut [u8], at: usize, src: &[u8])
     requires { at + length src.now ≤ length out.old }
     ensures { out.new ≡ stored at src.now out.old }
 {
-    bytes::copy(src, &mut out[at..]);
+    out[at..at + src.len()].copy_from_slice(src);
 }

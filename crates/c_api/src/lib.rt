@@ -2,6 +2,8 @@
 // slices and node numbers. No function has a `requires`: any slices may be lent, any numbers given.
 // A slice is passed as a pointer and a length (viewer/include/cadgweri.h).
 // One number carries a call's refusal and its value (carried.rt).
+#![tactic(auto)]
+
 mod carried;
 
 ghost use Rattle.std.specs.Prelude.{◌≡◌, [], get_or};

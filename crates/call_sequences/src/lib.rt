@@ -2,6 +2,7 @@
 // specs/Demand3.antt states it and proofs/Demand3Proof.antt proves it. Each function here makes one
 // of its calls and no more, to say by its contract that what the code leaves is the step of the
 // list (specs/Steps.antt).
+#![tactic(auto)]
 
 ghost use Rattle.call_sequences.specs.Steps.{Starts, Adds, Orders, Culls, Erases, Deepens, Reads, Seeds};
 ghost use Rattle.call_sequences.specs.Steps.{Marks, SetsFirstSpec, SetsHasSpecs, SetsRestriction};

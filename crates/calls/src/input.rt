@@ -5,7 +5,7 @@ use libc::STDIN_FILENO;
 
 // What is left where a block ends: how many bytes there are of the line that goes on in the next
 // one, and whether the arenas are swapped.
-#[derive(Drop)]
+#[derive(Clone, Copy)]
 struct Rest {
     held: usize,
     swapped: bool,

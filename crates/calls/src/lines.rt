@@ -6,7 +6,7 @@ use model::UnitResult;
 
 // What goes on from line to line: how many bytes of the output are used, and whether the second
 // arena is the current one.
-#[derive(Drop)]
+#[derive(Clone, Copy)]
 pub(crate) struct State {
     pub(crate) used: usize,
     pub(crate) swapped: bool,

@@ -3,7 +3,7 @@ use calls_text::{Answered, Number, bad_line, is_call, put, put_refusal, read_num
 use model::{Ordering, OrderingResult};
 
 // The two nodes of a line, or that a word is no number.
-#[derive(Drop)]
+#[derive(Clone, Copy)]
 pub(crate) enum Pair {
     Nodes(u32, u32),
     Bad,

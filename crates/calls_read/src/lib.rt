@@ -2,6 +2,8 @@
 // nodes compare (compare.rt). Each function is handed a line that has its name and its number of
 // words, puts the answer, without a newline, after the first `used` bytes of `out`, and answers how
 // many are then used. No public function has a `requires`.
+#![tactic(auto)]
+
 mod children;
 pub mod compare;
 pub mod look;

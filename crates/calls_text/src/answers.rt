@@ -4,7 +4,7 @@ use model::{BoolResult, NodeOption, NodeResult, NumberResult, Refusal, UnitResul
 
 // What a crate that answers some kinds of lines says to any line: how many bytes of the output are
 // used behind its answer, or that the line is of no kind that it knows.
-#[derive(Drop)]
+#[derive(Clone, Copy)]
 pub enum Answered {
     Used(usize),
     Unknown,

@@ -4,7 +4,7 @@ ghost use Rattle.std.specs.Prelude.{◌≤◌};
 use crate::output::put;
 
 // How many bytes a word gave, or that it is none of pairs.
-#[derive(Drop)]
+#[derive(Clone, Copy)]
 pub enum Bytes {
     Length(usize),
     Bad,

@@ -3,6 +3,8 @@
 // and the turns of its loop (input.rt). Nothing is proved of what they say, only that every
 // function is safe and ends: no public function has a `requires`, and each does nothing with a
 // number that does not fit the buffer beside it.
+#![tactic(auto)]
+
 mod answers;
 mod hex;
 mod input;

@@ -2,14 +2,14 @@
 ghost use Rattle.std.specs.Prelude.{◌≤◌, length};
 
 // A number that fits 32 bits, or a word that is none.
-#[derive(Drop)]
+#[derive(Clone, Copy)]
 pub enum Number {
     Value(u32),
     Bad,
 }
 
 // A number that fits 16 bits, or a word that is none.
-#[derive(Drop)]
+#[derive(Clone, Copy)]
 pub enum ShortNumber {
     Value(u16),
     Bad,

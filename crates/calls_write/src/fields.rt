@@ -5,7 +5,7 @@ use model::{NodeId, NodeOption, U16Option};
 use prim_graph::NodeDesc;
 
 // What is read of a field's word: a number, `MISSING` for `-`, or that it is none.
-#[derive(Drop)]
+#[derive(Clone, Copy)]
 enum Field {
     Value(u64),
     Bad,

@@ -4,6 +4,8 @@
 // function is handed a line that has its name and its number of words, makes the call, puts the
 // answer, without a newline, after the first `used` bytes of `out`, and answers how many are then
 // used. None has a `requires`.
+#![tactic(auto)]
+
 pub mod change;
 mod erasures;
 mod fields;

@@ -6,7 +6,7 @@ use calls_text::{
 use model::U16Option;
 
 // The node that a line names and a number that it gives, or that one of them is none.
-#[derive(Drop)]
+#[derive(Clone, Copy)]
 enum Setting {
     Of(u32, u16),
     Bad,

@@ -10,7 +10,7 @@ ghost use Rattle.model.specs.Arena.{count_in};
 ghost use Rattle.child_lists.specs.ChildLists.{Parented, child_lists_valid, left_after};
 
 // How many nodes are left of a budget after one child list, or that the list is wrong.
-#[derive(Drop)]
+#[derive(Clone, Copy)]
 enum Walked {
     Left(u32),
     Wrong,

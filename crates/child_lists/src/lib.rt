@@ -3,6 +3,8 @@
 // links that lists in an array make. Nothing is refused here: callers have put the questions.
 // specs/ChildLists.antt says which links are right; specs/Append.antt and Links.antt what is
 // stored.
+#![tactic(auto)]
+
 mod append;
 mod check;
 mod links;

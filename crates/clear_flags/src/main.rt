@@ -4,6 +4,8 @@
 // answer is no. A byte more is refused 12. It does not order, and asks for no node. Where the input
 // cannot be read, or the output not written, it says so on standard error.
 // Proved is that every function is safe and ends. What is cleared is prim_graph's, proved there.
+#![tactic(auto)]
+
 use command_io::Input;
 use model::{NumberResult, Refusal};
 

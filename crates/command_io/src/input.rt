@@ -7,7 +7,7 @@ use libc::STDIN_FILENO;
 
 // The input: how many bytes of the buffer hold all of it, that it is longer than the buffer, or
 // that a read failed.
-#[derive(Drop)]
+#[derive(Clone, Copy)]
 pub enum Input {
     Held(usize),
     Long,

@@ -2,6 +2,8 @@
 // end (input.rt), and printing what they answer, a refusal or what failed (printing.rt). No public
 // function has a `requires`. Proved is that every function is safe and ends, that what was read
 // lies within its buffer, and what is gathered in one.
+#![tactic(auto)]
+
 mod buffers;
 mod input;
 mod printing;

@@ -4,6 +4,8 @@
 // nodes are nested with one. It never refuses, and writes nothing but the table and the row that
 // are lent: the arena holds a graph, which callers prove. specs/LineTable.antt says what stands in
 // a row and what a verdict on two entries means.
+#![tactic(auto)]
+
 mod cells;
 mod filling;
 mod lines;
@@ -20,7 +22,7 @@ pub use lines::weigh;
 pub use nesting::nest;
 
 // What the lines read of a node: `root` is R of document 01.
-#[derive(Drop)]
+#[derive(Clone, Copy)]
 pub struct Entry {
     pub node: u32,
     pub rank: u32,

@@ -3,6 +3,8 @@
 // same size, in which every listing fits, and never changes the arena. The public function has no
 // `requires`: it puts its questions first, and refused it has written nothing.
 // model/specs/Listing.antt has the text, specs/Listings.antt what the call answers.
+#![tactic(auto)]
+
 mod text;
 
 ghost use Rattle.std.specs.Prelude.{◌≡◌, ◌+◌, ◌≤◌, length, get_or};

@@ -1,13 +1,14 @@
 // The types that every crate shares. What they mean is in specs/: Refusals.antt gives each refusal
 // its number, Answers.antt each answer its refusal and its value, Path.antt says what the answers
 // about a path are.
+#![tactic(auto)]
 ghost use Rattle.std.specs.Prelude.{◌≡◌, not, eqb};
 ghost use Rattle.model.specs.Answers.{ordering_number, node_option, node_number};
 ghost use Rattle.model.specs.Node.{invalid, optional};
 ghost use Rattle.model.specs.Refusals.{refusal_number};
 
 // A node's number.
-#[derive(Drop)]
+#[derive(Clone, Copy)]
 pub struct NodeId(pub u32);
 
 impl NodeId {
@@ -29,7 +30,7 @@ impl NodeId {
 }
 
 // A node, or that there is none: the Rust's `Option<NodeId>`.
-#[derive(Drop)]
+#[derive(Clone, Copy)]
 pub enum NodeOption {
     Some(NodeId),
     None,
@@ -59,14 +60,14 @@ impl NodeOption {
 }
 
 // A number of 16 bits, or that there is none: the Rust's `Option<u16>`.
-#[derive(Drop)]
+#[derive(Clone, Copy)]
 pub enum U16Option {
     Some(u16),
     None,
 }
 
 // Which of two nodes is the stronger: the first (Less), the second (Greater), or one node twice.
-#[derive(Drop)]
+#[derive(Clone, Copy)]
 pub enum Ordering {
     Less,
     Equal,
@@ -87,7 +88,7 @@ impl Ordering {
 }
 
 // Why a call was refused: the first of document 01's twelve questions whose answer is no.
-#[derive(Drop)]
+#[derive(Clone, Copy)]
 pub enum Refusal {
     Size,
     NotAGraph,
@@ -126,49 +127,49 @@ impl Refusal {
 }
 
 // How many names a path has, or that the bytes are no path.
-#[derive(Drop)]
+#[derive(Clone, Copy)]
 pub enum PrimCount {
     Names(u16),
     Malformed,
 }
 
 // What appending a child's name answers: the length of the new path, or the refusal.
-#[derive(Drop)]
+#[derive(Clone, Copy)]
 pub enum Appended {
     Length(usize),
     Refused(Refusal),
 }
 
 // The answer of a call that gives a number: a node's, a count, a depth.
-#[derive(Drop)]
+#[derive(Clone, Copy)]
 pub enum NumberResult {
     Number(u32),
     Refused(Refusal),
 }
 
 // The answer of a call that looks for a node.
-#[derive(Drop)]
+#[derive(Clone, Copy)]
 pub enum NodeResult {
     Found(NodeOption),
     Refused(Refusal),
 }
 
 // The answer of a comparison.
-#[derive(Drop)]
+#[derive(Clone, Copy)]
 pub enum OrderingResult {
     As(Ordering),
     Refused(Refusal),
 }
 
 // The answer of a test of one node or of two.
-#[derive(Drop)]
+#[derive(Clone, Copy)]
 pub enum BoolResult {
     Is(bool),
     Refused(Refusal),
 }
 
 // The answer of a call that gives nothing.
-#[derive(Drop)]
+#[derive(Clone, Copy)]
 pub enum UnitResult {
     Done,
     Refused(Refusal),
@@ -176,7 +177,7 @@ pub enum UnitResult {
 
 // What document 01's lines say of two siblings: an answer, or the strength of two nodes with a
 // lower sum, and the answer where those are Equal.
-#[derive(Drop)]
+#[derive(Clone, Copy)]
 pub enum Verdict {
     Settled(Ordering),
     Ask(u32, u32, Ordering),

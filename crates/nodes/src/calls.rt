@@ -137,7 +137,7 @@ pub fn is_due_to_ancestor(arena: &[u8], n: u32) -> BoolResult
 }
 
 // What an arena's header tells of its graph.
-#[derive(Drop)]
+#[derive(Clone, Copy)]
 pub struct GraphInfo {
     pub count: u32,
     pub ordered: bool,
@@ -147,14 +147,14 @@ pub struct GraphInfo {
 }
 
 // The answer of `graph_info`.
-#[derive(Drop)]
+#[derive(Clone, Copy)]
 pub enum GraphRead {
     Graph(GraphInfo),
     Refused(Refusal),
 }
 
 // The answer of `node`.
-#[derive(Drop)]
+#[derive(Clone, Copy)]
 pub enum NodeRead {
     Node(arena::Node),
     Refused(Refusal),

@@ -14,7 +14,7 @@ use model::{NodeId, NodeOption, U16Option};
 use validate::{Before, Checked, RecordNumbers};
 
 // A node to be added. Without a parent it is a root site. Its path is handed over beside it.
-#[derive(Drop)]
+#[derive(Clone, Copy)]
 pub struct NodeDesc {
     pub arc: u8,
     pub flags: u8,

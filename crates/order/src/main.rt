@@ -5,6 +5,8 @@
 // read that failed for an empty one.
 // Proved is that every function is safe and ends. The listing is listing's, the order prim_graph's,
 // each proved there.
+#![tactic(auto)]
+
 use command_io::Input;
 use model::{NumberResult, Refusal, UnitResult};
 

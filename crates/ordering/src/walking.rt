@@ -7,7 +7,7 @@ ghost use Rattle.arena.specs.Slot.{parent_in};
 ghost use Rattle.ordering.specs.Ordering.{onward, step_in, Knows, Climbable, Walkable, walk_stored};
 
 // A node, and the next of the walk once its children are all done.
-#[derive(Drop)]
+#[derive(Clone, Copy)]
 struct Ahead {
     node: u32,
     next: u32,

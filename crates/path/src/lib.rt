@@ -6,6 +6,8 @@
 // definitions are in model/specs/Path.antt.
 // scan.rt reads one path from its front, tables.rt many by tables (rows.rt), back.rt from its end;
 // join.rt writes one with a name appended.
+#![tactic(auto)]
+
 pub mod back;
 pub mod join;
 mod joining;

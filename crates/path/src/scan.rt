@@ -9,7 +9,7 @@ ghost use Rattle.path.specs.PathReading.{in_run, standing, begins_name, stands_a
 use model::PrimCount;
 
 // A part of a path: where it ends, or that it is malformed.
-#[derive(Drop)]
+#[derive(Clone, Copy)]
 pub enum Part {
     To(usize),
     Malformed,
@@ -17,7 +17,7 @@ pub enum Part {
 
 // What stands between two places of a path: a name, with its slash where it has one, or a
 // selection.
-#[derive(Drop)]
+#[derive(Clone, Copy)]
 pub enum Element {
     Name(usize),
     Selection(usize),

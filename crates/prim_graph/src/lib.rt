@@ -8,6 +8,8 @@
 // and class hierarchies in crates/strength, the order in crates/ordering, culling in
 // crates/culling, erasing in crates/erasing, appending a child's name in crates/deepening,
 // snapshots in crates/snapshot. Nothing is defined here.
+#![tactic(auto)]
+
 pub use culling::calls::cull_subtrees_without_opinions;
 pub use deepening::calls::{append_child_name_to_all_sites, seed_child};
 pub use erasing::calls::{erasable, erase};

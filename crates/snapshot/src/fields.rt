@@ -4,21 +4,21 @@ ghost use Rattle.std.specs.Prelude.{◌≡◌, ◌≤◌, length};
 ghost use Rattle.snapshot.specs.SnapshotReading.{byte_value, short_value, field_value, field_at, length_at};
 
 // A field of one byte.
-#[derive(Drop)]
+#[derive(Clone, Copy)]
 pub enum Byte {
     Value(u8),
     Missing,
 }
 
 // A field of two bytes.
-#[derive(Drop)]
+#[derive(Clone, Copy)]
 pub enum Short {
     Value(u16),
     Missing,
 }
 
 // A field of four bytes.
-#[derive(Drop)]
+#[derive(Clone, Copy)]
 pub enum Field {
     Value(u32),
     Missing,

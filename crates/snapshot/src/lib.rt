@@ -4,6 +4,8 @@
 // writer.rt writes; clearing.rt clears, asking by checks.rt too; calls.rt has the calls. What a
 // snapshot is stands in model/specs/Snapshot.antt; proofs/ReadBack.antt says that what is written
 // reads back.
+#![tactic(auto)]
+
 pub mod calls;
 mod checks;
 mod clearing;

@@ -21,7 +21,7 @@ pub(crate) fn record_at(bytes: &[u8], at: usize) -> &[u8]
 }
 
 // The stack, layer, parent and origin of a record, or that one is missing.
-#[derive(Drop)]
+#[derive(Clone, Copy)]
 enum Ids {
     Values(u32, u32, u32, u32),
     Missing,
@@ -29,14 +29,14 @@ enum Ids {
 
 // The depth, sibling number, restriction, spec_from and has-specs of a record, or that one is
 // missing.
-#[derive(Drop)]
+#[derive(Clone, Copy)]
 enum Tail {
     Values(u16, u16, u16, u16, u8),
     Missing,
 }
 
 // A record's node, or that one of its fields is missing.
-#[derive(Drop)]
+#[derive(Clone, Copy)]
 pub(crate) enum Taken {
     Node(Node),
     Missing,

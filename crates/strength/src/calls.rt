@@ -87,7 +87,7 @@ pub fn same_site(arena: &[u8], a: u32, b: u32) -> BoolResult
 
 // The answer of `starting_node_of_class_hierarchy`: the node that inherits or specializes, then the
 // topmost class, if there is one.
-#[derive(Drop)]
+#[derive(Clone, Copy)]
 pub enum HierarchyRead {
     Hierarchy(NodeId, NodeOption),
     Refused(Refusal),

@@ -5,6 +5,8 @@
 // of the graph that the arena holds. Nothing is written. `root` is the local root's number, 0 for
 // none. The definitions are in model/specs/Strength.antt and Hierarchy.antt; specs/Verdicts.antt
 // says what an unsettled answer means.
+#![tactic(auto)]
+
 pub mod calls;
 mod comparison;
 mod lines;

@@ -9,7 +9,7 @@ ghost use Rattle.strength.specs.Settled.{IsSettledEarly};
 use model::{Ordering, Verdict};
 
 // Two siblings settled at once, by their own records, or not.
-#[derive(Drop)]
+#[derive(Clone, Copy)]
 pub(crate) enum SettledEarly {
     As(Ordering),
     Open,

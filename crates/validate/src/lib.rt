@@ -1,6 +1,8 @@
 // Whether bytes are what document 01's questions ask for, on any bytes. record.rt: one record,
 // questions 4 to 7; graph.rt: a whole arena, question 2; questions.rt: the questions that calls put
 // first. Nothing is written.
+#![tactic(auto)]
+
 mod graph;
 mod questions;
 mod record;

@@ -12,7 +12,7 @@ ghost use Rattle.validate.specs.RecordCheck.{room_at, questions_at, RecordChecke
 use model::{PrimCount, Refusal};
 
 // The numbers of a record that its questions read.
-#[derive(Drop)]
+#[derive(Clone, Copy)]
 pub struct RecordNumbers {
     pub arc: u8,
     pub flags: u8,
@@ -23,7 +23,7 @@ pub struct RecordNumbers {
 
 // What comes before a record, whether CULLED may be set in it, as it may be read but not added, and
 // whether any flag may: the former rule, under which unknown flags are cleared.
-#[derive(Drop)]
+#[derive(Clone, Copy)]
 pub struct Before {
     pub count: u32,
     pub path_bytes: usize,
@@ -33,7 +33,7 @@ pub struct Before {
 }
 
 // What the check of a record answers: the prim count of its path, or the refusal.
-#[derive(Drop)]
+#[derive(Clone, Copy)]
 pub enum Checked {
     Accepted(u8),
     Refused(Refusal),

@@ -7,7 +7,7 @@ ghost use Rattle.view.specs.Walks.{HierarchyOf};
 
 // The node that inherits or specializes a class hierarchy, and its topmost class, 4,294,967,295
 // where the node is no class's instance.
-#[derive(Drop)]
+#[derive(Clone, Copy)]
 pub struct ClassHierarchy {
     pub instance: u32,
     pub class_node: u32,

@@ -6,6 +6,8 @@
 // sites.rt its site and its parent's; origins.rt chains of origins; classes.rt class hierarchies;
 // parting.rt chains of parents. specs/View.antt has the view of an arena and what "a node of it"
 // means.
+#![tactic(auto)]
+
 mod classes;
 mod fields;
 mod origins;

@@ -7,7 +7,7 @@ ghost use Rattle.view.specs.View.{view_in, ValidNodeAndRoot};
 ghost use Rattle.view.specs.Walks.{RootOf};
 
 // R(n) of document 01 and its hops.
-#[derive(Drop)]
+#[derive(Clone, Copy)]
 pub struct OriginRoot {
     pub node: u32,
     pub hops: u32,

@@ -7,7 +7,7 @@ ghost use Rattle.view.specs.Walks.{Parts};
 
 // Where the chains of two nodes, from node 0 down, part: nowhere, below the first node, below the
 // second, or at two siblings.
-#[derive(Drop)]
+#[derive(Clone, Copy)]
 pub enum Parting {
     Same,
     Above,
