@@ -1,0 +1,14 @@
+-- `write_state` meets its contract: the three stores are one. Assumes nothing.
+use mathlib.Core.List.{[], ◌∷◌}
+use borrow.Author.Rules.{rules}
+use native.Mathlib.Omega.{arith}
+use Rattle.model.specs.Lists.{bit}
+use Rattle.arena.proofs.StoreLaws.{run-stored}
+use Rattle.arena.proofs.header.write_state.Goals as goal
+
+pub returns : goal.returns
+returns c =
+    let a = c.args in
+    run-stored 0 4 ((bit a.ordered ∷ []) ∷ (bit a.finalized ∷ []) ∷ []) (bit a.shallow ∷ []) a.arena.now _
+    (omega (arith, c.requires))
+    (_, c.write_state_byte.ensures, (_, c.write_state_byte-2.ensures, c.write_state_byte-3.ensures))

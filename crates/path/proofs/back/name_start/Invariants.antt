@@ -1,0 +1,15 @@
+-- `name_start` meets its contract. The loop's invariant: the first `k` bytes have the last name's
+-- start that the first `end` have. The measure is `k`. Assumes nothing.
+use borrow.Author.Rules.{rules}
+use native.Mathlib.Omega.{arith}
+use Rattle.path.proofs.BackwardLaws.{start-at-slash, start-at-brace, start-before, start_none}
+use mathlib.Core.Path.{◌≡◌, refl, ◌∙◌, sym}
+use Prim.Native.Nat.{◌≤◌, ◌-◌}
+use Rattle.model.specs.Path.{name_start}
+use Rattle.path.proofs.back.name_start.Given as goal
+
+abbrev pub invariant-loop-k : goal.invariant-loop-k
+invariant-loop-k l = (name_start l.path l.k ≡ name_start l.path l.end) × (l.k ≤ l.end)
+
+abbrev pub decreases-loop-k : goal.decreases-loop-k
+decreases-loop-k l = l.k

@@ -1,0 +1,10 @@
+-- `joined` meets its contract: the parts of the number are the state and the names. Assumes
+-- nothing.
+use borrow.Author.Rules.{rules}
+use native.Mathlib.Omega.{arith}
+use Rattle.path.proofs.PathTables.{joined-ends}
+use Rattle.path.proofs.tables.joined.Goals as goal
+
+pub returns : goal.returns
+returns c =
+    let a = c.args in (omega (arith, c.requires), joined-ends a.state a.names)

@@ -1,0 +1,25 @@
+-- `read_behind_slash` meets its contract. The loop's invariant is `Reached`: the reading from here
+-- comes to what it came to behind the first slash. The measure is what is left of the length.
+-- Assumes nothing.
+use borrow.Author.Rules.{rules}
+use Prim.Native.Nat.{◌-◌}
+use native.Mathlib.Omega.{arith}
+use lib.ListN.{length}
+use Rattle.path.specs.Tables.{Reached}
+use Rattle.path.proofs.PathTables.{reached-none, reached-four}
+use Rattle.path.proofs.tables.read_behind_slash.Goals as goal
+
+pub loop-i-init : goal.loop-i-init
+loop-i-init c =
+    reached-none _ (omega arith)
+
+pub loop-i-preserved : goal.loop-i-preserved
+loop-i-preserved c =
+    let l = c.loop-i in
+    rw (c.row_of_two-in-loop-i.ensures, c.row_of_two.ensures)
+    (reached-four _ l.i l.state l.names l.invariant c.loop-i-test.true
+    (λ k. (c.shared_slice_known-in-loop-i-1.given k).fits))
+
+pub read_rest-requires : goal.read_rest-requires
+read_rest-requires c =
+    (c.requires.tables, (c.loop-i.invariant, (omega arith, c.requires.in_bounds.1)))

@@ -1,0 +1,14 @@
+-- `read_rest` meets its contract: one pair more where two bytes are left, and then the last byte.
+-- Assumes nothing.
+use borrow.Author.Rules.{rules}
+use Prim.Native.Nat.{◌+◌}
+use native.Mathlib.Omega.{arith}
+use Rattle.path.proofs.PathTables.{reached-two}
+use Rattle.path.proofs.tables.read_rest.Goals as goal
+
+pub read_last-requires-2 : goal.read_last-requires-2
+read_last-requires-2 c =
+    let a = c.args in
+    let more = reached-two a.path.now a.at a.state a.names c.requires.reached.0 c.if-path-at.false
+    (c.shared_slice_known-4-1.given a.at).fits (c.type_inv.path (a.at + 1)).fits in
+    (c.requires.tables, (rw c.row_of_two.ensures more, (omega (arith, c.requires.reached.1.0), c.requires.reached.1.1)))

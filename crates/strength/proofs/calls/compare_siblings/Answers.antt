@@ -1,0 +1,33 @@
+-- `compare_siblings` meets its contract: one node twice is Equal, and two different nodes with one
+-- parent are above node 0. Assumes nothing.
+use mathlib.Core.Path.{sym, ap, ◌∙◌}
+use Rattle.model.specs.Strength.{view_of, compare_sibling_node_strength}
+use Rattle.model.specs.Arena.{decode}
+use Rattle.laws.proofs.StrengthFlips.{siblings-same}
+use Rattle.strength.proofs.SiblingLaws.{one_parent, left-above, right-above}
+use Rattle.strength.proofs.calls.compare_siblings.Goals as goal
+
+pub returns-then-a-b : goal.returns-then-a-b
+returns-then-a-b c =
+    let a = c.args in
+    let u = view_of (decode a.arena.now) in
+    sym (ap (compare_sibling_node_strength u a.a) (sym c.if-a-b.true) ∙ siblings-same u a.a)
+
+pub local_root-root-requires : goal.local_root-root-requires
+local_root-root-requires c =
+    c.requires.left.opened.whole
+
+pub compare_sibling_node_strength-requires : goal.compare_sibling_node_strength-requires
+compare_sibling_node_strength-requires c =
+    let s = c.requires in
+    record {
+      left = record { readable = s.left; root-read = c.local_root-root.ensures };
+      right = record { readable = s.right; root-read = c.local_root-root.ensures };
+      left-above = left-above _ _ _ s c.if-a-b.false;
+      right-above = right-above _ _ _ s c.if-a-b.false;
+      parents = one_parent _ _ _ s c.if-a-b.false;
+    }
+
+pub returns : goal.returns
+returns c =
+    c.compare_sibling_node_strength.ensures

@@ -1,0 +1,26 @@
+-- `ask_nodes` meets its contract: where the first node passes, question 4 of the second is left.
+-- Assumes nothing.
+use borrow.Author.Rules.{rules}
+use mathlib.Core.Path.{sym, ◌∙◌}
+use Rattle.model.specs.ArenaCalls.{ValidNode}
+use Rattle.arena.proofs.ReadNodes.{readable}
+use Rattle.validate.proofs.AskingLaws.{number-left, refused-first}
+use Rattle.validate.proofs.questions.ask_nodes.Goals as goal
+
+pub ask_number-requires : goal.ask_number-requires
+ask_number-requires c =
+    let reads-it : ValidNode c.args.arena.now c.args.a =
+    readable _ _ (sym (rw c.in-Done.is at c.ask_node-asked.ensures)) in
+    reads-it.opened
+
+pub returns-in-Done : goal.returns-in-Done
+returns-in-Done c =
+    let reads-it : ValidNode c.args.arena.now c.args.a =
+    readable _ _ (sym (rw c.in-Done.is at c.ask_node-asked.ensures)) in
+    let a = c.args in
+    c.ask_number.ensures ∙ sym (number-left a.arena.now a.a a.b reads-it)
+
+pub returns-in-Refused : goal.returns-in-Refused
+returns-in-Refused c =
+    let a = c.args in
+    refused-first a.arena.now a.a a.b c.in-Refused.refusal (rw c.in-Refused.is at c.ask_node-asked.ensures)
