@@ -8,8 +8,7 @@ use Rattle.arena.proofs.store_ids.Goals as goal
 
 pub returns : goal.returns
 returns c =
-    let a = c.args in
-    let x = a.node in
-    run-stored a.at 21 (big_endian 4 x.stack ∷ big_endian 4 x.layer ∷ big_endian 4 x.parent.0 ∷ [])
-    (big_endian 4 x.origin.0) a.arena.now _ (omega (arith, c.requires))
+    let x = c.args.node in
+    run-stored c.args.at 21 (big_endian 4 x.stack ∷ big_endian 4 x.layer ∷ big_endian 4 x.parent.0 ∷ [])
+    (big_endian 4 x.origin.0) c.args.arena.now _ (omega (arith, c.requires))
     (_, c.write_u32.ensures, (_, c.write_u32-2.ensures, (_, c.write_u32-3.ensures, c.write_u32-4.ensures)))

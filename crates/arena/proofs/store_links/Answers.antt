@@ -9,8 +9,7 @@ use Rattle.arena.proofs.store_links.Goals as goal
 
 pub returns : goal.returns
 returns c =
-    let a = c.args in
-    let x = a.node in
-    run-stored-at (slot_at a.n) (big_endian 4 x.first_child.0) (big_endian 4 x.last_child.0 ∷ [])
-    (big_endian 4 x.next_sibling.0) a.arena.now _ _ (omega (arith, c.requires))
+    let x = c.args.node in
+    run-stored-at (slot_at c.args.n) (big_endian 4 x.first_child.0) (big_endian 4 x.last_child.0 ∷ [])
+    (big_endian 4 x.next_sibling.0) c.args.arena.now _ _ (omega (arith, c.requires))
     c.write_u32.ensures (_, c.write_u32-2.ensures, c.write_u32-3.ensures)

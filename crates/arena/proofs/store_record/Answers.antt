@@ -17,12 +17,11 @@ use Rattle.arena.proofs.store_record.Goals as goal
 pub returns : goal.returns
 unfolding record_body
 returns c =
-    let a = c.args in
-    let x = a.node in
-    let model = node_of x a.path.now in
+    let x = c.args.node in
+    let model = node_of x c.args.path.now in
     let length-right : x.record_length ≡ length (record_body model) = c.requires.record_length_value.0 ∙ sym (record-length model) in
-    run-stored (slot_at a.n) 16
-    (head_bytes x.prim_count x ∷ id_bytes x ∷ depth_bytes x ∷ big_endian 1 x.has_specs ∷ []) a.path.now a.arena.now _ (omega (arith, c.requires)) (
+    run-stored (slot_at c.args.n) 16
+    (head_bytes x.prim_count x ∷ id_bytes x ∷ depth_bytes x ∷ big_endian 1 x.has_specs ∷ []) c.args.path.now c.args.arena.now _ (omega (arith, c.requires)) (
       _,
       c.store_head.ensures,
       (
@@ -35,4 +34,4 @@ returns c =
         ),
       ),
     )
-    ∙ ap (λ (k : ℕ). stored (slot_at a.n + 16) (x.prim_count ∷ (big_endian 2 k ++ record_body model)) a.arena.now) length-right
+    ∙ ap (λ (k : ℕ). stored (slot_at c.args.n + 16) (x.prim_count ∷ (big_endian 2 k ++ record_body model)) c.args.arena.now) length-right

@@ -12,5 +12,4 @@ shape_of-arena c =
 
 pub returns : goal.returns
 returns c =
-    let a = c.args in
-    set-first-spec-sets a.n a.first _ _ _ c.set_first_spec.ensures
+    set-first-spec-sets c.args.n c.args.first _ _ _ c.set_first_spec.ensures

@@ -94,7 +94,7 @@ overflow_add-parent c =
 
 pub loop-parent-smaller : goal.loop-parent-smaller
 loop-parent-smaller c =
-    omega (arith, c.loop-parent-test.taken)
+    omega (arith, c.loop-parent-test.true)
 
 pub loop-parent-preserved : goal.loop-parent-preserved
 loop-parent-preserved c =
@@ -106,10 +106,9 @@ loop-parent-preserved c =
     let fitting : FitsIn c.args.arena.now c.args.sorted.now c.args.places.now c.args.stops.now c.loop-parent.parent
     c.loop-parent.start end =
     c.branches_fit.ensures (not-false _ c.if-not-branches_fit.false-raw) in
-    let w = c.loop-parent.invariant in
-    let ordered = c.list_in_order in (
-      ordered.auto.1.1.1.1.1.1.1.0 ∙ w.0,
-      certifying-step w.1 below.0 fitting (ordered.ensures (not-false _ c.if-not-list_in_order.false-raw)),
+    let w = c.loop-parent.invariant in (
+      c.list_in_order.auto.row ∙ w.0,
+      certifying-step w.1 below.0 fitting (c.list_in_order.ensures (not-false _ c.if-not-list_in_order.false-raw)),
     )
 
 pub overflow_add-result : goal.overflow_add-result

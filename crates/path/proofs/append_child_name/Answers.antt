@@ -27,8 +27,7 @@ overflow_add-end c =
     let joins : joinable c.args.path.now c.args.child.now ≡ true =
     sym c.can_join.ensures ∙ not-false _ c.if-not-can_join.false-raw in
     let ends : c.joint-at.result + length c.last_name-name.result.now ≡ length (append_name c.args.path.now (last_name c.args.child.now)) =
-    let s = c.args in
-    omega (arith, c.joint-at.ensures, ap length c.last_name-name.ensures, length-append-name s.path.now (last_name s.child.now)) in
+    omega (arith, c.joint-at.ensures, ap length c.last_name-name.ensures, length-append-name c.args.path.now (last_name c.args.child.now)) in
     omega (arith, ends, joinable-short c.args.path.now c.args.child.now joins)
 
 pub returns-then-end-gt255 : goal.returns-then-end-gt255
@@ -36,17 +35,14 @@ returns-then-end-gt255 c =
     let joins : joinable c.args.path.now c.args.child.now ≡ true =
     sym c.can_join.ensures ∙ not-false _ c.if-not-can_join.false-raw in
     let ends : c.joint-at.result + length c.last_name-name.result.now ≡ length (append_name c.args.path.now (last_name c.args.child.now)) =
-    let s = c.args in
-    omega (arith, c.joint-at.ensures, ap length c.last_name-name.ensures, length-append-name s.path.now (last_name s.child.now)) in
-    let s = c.args in record { value = refused-capacity s.path.now s.child.now s.out.now c.if-out-ne255.false joins (omega (arith, ends)); out_after = refl }
+    omega (arith, c.joint-at.ensures, ap length c.last_name-name.ensures, length-append-name c.args.path.now (last_name c.args.child.now)) in record { value = refused-capacity c.args.path.now c.args.child.now c.args.out.now c.if-out-ne255.false joins (omega (arith, ends)); out_after = refl }
 
 pub put_joined-requires : goal.put_joined-requires
 put_joined-requires c =
     let joins : joinable c.args.path.now c.args.child.now ≡ true =
-    sym c.can_join.ensures ∙ not-false _ c.if-not-can_join.false-raw in
-    let s = c.args in (
+    sym c.can_join.ensures ∙ not-false _ c.if-not-can_join.false-raw in (
       c.joint-at.ensures,
-      rw c.last_name-name.ensures (joinable-named s.path.now s.child.now joins),
+      rw c.last_name-name.ensures (joinable-named c.args.path.now c.args.child.now joins),
       omega (arith, c.if-end-gt255.false, c.if-out-ne255.false),
     )
 
@@ -55,12 +51,10 @@ returns c =
     let joins : joinable c.args.path.now c.args.child.now ≡ true =
     sym c.can_join.ensures ∙ not-false _ c.if-not-can_join.false-raw in
     let ends : c.joint-at.result + length c.last_name-name.result.now ≡ length (append_name c.args.path.now (last_name c.args.child.now)) =
-    let s = c.args in
-    omega (arith, c.joint-at.ensures, ap length c.last_name-name.ensures, length-append-name s.path.now (last_name s.child.now)) in
-    let s = c.args in record {
+    omega (arith, c.joint-at.ensures, ap length c.last_name-name.ensures, length-append-name c.args.path.now (last_name c.args.child.now)) in record {
       value = ap Length ends
-          ∙ accepted s.path.now s.child.now s.out.now c.if-out-ne255.false joins (omega (arith, ends, c.if-end-gt255.false));
+          ∙ accepted c.args.path.now c.args.child.now c.args.out.now c.if-out-ne255.false joins (omega (arith, ends, c.if-end-gt255.false));
       out_after = c.put_joined.ensures
-          ∙ ap (λ (l : List ℕ). append_name s.path.now l ++ drop (c.joint-at.result + length c.last_name-name.result.now) s.out.now)
+          ∙ ap (λ (l : List ℕ). append_name c.args.path.now l ++ drop (c.joint-at.result + length c.last_name-name.result.now) c.args.out.now)
           c.last_name-name.ensures;
     }

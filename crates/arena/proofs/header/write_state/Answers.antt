@@ -8,7 +8,6 @@ use Rattle.arena.proofs.header.write_state.Goals as goal
 
 pub returns : goal.returns
 returns c =
-    let a = c.args in
-    run-stored 0 4 ((bit a.ordered ∷ []) ∷ (bit a.finalized ∷ []) ∷ []) (bit a.shallow ∷ []) a.arena.now _
+    run-stored 0 4 ((bit c.args.ordered ∷ []) ∷ (bit c.args.finalized ∷ []) ∷ []) (bit c.args.shallow ∷ []) c.args.arena.now _
     (omega (arith, c.requires))
     (_, c.write_state_byte.ensures, (_, c.write_state_byte-2.ensures, c.write_state_byte-3.ensures))

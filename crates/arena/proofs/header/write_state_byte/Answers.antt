@@ -9,5 +9,4 @@ use Rattle.arena.proofs.header.write_state_byte.Goals as goal
 
 pub returns : goal.returns
 returns c =
-    let a = c.args in
-    c.write_u8.ensures ∙ ap (λ (p : List ℕ). stored a.at p a.arena.now) (bit_byte a.set)
+    c.write_u8.ensures ∙ ap (λ (p : List ℕ). stored c.args.at p c.args.arena.now) (bit_byte c.args.set)

@@ -9,6 +9,5 @@ use Rattle.bench_api.proofs.reading.bench_path_at_introduction.Goals as goal
 
 pub returns : goal.returns
 returns c =
-    let a = c.args in
-    path-number a.arena.now (replicate 255 0) (reads_node (decode a.arena.now) a.n) _ _ _ _ _ refl
+    path-number c.args.arena.now (replicate 255 0) (reads_node (decode c.args.arena.now) c.args.n) _ _ _ _ _ refl
     c.path_at_introduction.ensures c.carry_number.ensures

@@ -20,11 +20,10 @@ returns-then-not-siblings c =
     nodes-pass _ _ _ _ (omega (arith, counted, c.if-a-count.false)) (omega (arith, counted, c.if-b-count.false)) (not-true _ c.if-not-siblings.true-raw)
 
 pub are_siblings-requires : goal.are_siblings-requires
-are_siblings-requires c =
-    let pre = c.requires in (
-      record { opened = pre.0; below = omega (arith, pre.1, c.if-a-count.false) },
-      record { opened = pre.0; below = omega (arith, pre.1, c.if-b-count.false) },
-    )
+are_siblings-requires c = (
+  record { opened = c.requires.0; below = omega (arith, c.requires.1, c.if-a-count.false) },
+  record { opened = c.requires.0; below = omega (arith, c.requires.1, c.if-b-count.false) },
+)
 
 pub returns-then-not-are_siblings : goal.returns-then-not-are_siblings
 returns-then-not-are_siblings c =

@@ -42,11 +42,10 @@ ask_pair-refused-requires c =
 
 pub returns-then-refused-ne0 : goal.returns-then-refused-ne0
 returns-then-refused-ne0 c =
-    let a = c.args in
-    let refused = pair_refused a.siblings a.arena.now in
+    let refused = pair_refused c.args.siblings c.args.arena.now in
     let i = c.loop-i.i in
-    refusal-stays refused a.pairs.now (length a.pairs.now / 8) i
-    (one-more-asked refused a.pairs.now i c.loop-i.invariant.1 c.read_u32-a.ensures c.read_u32-b.ensures c.ask_pair-refused.ensures)
+    refusal-stays refused c.args.pairs.now (length c.args.pairs.now / 8) i
+    (one-more-asked refused c.args.pairs.now i c.loop-i.invariant.1 c.read_u32-a.ensures c.read_u32-b.ensures c.ask_pair-refused.ensures)
     c.if-refused-ne0.true c.loop-i-test.true
 
 pub overflow_add-i-in-loop-i : goal.overflow_add-i-in-loop-i
@@ -59,16 +58,14 @@ loop-i-smaller c =
 
 pub loop-i-preserved : goal.loop-i-preserved
 loop-i-preserved c =
-    let a = c.args in
     let i = c.loop-i.i in (
       omega (arith, c.loop-i-test.true),
-      sym (one-more-asked (pair_refused a.siblings a.arena.now) a.pairs.now i c.loop-i.invariant.1
+      sym (one-more-asked (pair_refused c.args.siblings c.args.arena.now) c.args.pairs.now i c.loop-i.invariant.1
           c.read_u32-a.ensures c.read_u32-b.ensures c.ask_pair-refused.ensures)
           ∙ c.if-refused-ne0.false,
     )
 
 pub returns : goal.returns
 returns c =
-    let a = c.args in
-    let all : c.loop-i.i ≡ length a.pairs.now / 8 = omega (arith, c.loop-i.invariant.0, c.loop-i-test.false) in
-    sym c.loop-i.invariant.1 ∙ ap (pairs_refused (pair_refused a.siblings a.arena.now) a.pairs.now) all
+    let all : c.loop-i.i ≡ length c.args.pairs.now / 8 = omega (arith, c.loop-i.invariant.0, c.loop-i-test.false) in
+    sym c.loop-i.invariant.1 ∙ ap (pairs_refused (pair_refused c.args.siblings c.args.arena.now) c.args.pairs.now) all

@@ -5,7 +5,7 @@ use Rattle.bench_api.proofs.sums.compare_pair.Goals as goal
 
 pub compare_sibling_node_strength-requires : goal.compare_sibling_node_strength-requires
 compare_sibling_node_strength-requires c =
-    let pre = c.requires in siblings-passed _ _ _ _ pre.0 pre.1 pre.2 c.if-siblings.true
+    siblings-passed _ _ _ _ c.requires.0 c.requires.1 c.requires.2 c.if-siblings.true
 
 pub returns-then-siblings : goal.returns-then-siblings
 returns-then-siblings c =
@@ -13,7 +13,7 @@ returns-then-siblings c =
 
 pub compare_node_strength-requires : goal.compare_node_strength-requires
 compare_node_strength-requires c =
-    let pre = c.requires in nodes-passed _ _ _ _ pre.0 pre.1 pre.2
+    nodes-passed _ _ _ _ c.requires.0 c.requires.1 c.requires.2
 
 pub returns : goal.returns
 returns c =

@@ -40,13 +40,12 @@ read_u32-b-requires c =
 
 pub compare_pair-requires : goal.compare_pair-requires
 compare_pair-requires c =
-    let a = c.args in
     let all = passed _ _ _ c.requires in
-    let refused = pair_refused a.siblings a.arena.now in (
+    let refused = pair_refused c.args.siblings c.args.arena.now in (
       all.opened,
       c.local_root-root.ensures,
       ap₂ refused c.read_u32-a.ensures c.read_u32-b.ensures
-          ∙ each-passed refused a.pairs.now (length a.pairs.now / 8) c.loop-i.i all.pairs c.loop-i-test.true,
+          ∙ each-passed refused c.args.pairs.now (length c.args.pairs.now / 8) c.loop-i.i all.pairs c.loop-i-test.true,
     )
 
 pub overflow_cast-sum : goal.overflow_cast-sum
@@ -66,17 +65,15 @@ loop-i-smaller c =
     omega (arith, c.loop-i-test.true)
 
 pub loop-i-preserved : goal.loop-i-preserved
-loop-i-preserved c =
-    let a = c.args in (
-      omega (arith, c.loop-i-test.true),
-      one-more-added (comparison a.siblings a.arena.now) a.pairs.now c.loop-i.i
-          c.loop-i.invariant.1 c.read_u32-a.ensures c.read_u32-b.ensures
-          c.compare_pair.ensures c.number.ensures,
-      omega (arith, c.loop-i.invariant.2),
-    )
+loop-i-preserved c = (
+  omega (arith, c.loop-i-test.true),
+  one-more-added (comparison c.args.siblings c.args.arena.now) c.args.pairs.now c.loop-i.i
+      c.loop-i.invariant.1 c.read_u32-a.ensures c.read_u32-b.ensures
+      c.compare_pair.ensures c.number.ensures,
+  omega (arith, c.loop-i.invariant.2),
+)
 
 pub returns : goal.returns
 returns c =
-    let a = c.args in
-    let all : c.loop-i.i ≡ length a.pairs.now / 8 = omega (arith, c.loop-i.invariant.0, c.loop-i-test.false) in
-    c.loop-i.invariant.1 ∙ ap (pair_sum (comparison a.siblings a.arena.now) a.pairs.now) all
+    let all : c.loop-i.i ≡ length c.args.pairs.now / 8 = omega (arith, c.loop-i.invariant.0, c.loop-i-test.false) in
+    c.loop-i.invariant.1 ∙ ap (pair_sum (comparison c.args.siblings c.args.arena.now) c.args.pairs.now) all

@@ -141,7 +141,7 @@ overflow_add-at c =
 
 pub loop-at-smaller : goal.loop-at-smaller
 loop-at-smaller c =
-    omega (arith, c.loop-at-test.taken)
+    omega (arith, c.loop-at-test.true)
 
 pub loop-at-preserved : goal.loop-at-preserved
 loop-at-preserved c =
@@ -150,7 +150,7 @@ loop-at-preserved c =
     let is-there : ChildOf c.args.arena.now c.args.parent child =
     c.is_child.ensures (not-false _ c.if-not-is_child.false-raw) in
     rw c.wide-from-in-loop-at.ensures
-    (fitting-step c.loop-at.invariant c.requires.sorted_len.0 c.requires.sorted_len.3 c.loop-at-test.taken is-there
+    (fitting-step c.loop-at.invariant c.requires.sorted_len.0 c.requires.sorted_len.3 c.loop-at-test.true is-there
     (omega (arith, c.if-wide-from.false, c.wide.ensures)))
 
 pub offset_bounds-stops-parent : goal.offset_bounds-stops-parent

@@ -75,11 +75,10 @@ pub loop-at-preserved : goal.loop-at-preserved
 loop-at-preserved c =
     let w = c.loop-at.invariant in
     let higher = c.if-rank-least.false in
-    let run = c.run_end-next.ensures in
-    let ordered = c.run_in_order in (
-      ordered.auto.1.1.1.1.1.1.1.0 ∙ w.0,
+    let run = c.run_end-next.ensures in (
+      c.run_in_order.auto.row ∙ w.0,
       ranking-step w.1 c.requires.given.0.long c.requires.part.0.high (entry-rank c.entry_of-first.ensures) (omega arith) run
-          (ordered.ensures (not-false _ c.if-not-run_in_order.false-raw)),
+          (c.run_in_order.ensures (not-false _ c.if-not-run_in_order.false-raw)),
     )
 
 pub shape_of-row : goal.shape_of-row

@@ -91,13 +91,13 @@ overflow_add-i-in-loop-i-2 c =
 
 pub loop-i-smaller : goal.loop-i-smaller
 loop-i-smaller c =
-    omega (arith, c.loop-i-test.taken)
+    omega (arith, c.loop-i-test.true)
 
 pub loop-i-preserved : goal.loop-i-preserved
 loop-i-preserved c =
     let follows = not-false _ c.if-not-comes_next.false-raw in
     let rises = c.rises.ensures (not-false _ c.if-not-rises.false-raw) in
-    copying-step c.loop-i.invariant c.loop-i-test.taken c.entry_of-e.ensures
+    copying-step c.loop-i.invariant c.loop-i-test.true c.entry_of-e.ensures
     c.comes_next.ensures follows rises c.if_authored-sibling-in-loop-i.ensures c.if_authored-node-in-loop-i.ensures
 
 pub returns : goal.returns

@@ -110,7 +110,7 @@ overflow_add-i-in-loop-i-2 c =
 
 pub loop-i-smaller : goal.loop-i-smaller
 loop-i-smaller c =
-    omega (arith, c.loop-i-test.taken)
+    omega (arith, c.loop-i-test.true)
 
 pub loop-i-preserved : goal.loop-i-preserved
 loop-i-preserved c =
@@ -122,7 +122,7 @@ loop-i-preserved c =
     let b = c.entry_of-b.ensures in
     let no_copy = c.if-is_copy-2.false in
     let keyed = entry-keyed view next b (not-false _ (sym c.is_copy-in-loop-i.ensures ∙ no_copy)) in
-    neighbouring-step w c.loop-i-test.taken keyed
+    neighbouring-step w c.loop-i-test.true keyed
     (entries-key-less a b view (w.keyed c.loop-i.i w.low (omega arith)) keyed
     c.args.places.now c.is_before.ensures (not-false _ c.if-not-is_before.false-raw))
 

@@ -140,21 +140,20 @@ loop-j-preserved c =
     let depth = c.requires.part.1.0 in
     let a = c.entry_of-a.ensures in
     let b = c.entry_of-b.ensures in
-    let nested = c.nest_where in
     entries-before a b c.args.places.now c.is_before.ensures (not-false _ c.if-not-is_before.false-raw)
-    (known-by-row a b nested.last.1.1.1.1.1.0 c.args.uneven
-    (λ e. depth e c.pairs.i w.outer.low w.here ∙ sym (depth e c.loop-j.j later c.loop-j-test.taken))
-    nested.ensures (omega (arith, second-root, c.count-count.ensures))) in
+    (known-by-row a b c.nest_where.last.1.1.1.1.1.0 c.args.uneven
+    (λ e. depth e c.pairs.i w.outer.low w.here ∙ sym (depth e c.loop-j.j later c.loop-j-test.true))
+    c.nest_where.ensures (omega (arith, second-root, c.count-count.ensures))) in
     let w = c.loop-j.invariant in
     (w.0, facing-step w.1 c.loop-j-test.true compared)
 
 pub overflow_add-i : goal.overflow_add-i
 overflow_add-i c =
-    omega (arith, c.pairs-test.taken, c.requires.part.0.high)
+    omega (arith, c.pairs-test.true, c.requires.part.0.high)
 
 pub pairs-smaller : goal.pairs-smaller
 pairs-smaller c =
-    omega (arith, c.pairs-test.taken)
+    omega (arith, c.pairs-test.true)
 
 pub pairs-preserved : goal.pairs-preserved
 pairs-preserved c =

@@ -30,8 +30,7 @@ is_shallow-shallow-requires c =
       restriction = omega (arith, fields);
       spec_from = omega (arith, fields);
       path_bytes = bytes-by-place c.args.path.now (λ k. (c.type_inv.path k).fits);
-    } in
-    let a = c.args in record { arena_len = c.requires.opened.whole; parent_bound = parent-below a.arena.now a.count a.node a.path.now c.requires arena-bytes numbers }
+    } in record { arena_len = c.requires.opened.whole; parent_bound = parent-below c.args.arena.now c.args.count c.args.node c.args.path.now c.requires arena-bytes numbers }
 
 pub store_header-requires : goal.store_header-requires
 store_header-requires c =
@@ -47,8 +46,7 @@ store_header-requires c =
       restriction = omega (arith, fields);
       spec_from = omega (arith, fields);
       path_bytes = bytes-by-place c.args.path.now (λ k. (c.type_inv.path k).fits);
-    } in
-    let a = c.args in record { arena_len = c.requires.opened.whole; n_bound = count-below a.arena.now a.count a.node a.path.now c.requires arena-bytes numbers }
+    } in record { arena_len = c.requires.opened.whole; n_bound = count-below c.args.arena.now c.args.count c.args.node c.args.path.now c.requires arena-bytes numbers }
 
 pub link_child-requires : goal.link_child-requires
 link_child-requires c =
@@ -65,14 +63,11 @@ link_child-requires c =
       spec_from = omega (arith, fields);
       path_bytes = bytes-by-place c.args.path.now (λ k. (c.type_inv.path k).fits);
     } in
-    let headed : let a = c.args in
-    c.store_header.new.arena
-    ≡ header_stored a.count a.node.arc (shallow_with a.count a.node.parent.0 a.node.depth a.arena.now) a.arena.now =
-    let a = c.args in
-    c.store_header.ensures ∙ ap (λ (t : Bool). header_stored a.count a.node.arc t a.arena.now) c.is_shallow-shallow.ensures in
-    let a = c.args in
-    subst (λ (l : List ℕ). CanLink l a.node.parent.0 a.count) (sym headed)
-    (can-link a.arena.now a.count a.node a.path.now c.requires arena-bytes numbers)
+    let headed : c.store_header.new.arena
+    ≡ header_stored c.args.count c.args.node.arc (shallow_with c.args.count c.args.node.parent.0 c.args.node.depth c.args.arena.now) c.args.arena.now =
+    c.store_header.ensures ∙ ap (λ (t : Bool). header_stored c.args.count c.args.node.arc t c.args.arena.now) c.is_shallow-shallow.ensures in
+    subst (λ (l : List ℕ). CanLink l c.args.node.parent.0 c.args.count) (sym headed)
+    (can-link c.args.arena.now c.args.count c.args.node c.args.path.now c.requires arena-bytes numbers)
 
 pub store_node-requires : goal.store_node-requires
 store_node-requires c =
@@ -88,13 +83,12 @@ store_node-requires c =
       restriction = omega (arith, fields);
       spec_from = omega (arith, fields);
       path_bytes = bytes-by-place c.args.path.now (λ k. (c.type_inv.path k).fits);
-    } in
-    let a = c.args in record {
+    } in record {
       has_slot = record {
         whole = c.link_child.auto.arena ∙ c.store_header.auto.arena ∙ c.requires.opened.whole;
-        within = count-below a.arena.now a.count a.node a.path.now c.requires arena-bytes numbers;
+        within = count-below c.args.arena.now c.args.count c.args.node c.args.path.now c.requires arena-bytes numbers;
       };
-      record_length_value = (c.requires.long, path-short a.arena.now a.count a.node a.path.now c.requires arena-bytes numbers);
+      record_length_value = (c.requires.long, path-short c.args.arena.now c.args.count c.args.node c.args.path.now c.requires arena-bytes numbers);
     }
 
 pub returns : goal.returns
@@ -112,13 +106,10 @@ returns c =
       spec_from = omega (arith, fields);
       path_bytes = bytes-by-place c.args.path.now (λ k. (c.type_inv.path k).fits);
     } in
-    let headed : let a = c.args in
-    c.store_header.new.arena
-    ≡ header_stored a.count a.node.arc (shallow_with a.count a.node.parent.0 a.node.depth a.arena.now) a.arena.now =
-    let a = c.args in
-    c.store_header.ensures ∙ ap (λ (t : Bool). header_stored a.count a.node.arc t a.arena.now) c.is_shallow-shallow.ensures in
-    let a = c.args in
+    let headed : c.store_header.new.arena
+    ≡ header_stored c.args.count c.args.node.arc (shallow_with c.args.count c.args.node.parent.0 c.args.node.depth c.args.arena.now) c.args.arena.now =
+    c.store_header.ensures ∙ ap (λ (t : Bool). header_stored c.args.count c.args.node.arc t c.args.arena.now) c.is_shallow-shallow.ensures in
     c.store_node.ensures
-    ∙ ap (λ (l : List ℕ). record_stored a.count a.node a.path.now (three_links a.count invalid invalid invalid l))
-    (c.link_child.ensures ∙ ap (child_linked a.node.parent.0 a.count) headed)
-    ∙ sym (encode-append a.arena.now a.count a.node a.path.now c.requires arena-bytes numbers)
+    ∙ ap (λ (l : List ℕ). record_stored c.args.count c.args.node c.args.path.now (three_links c.args.count invalid invalid invalid l))
+    (c.link_child.ensures ∙ ap (child_linked c.args.node.parent.0 c.args.count) headed)
+    ∙ sym (encode-append c.args.arena.now c.args.count c.args.node c.args.path.now c.requires arena-bytes numbers)

@@ -42,12 +42,11 @@ pub returns-then-last : goal.returns-then-last
 returns-then-last c =
     let not_first : eqb c.args.n 0 ≡ false =
     ne_eqb c.args.n 0 c.if-n-eq0.false in
-    let a = c.args in
-    rw (not_first, eq-eqb (last_child_in a.arena.now a.parent) invalid (sym c.load_node-node.ensures.last_child ∙ c.if-last.true))
+    rw (not_first, eq-eqb (last_child_in c.args.arena.now c.args.parent) invalid (sym c.load_node-node.ensures.last_child ∙ c.if-last.true))
     (c.store_links.ensures
-    ∙ ap (λ (x : Node). links_stored a.parent x a.arena.now)
-    (c.with_first_child.ensures ∙ ap (with_first_child (number a.n)) c.with_last_child-grown.ensures)
-    ∙ only_child a.arena.now a.parent c.load_node-node.result (number a.n) c.load_node-node.ensures)
+    ∙ ap (λ (x : Node). links_stored c.args.parent x c.args.arena.now)
+    (c.with_first_child.ensures ∙ ap (with_first_child (number c.args.n)) c.with_last_child-grown.ensures)
+    ∙ only_child c.args.arena.now c.args.parent c.load_node-node.result (number c.args.n) c.load_node-node.ensures)
 
 pub store_links-requires-2 : goal.store_links-requires-2
 store_links-requires-2 c =
@@ -61,8 +60,7 @@ load_node-requires c =
     let parent-slot : HasSlot c.args.arena.now c.args.parent =
     let higher : 0 < c.args.n = omega (arith, c.if-n-eq0.false) in
     record { whole = c.requires.whole; within = c.requires.parent-within higher } in
-    let has_last : let a = c.args in
-    last_child_in a.arena.now a.parent ≡ invalid → ⊥ =
+    let has_last : last_child_in c.args.arena.now c.args.parent ≡ invalid → ⊥ =
     λ e. c.if-last.false (c.load_node-node.ensures.last_child ∙ e) in
     let last_within : c.load_node-node.result.last_child.0 < 1024 =
     let higher : 0 < c.args.n = omega (arith, c.if-n-eq0.false) in
@@ -77,8 +75,7 @@ store_links-requires-3 c =
     let parent-slot : HasSlot c.args.arena.now c.args.parent =
     let higher : 0 < c.args.n = omega (arith, c.if-n-eq0.false) in
     record { whole = c.requires.whole; within = c.requires.parent-within higher } in
-    let has_last : let a = c.args in
-    last_child_in a.arena.now a.parent ≡ invalid → ⊥ =
+    let has_last : last_child_in c.args.arena.now c.args.parent ≡ invalid → ⊥ =
     λ e. c.if-last.false (c.load_node-node.ensures.last_child ∙ e) in
     let last_within : c.load_node-node.result.last_child.0 < 1024 =
     let higher : 0 < c.args.n = omega (arith, c.if-n-eq0.false) in
@@ -89,18 +86,16 @@ pub returns : goal.returns
 returns c =
     let not_first : eqb c.args.n 0 ≡ false =
     ne_eqb c.args.n 0 c.if-n-eq0.false in
-    let has_last : let a = c.args in
-    last_child_in a.arena.now a.parent ≡ invalid → ⊥ =
+    let has_last : last_child_in c.args.arena.now c.args.parent ≡ invalid → ⊥ =
     λ e. c.if-last.false (c.load_node-node.ensures.last_child ∙ e) in
-    let a = c.args in
     let last = c.load_node-node.ensures.last_child in
     let after = c.store_links-2.new.arena in
-    let linked : after ≡ three_links a.parent (first_child_in a.arena.now a.parent) a.n (next_sibling_in a.arena.now a.parent) a.arena.now =
+    let linked : after ≡ three_links c.args.parent (first_child_in c.args.arena.now c.args.parent) c.args.n (next_sibling_in c.args.arena.now c.args.parent) c.args.arena.now =
     c.store_links-2.ensures
-    ∙ ap (λ (x : Node). links_stored a.parent x a.arena.now) c.with_last_child-grown.ensures
-    ∙ last-child a.arena.now a.parent c.load_node-node.result (number a.n) c.load_node-node.ensures in
-    rw (not_first, ne_eqb (last_child_in a.arena.now a.parent) invalid has_last)
+    ∙ ap (λ (x : Node). links_stored c.args.parent x c.args.arena.now) c.with_last_child-grown.ensures
+    ∙ last-child c.args.arena.now c.args.parent c.load_node-node.result (number c.args.n) c.load_node-node.ensures in
+    rw (not_first, ne_eqb (last_child_in c.args.arena.now c.args.parent) invalid has_last)
     (c.store_links-3.ensures
     ∙ ap (λ (x : Node). links_stored c.load_node-node.result.last_child.0 x after) c.with_next_sibling-sibling.ensures
-    ∙ next-sibling after c.load_node-node.result.last_child.0 c.load_node.result (number a.n) c.load_node.ensures
-    ∙ (λ i. sibling_linked (last i) a.n (linked i)))
+    ∙ next-sibling after c.load_node-node.result.last_child.0 c.load_node.result (number c.args.n) c.load_node.ensures
+    ∙ (λ i. sibling_linked (last i) c.args.n (linked i)))

@@ -10,13 +10,11 @@ use Rattle.child_lists.proofs.append.store_header.Goals as goal
 
 pub returns-then-arc-eq-ROOT : goal.returns-then-arc-eq-ROOT
 returns-then-arc-eq-ROOT c =
-    let a = c.args in
-    rw (eq-eqb a.arc root_arc c.if-arc-eq-ROOT.true)
+    rw (eq-eqb c.args.arc root_arc c.if-arc-eq-ROOT.true)
     (c.write_local_root.ensures
-    ∙ ap (local_root_stored a.n) (c.write_state.ensures ∙ ap (marks_stored false false a.shallow) c.write_count.ensures))
+    ∙ ap (local_root_stored c.args.n) (c.write_state.ensures ∙ ap (marks_stored false false c.args.shallow) c.write_count.ensures))
 
 pub returns-else-arc-eq-ROOT : goal.returns-else-arc-eq-ROOT
 returns-else-arc-eq-ROOT c =
-    let a = c.args in
-    rw (ne_eqb a.arc root_arc c.if-arc-eq-ROOT.false)
-    (c.write_state.ensures ∙ ap (marks_stored false false a.shallow) c.write_count.ensures)
+    rw (ne_eqb c.args.arc root_arc c.if-arc-eq-ROOT.false)
+    (c.write_state.ensures ∙ ap (marks_stored false false c.args.shallow) c.write_count.ensures)

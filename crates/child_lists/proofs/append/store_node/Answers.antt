@@ -22,7 +22,6 @@ returns c =
     let unlinked : c.with_next_sibling-unlinked.result ≡ with_next_sibling none (with_last_child none (with_first_child none c.args.node)) =
     c.with_next_sibling-unlinked.ensures
     ∙ ap (with_next_sibling none) (c.with_last_child-childless.ensures ∙ ap (with_last_child none) c.with_first_child.ensures) in
-    let a = c.args in
     let same = unlinked in
-    c.store_record.ensures ∙ ap (λ (x : Node). record_stored a.n x a.path.now c.store_links.new.arena) same
-    ∙ ap (record_stored a.n a.node a.path.now) (c.store_links.ensures ∙ ap (λ (x : Node). links_stored a.n x a.arena.now) same)
+    c.store_record.ensures ∙ ap (λ (x : Node). record_stored c.args.n x c.args.path.now c.store_links.new.arena) same
+    ∙ ap (record_stored c.args.n c.args.node c.args.path.now) (c.store_links.ensures ∙ ap (λ (x : Node). links_stored c.args.n x c.args.arena.now) same)

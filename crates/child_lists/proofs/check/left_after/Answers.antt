@@ -16,8 +16,7 @@ first_child-at-requires c =
 
 pub loop-at-init : goal.loop-at-init
 loop-at-init c =
-    let a = c.args in
-    ap (λ (x : ℕ). walked a.arena.now a.parent a.budget x invalid) c.first_child-at.ensures
+    ap (λ (x : ℕ). walked c.args.arena.now c.args.parent c.args.budget x invalid) c.first_child-at.ensures
 
 pub returns-then-left-eq0 : goal.returns-then-left-eq0
 returns-then-left-eq0 c =

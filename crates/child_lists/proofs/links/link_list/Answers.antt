@@ -26,22 +26,19 @@ bounds-sorted-at c =
 pub overflow_cast-next : goal.overflow_cast-next
 overflow_cast-next c =
     let child : get_or c.args.sorted.now (c.loop-at.at - 1) 0 < 1024 =
-    let l = c.loop-at in
-    c.requires.by_index (l.at - 1) (omega (arith, c.loop-at-test, l.invariant.1.high)) in
+    c.requires.by_index (c.loop-at.at - 1) (omega (arith, c.loop-at-test, c.loop-at.invariant.1.high)) in
     omega (arith, child)
 
 pub offset_bounds-next-child : goal.offset_bounds-next-child
 offset_bounds-next-child c =
     let child : get_or c.args.sorted.now (c.loop-at.at - 1) 0 < 1024 =
-    let l = c.loop-at in
-    c.requires.by_index (l.at - 1) (omega (arith, c.loop-at-test, l.invariant.1.high)) in
+    c.requires.by_index (c.loop-at.at - 1) (omega (arith, c.loop-at-test, c.loop-at.invariant.1.high)) in
     omega (arith, child)
 
 pub bounds-next-child : goal.bounds-next-child
 bounds-next-child c =
     let child : get_or c.args.sorted.now (c.loop-at.at - 1) 0 < 1024 =
-    let l = c.loop-at in
-    c.requires.by_index (l.at - 1) (omega (arith, c.loop-at-test, l.invariant.1.high)) in
+    c.requires.by_index (c.loop-at.at - 1) (omega (arith, c.loop-at-test, c.loop-at.invariant.1.high)) in
     omega (arith, child, c.loop-at.invariant.1.long, c.requires.start_le_end)
 
 pub loop-at-smaller : goal.loop-at-smaller
@@ -49,11 +46,10 @@ loop-at-smaller c =
     omega (arith, c.loop-at-test)
 
 pub loop-at-preserved : goal.loop-at-preserved
-loop-at-preserved c =
-    let l = c.loop-at in (
-      omega (arith, c.loop-at-test),
-      linking-step _ _ _ _ _ _ l.invariant.1 (omega (arith, c.loop-at-test)) c.requires.start_le_end.1,
-    )
+loop-at-preserved c = (
+  omega (arith, c.loop-at-test),
+  linking-step _ _ _ _ _ _ c.loop-at.invariant.1 (omega (arith, c.loop-at-test)) c.requires.start_le_end.1,
+)
 
 pub shape_of-next : goal.shape_of-next
 shape_of-next c =
@@ -61,8 +57,7 @@ shape_of-next c =
 
 pub returns : goal.returns
 returns c =
-    let l = c.loop-at in
-    let all : l.at ≡ c.args.start = omega (arith, c.loop-at-test, l.invariant.0) in (
-      l.invariant.1.first ∙ ap (λ (k : ℕ). first_of (slice k c.args.end c.args.sorted.now)) all,
-      l.invariant.1.same ∙ ap (λ (k : ℕ). nexts_set (slice k c.args.end c.args.sorted.now) c.args.next.now) all,
+    let all : c.loop-at.at ≡ c.args.start = omega (arith, c.loop-at-test, c.loop-at.invariant.0) in (
+      c.loop-at.invariant.1.first ∙ ap (λ (k : ℕ). first_of (slice k c.args.end c.args.sorted.now)) all,
+      c.loop-at.invariant.1.same ∙ ap (λ (k : ℕ). nexts_set (slice k c.args.end c.args.sorted.now) c.args.next.now) all,
     )

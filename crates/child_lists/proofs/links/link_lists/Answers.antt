@@ -25,10 +25,9 @@ overflow_cast-end c =
 
 pub last_of-requires : goal.last_of-requires
 last_of-requires c =
-    let l = c.loop-parent in
     let parted = c.requires.parted.0 in
     let here = c.loop-parent-test.true in
-    (omega (arith, l.invariant.1.begun, parted.grows l.parent here), omega (arith, parted.long, parted.within l.parent here))
+    (omega (arith, c.loop-parent.invariant.1.begun, parted.grows c.loop-parent.parent here), omega (arith, parted.long, parted.within c.loop-parent.parent here))
 
 pub bounds-last-i : goal.bounds-last-i
 bounds-last-i c =
@@ -36,15 +35,14 @@ bounds-last-i c =
 
 pub link_list-requires : goal.link_list-requires
 link_list-requires c =
-    let l = c.loop-parent in
     let parted = c.requires.parted.0 in
     let here = c.loop-parent-test.true in record {
       start_le_end = (
-        omega (arith, l.invariant.1.begun, parted.grows l.parent here),
-        omega (arith, parted.long, parted.within l.parent here),
-        l.invariant.1.next-long ∙ length-set c.args.next.now 0 invalid ∙ c.requires.first_len.2,
+        omega (arith, c.loop-parent.invariant.1.begun, parted.grows c.loop-parent.parent here),
+        omega (arith, parted.long, parted.within c.loop-parent.parent here),
+        c.loop-parent.invariant.1.next-long ∙ length-set c.args.next.now 0 invalid ∙ c.requires.first_len.2,
       );
-      by_index = λ k h. parted.numbers l.parent k here h;
+      by_index = λ k h. parted.numbers c.loop-parent.parent k here h;
     }
 
 pub bounds-first-i : goal.bounds-first-i
@@ -81,8 +79,6 @@ shape_of-next c =
 
 pub returns : goal.returns
 returns c =
-    let l = c.loop-parent in
-    let a = c.args in
-    let all : l.parent ≡ a.count = omega (arith, c.loop-parent-test, l.invariant.0) in
-    subst (λ (n : ℕ). Linked a.sorted.now a.ends.now n l.first l.last a.next.now l.next) all
-    (record { firsts = l.invariant.1.firsts; lasts = l.invariant.1.lasts; nexts = l.invariant.1.nexts })
+    let all : c.loop-parent.parent ≡ c.args.count = omega (arith, c.loop-parent-test, c.loop-parent.invariant.0) in
+    subst (λ (n : ℕ). Linked c.args.sorted.now c.args.ends.now n c.loop-parent.first c.loop-parent.last c.args.next.now c.loop-parent.next) all
+    (record { firsts = c.loop-parent.invariant.1.firsts; lasts = c.loop-parent.invariant.1.lasts; nexts = c.loop-parent.invariant.1.nexts })

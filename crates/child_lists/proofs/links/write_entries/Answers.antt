@@ -47,9 +47,8 @@ loop-n-smaller c =
 
 pub loop-n-preserved : goal.loop-n-preserved
 loop-n-preserved c =
-    let stored = c.write_order_entry in
     storing-step c.loop-n.invariant _
-    c.loop-n-test.true stored.auto.0 stored.ensures
+    c.loop-n-test.true c.write_order_entry.auto.arena c.write_order_entry.ensures
 
 pub shape_of-arena : goal.shape_of-arena
 shape_of-arena c =

@@ -53,20 +53,17 @@ loop-n-smaller c =
 pub loop-n-preserved : goal.loop-n-preserved
 loop-n-preserved c =
     let linked : let n = c.loop-n.n in
-    let a = c.args in
     c.with_next_sibling-linked.result
-    ≡ with_next_sibling (number (get_or a.next.now n 0)) (with_last_child (number (get_or a.last.now n 0))
-    (with_first_child (number (get_or a.first.now n 0)) c.load_node-node.result)) =
+    ≡ with_next_sibling (number (get_or c.args.next.now n 0)) (with_last_child (number (get_or c.args.last.now n 0))
+    (with_first_child (number (get_or c.args.first.now n 0)) c.load_node-node.result)) =
     c.with_next_sibling-linked.ensures
     ∙ ap (with_next_sibling _)
     (c.with_last_child-parent.ensures ∙ ap (with_last_child _) c.with_first_child.ensures) in
-    let l = c.loop-n in
-    let a = c.args in
-    let links : ℕ → List ℕ = λ n. links_written a.first.now a.last.now a.next.now n a.arena.now in (
+    let links : ℕ → List ℕ = λ n. links_written c.args.first.now c.args.last.now c.args.next.now n c.args.arena.now in (
       omega (arith, c.loop-n-test),
-      c.store_links.auto.arena ∙ l.inv.1,
-      c.store_links.ensures ∙ (λ i. links_stored l.n (linked i) (l.inv.2 i))
-          ∙ ap links (let e : suc l.n ≡ l.n + 1 = omega arith in e),
+      c.store_links.auto.arena ∙ c.loop-n.invariant.1,
+      c.store_links.ensures ∙ (λ i. links_stored c.loop-n.n (linked i) (c.loop-n.invariant.2 i))
+          ∙ ap links (let e : suc c.loop-n.n ≡ c.loop-n.n + 1 = omega arith in e),
     )
 
 pub shape_of-arena : goal.shape_of-arena
@@ -75,8 +72,6 @@ shape_of-arena c =
 
 pub returns : goal.returns
 returns c =
-    let l = c.loop-n in
-    let a = c.args in
-    l.invariant.2
-    ∙ ap (λ (n : ℕ). links_written a.first.now a.last.now a.next.now n a.arena.now)
-    (let e : l.n ≡ a.count = omega (arith, c.loop-n-test, l.invariant.0) in e)
+    c.loop-n.invariant.2
+    ∙ ap (λ (n : ℕ). links_written c.args.first.now c.args.last.now c.args.next.now n c.args.arena.now)
+    (let e : c.loop-n.n ≡ c.args.count = omega (arith, c.loop-n-test, c.loop-n.invariant.0) in e)

@@ -9,8 +9,7 @@ use Rattle.child_lists.proofs.store.store_ends.Goals as goal
 
 pub returns : goal.returns
 returns c =
-    let a = c.args in
     c.store_links.ensures
-    ∙ (λ i. links_stored a.n ((c.with_last_child-linked.ensures ∙ ap (with_last_child _) c.with_first_child.ensures) i) a.arena.now)
-    ∙ ends-alone a.arena.now (bytes-by-place a.arena.now (λ k. (c.slice_known-1.given k).fits)) a.n c.requires.whole c.requires.within
-    a.first a.last _ c.load_node-node.ensures.next_sibling
+    ∙ (λ i. links_stored c.args.n ((c.with_last_child-linked.ensures ∙ ap (with_last_child _) c.with_first_child.ensures) i) c.args.arena.now)
+    ∙ ends-alone c.args.arena.now (bytes-by-place c.args.arena.now (λ k. (c.slice_known-1.given k).fits)) c.args.n c.requires.whole c.requires.within
+    c.args.first c.args.last _ c.load_node-node.ensures.next_sibling

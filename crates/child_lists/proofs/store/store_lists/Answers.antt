@@ -23,23 +23,21 @@ overflow_cast-end-in-loop-parent c =
 
 pub store_nexts-first-requires : goal.store_nexts-first-requires
 store_nexts-first-requires c =
-    let l = c.loop-parent in
     let parted = c.requires.2 in
     let here = c.loop-parent-test.true in record {
       arena_len = (
-        l.invariant.1.long ∙ c.requires.0,
-        omega (arith, l.invariant.1.begun, parted.grows l.parent here),
-        omega (arith, parted.long, parted.within l.parent here),
+        c.loop-parent.invariant.1.long ∙ c.requires.0,
+        omega (arith, c.loop-parent.invariant.1.begun, parted.grows c.loop-parent.parent here),
+        omega (arith, parted.long, parted.within c.loop-parent.parent here),
       );
-      by_index = λ k h. parted.numbers l.parent k here h;
+      by_index = λ k h. parted.numbers c.loop-parent.parent k here h;
     }
 
 pub last_of-last-requires : goal.last_of-last-requires
 last_of-last-requires c =
-    let l = c.loop-parent in
     let parted = c.requires.2 in
-    let here = c.loop-parent-test.taken in
-    (omega (arith, l.inv.1.begun, parted.grows l.parent here), omega (arith, parted.long, parted.within l.parent here))
+    let here = c.loop-parent-test.true in
+    (omega (arith, c.loop-parent.invariant.1.begun, parted.grows c.loop-parent.parent here), omega (arith, parted.long, parted.within c.loop-parent.parent here))
 
 pub store_ends-requires : goal.store_ends-requires
 store_ends-requires c =
@@ -54,12 +52,11 @@ loop-parent-smaller c =
     omega (arith, c.loop-parent-test)
 
 pub loop-parent-preserved : goal.loop-parent-preserved
-loop-parent-preserved c =
-    let l = c.loop-parent in (
-      omega (arith, c.loop-parent-test),
-      lists-step _ _ _ _ _ _ l.invariant.1 _ _ _ _ c.store_nexts-first.ensures.1 c.store_nexts-first.ensures.0 c.last_of-last.ensures
-          c.store_ends.ensures (c.store_ends.auto.arena ∙ c.store_nexts-first.auto.arena),
-    )
+loop-parent-preserved c = (
+  omega (arith, c.loop-parent-test),
+  lists-step _ _ _ _ _ _ c.loop-parent.invariant.1 _ _ _ _ c.store_nexts-first.ensures.1 c.store_nexts-first.ensures.0 c.last_of-last.ensures
+      c.store_ends.ensures (c.store_ends.auto.arena ∙ c.store_nexts-first.auto.arena),
+)
 
 pub shape_of-arena : goal.shape_of-arena
 shape_of-arena c =
@@ -67,8 +64,6 @@ shape_of-arena c =
 
 pub returns : goal.returns
 returns c =
-    let l = c.loop-parent in
-    let a = c.args in
-    l.invariant.1.same
-    ∙ ap (λ (p : ℕ). lists_stored a.sorted.now a.ends.now p a.arena.now)
-    (let e : l.parent ≡ a.count = omega (arith, c.loop-parent-test, l.invariant.0) in e)
+    c.loop-parent.invariant.1.same
+    ∙ ap (λ (p : ℕ). lists_stored c.args.sorted.now c.args.ends.now p c.args.arena.now)
+    (let e : c.loop-parent.parent ≡ c.args.count = omega (arith, c.loop-parent-test, c.loop-parent.invariant.0) in e)

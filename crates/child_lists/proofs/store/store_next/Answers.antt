@@ -9,8 +9,7 @@ use Rattle.child_lists.proofs.store.store_next.Goals as goal
 
 pub returns : goal.returns
 returns c =
-    let a = c.args in
-    c.store_links.ensures ∙ (λ i. links_stored a.n (c.with_next_sibling-linked.ensures i) a.arena.now)
-    ∙ next-alone a.arena.now (bytes-by-place a.arena.now (λ k. (c.slice_known-1.given k).fits)) a.n
-    c.requires.whole c.requires.within _ _ a.next
+    c.store_links.ensures ∙ (λ i. links_stored c.args.n (c.with_next_sibling-linked.ensures i) c.args.arena.now)
+    ∙ next-alone c.args.arena.now (bytes-by-place c.args.arena.now (λ k. (c.slice_known-1.given k).fits)) c.args.n
+    c.requires.whole c.requires.within _ _ c.args.next
     c.load_node-node.ensures.first_child c.load_node-node.ensures.last_child

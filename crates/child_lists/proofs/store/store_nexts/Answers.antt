@@ -25,19 +25,17 @@ bounds-sorted-at c =
 
 pub store_next-requires : goal.store_next-requires
 store_next-requires c =
-    let l = c.loop-at in
-    record { whole = l.invariant.1.long ∙ c.requires.arena_len.0; within = c.requires.by_index (l.at - 1) (omega (arith, c.loop-at-test, l.invariant.1.high)) }
+    record { whole = c.loop-at.invariant.1.long ∙ c.requires.arena_len.0; within = c.requires.by_index (c.loop-at.at - 1) (omega (arith, c.loop-at-test, c.loop-at.invariant.1.high)) }
 
 pub loop-at-smaller : goal.loop-at-smaller
 loop-at-smaller c =
     omega (arith, c.loop-at-test)
 
 pub loop-at-preserved : goal.loop-at-preserved
-loop-at-preserved c =
-    let l = c.loop-at in (
-      omega (arith, c.loop-at-test),
-      nexts-step _ _ _ _ _ _ l.invariant.1 (omega (arith, c.loop-at-test)) c.requires.arena_len.2 _ c.store_next.auto.arena c.store_next.ensures,
-    )
+loop-at-preserved c = (
+  omega (arith, c.loop-at-test),
+  nexts-step _ _ _ _ _ _ c.loop-at.invariant.1 (omega (arith, c.loop-at-test)) c.requires.arena_len.2 _ c.store_next.auto.arena c.store_next.ensures,
+)
 
 pub shape_of-arena : goal.shape_of-arena
 shape_of-arena c =
@@ -45,8 +43,7 @@ shape_of-arena c =
 
 pub returns : goal.returns
 returns c =
-    let l = c.loop-at in
-    let all : l.at ≡ c.args.start = omega (arith, c.loop-at-test, l.invariant.0) in (
-      l.invariant.1.first ∙ ap (λ (k : ℕ). first_of (slice k c.args.end c.args.sorted.now)) all,
-      l.invariant.1.same ∙ ap (λ (k : ℕ). nexts_stored (slice k c.args.end c.args.sorted.now) c.args.arena.now) all,
+    let all : c.loop-at.at ≡ c.args.start = omega (arith, c.loop-at-test, c.loop-at.invariant.0) in (
+      c.loop-at.invariant.1.first ∙ ap (λ (k : ℕ). first_of (slice k c.args.end c.args.sorted.now)) all,
+      c.loop-at.invariant.1.same ∙ ap (λ (k : ℕ). nexts_stored (slice k c.args.end c.args.sorted.now) c.args.arena.now) all,
     )

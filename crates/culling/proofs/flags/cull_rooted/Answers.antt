@@ -17,13 +17,11 @@ pub write_all_flags-requires : goal.write_all_flags-requires
 write_all_flags-requires c =
     let bytes : Bytes c.args.arena.now =
     bytes-by-place c.args.arena.now (λ k. (c.slice_known-1.given k).fits) in
-    let rooted = c.requires in
-    (rooted.opened.whole, omega (arith, rooted.counted, few _ bytes _ _ rooted), c.find_flags.auto.flags)
+    (c.requires.opened.whole, omega (arith, c.requires.counted, few _ bytes _ _ c.requires), c.find_flags.auto.flags)
 
 pub returns : goal.returns
 returns c =
     let bytes : Bytes c.args.arena.now =
     bytes-by-place c.args.arena.now (λ k. (c.slice_known-1.given k).fits) in
-    let rooted = c.requires in
     c.write_all_flags.ensures
-    ∙ encode-culled _ bytes rooted.opened _ c.find_flags.ensures _ rooted.counted
+    ∙ encode-culled _ bytes c.requires.opened _ c.find_flags.ensures _ c.requires.counted

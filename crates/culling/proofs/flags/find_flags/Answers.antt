@@ -137,8 +137,7 @@ shape_of-unculled c =
 
 pub shape_of-flags : goal.shape_of-flags
 shape_of-flags c =
-    let l = c.loop-n in
-    length-set l.flags 0 c.flags.result ∙ l.invariant.flags_long ∙ sym c.requires.unculled_len.1
+    length-set c.loop-n.flags 0 c.flags.result ∙ c.loop-n.invariant.flags_long ∙ sym c.requires.unculled_len.1
 
 pub returns : goal.returns
 returns c =

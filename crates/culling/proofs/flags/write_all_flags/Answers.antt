@@ -29,15 +29,12 @@ loop-n-smaller c =
     omega (arith, c.loop-n-test)
 
 pub loop-n-preserved : goal.loop-n-preserved
-loop-n-preserved c =
-    let store = c.write_flags in
-    let l = c.loop-n in
-    let a = c.args in (
-      omega (arith, c.loop-n-test),
-      store.auto.0 ∙ l.invariant.1,
-      store.ensures ∙ ap (flags_stored l.n (get_or a.flags.now l.n 0)) l.invariant.2
-          ∙ ap (λ (n : ℕ). flags_written a.flags.now n a.arena.now) (let e : suc l.n ≡ l.n + 1 = omega arith in e),
-    )
+loop-n-preserved c = (
+  omega (arith, c.loop-n-test),
+  c.write_flags.auto.arena ∙ c.loop-n.invariant.1,
+  c.write_flags.ensures ∙ ap (flags_stored c.loop-n.n (get_or c.args.flags.now c.loop-n.n 0)) c.loop-n.invariant.2
+      ∙ ap (λ (n : ℕ). flags_written c.args.flags.now n c.args.arena.now) (let e : suc c.loop-n.n ≡ c.loop-n.n + 1 = omega arith in e),
+)
 
 pub shape_of-arena : goal.shape_of-arena
 shape_of-arena c =
@@ -45,7 +42,5 @@ shape_of-arena c =
 
 pub returns : goal.returns
 returns c =
-    let l = c.loop-n in
-    let a = c.args in
-    l.invariant.2
-    ∙ ap (λ (n : ℕ). flags_written a.flags.now n a.arena.now) (let e : l.n ≡ a.count = omega (arith, c.loop-n-test, l.invariant.0) in e)
+    c.loop-n.invariant.2
+    ∙ ap (λ (n : ℕ). flags_written c.args.flags.now n c.args.arena.now) (let e : c.loop-n.n ≡ c.args.count = omega (arith, c.loop-n-test, c.loop-n.invariant.0) in e)

@@ -17,25 +17,21 @@ pub deepen_sites-requires : goal.deepen_sites-requires
 deepen_sites-requires c =
     let arena-bytes : Bytes c.args.arena.now =
     bytes-by-place c.args.arena.now (λ k. (c.slice_known-1.given k).fits) in
-    let marks : let a = c.args in
-    c.write_state.new.arena ≡ marked a.arena.now a.name.now arena-bytes c.requires =
+    let marks : c.write_state.new.arena ≡ marked c.args.arena.now c.args.name.now arena-bytes c.requires =
     c.write_state.ensures
     ∙ (λ i. marks_stored (c.keeps_order-ordered.ensures i) (eqb (c.finalized-finalized.ensures i) 1) (eqb (c.shallow-shallow.ensures i) 1)
     c.args.arena.now) in
-    let a = c.args in
-    subst (AllJoin c.write_state.new.arena a.name.now) (sym c.count-count.ensures)
-    (subst (λ (s : List ℕ). AllJoin s a.name.now (count_in a.arena.now)) (sym marks)
-    (marked-join a.arena.now a.name.now arena-bytes c.requires))
+    subst (AllJoin c.write_state.new.arena c.args.name.now) (sym c.count-count.ensures)
+    (subst (λ (s : List ℕ). AllJoin s c.args.name.now (count_in c.args.arena.now)) (sym marks)
+    (marked-join c.args.arena.now c.args.name.now arena-bytes c.requires))
 
 pub returns : goal.returns
 returns c =
     let arena-bytes : Bytes c.args.arena.now =
     bytes-by-place c.args.arena.now (λ k. (c.slice_known-1.given k).fits) in
-    let marks : let a = c.args in
-    c.write_state.new.arena ≡ marked a.arena.now a.name.now arena-bytes c.requires =
+    let marks : c.write_state.new.arena ≡ marked c.args.arena.now c.args.name.now arena-bytes c.requires =
     c.write_state.ensures
     ∙ (λ i. marks_stored (c.keeps_order-ordered.ensures i) (eqb (c.finalized-finalized.ensures i) 1) (eqb (c.shallow-shallow.ensures i) 1)
     c.args.arena.now) in
-    let a = c.args in
-    c.deepen_sites.ensures ∙ (λ i. sites_deepened a.name.now (c.count-count.ensures i) (marks i))
-    ∙ encode-deepened a.arena.now a.name.now arena-bytes c.requires
+    c.deepen_sites.ensures ∙ (λ i. sites_deepened c.args.name.now (c.count-count.ensures i) (marks i))
+    ∙ encode-deepened c.args.arena.now c.args.name.now arena-bytes c.requires

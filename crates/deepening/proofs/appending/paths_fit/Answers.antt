@@ -23,7 +23,7 @@ count-count-requires c =
 
 pub loop-n-init : goal.loop-n-init
 loop-n-init c =
-    let a = c.args in (omega arith, omega arith, fit-start a.arena.now a.name.now)
+    (omega arith, omega arith, fit-start c.args.arena.now c.args.name.now)
 
 pub path-requires : goal.path-requires
 path-requires c =
@@ -45,12 +45,10 @@ overflow_add-end c =
       opened = c.requires;
       below = omega (arith, c.count-count.ensures, c.loop-n-test.true);
     } in
-    let ends : let a = c.args in
-    c.joint.result + length a.name.now
-    ≡ length (append_name (node_in a.arena.now c.loop-n.n).path a.name.now) =
-    let a = c.args in
-    ap (λ (k : ℕ). k + length a.name.now) (c.joint.ensures ∙ ap (λ (p : List ℕ). length p + length (separator p)) c.path.ensures)
-    ∙ sym (length-append-name (node_in a.arena.now c.loop-n.n).path a.name.now) in
+    let ends : c.joint.result + length c.args.name.now
+    ≡ length (append_name (node_in c.args.arena.now c.loop-n.n).path c.args.name.now) =
+    ap (λ (k : ℕ). k + length c.args.name.now) (c.joint.ensures ∙ ap (λ (p : List ℕ). length p + length (separator p)) c.path.ensures)
+    ∙ sym (length-append-name (node_in c.args.arena.now c.loop-n.n).path c.args.name.now) in
     let n = c.loop-n.n in
     let path = (node_in c.args.arena.now n).path in
     let here = has-path _ _ reads-it in
@@ -75,16 +73,12 @@ returns-then-end-gt255 c =
       opened = c.requires;
       below = omega (arith, c.count-count.ensures, c.loop-n-test.true);
     } in
-    let ends : let a = c.args in
-    c.joint.result + length a.name.now
-    ≡ length (append_name (node_in a.arena.now c.loop-n.n).path a.name.now) =
-    let a = c.args in
-    ap (λ (k : ℕ). k + length a.name.now) (c.joint.ensures ∙ ap (λ (p : List ℕ). length p + length (separator p)) c.path.ensures)
-    ∙ sym (length-append-name (node_in a.arena.now c.loop-n.n).path a.name.now) in
-    let l = c.loop-n in
-    let a = c.args in
-    fit-long a.arena.now a.name.now l.sum l.n reads-it.below (omega (arith, ends, c.if-end-gt255.true))
-    ∙ l.invariant.2
+    let ends : c.joint.result + length c.args.name.now
+    ≡ length (append_name (node_in c.args.arena.now c.loop-n.n).path c.args.name.now) =
+    ap (λ (k : ℕ). k + length c.args.name.now) (c.joint.ensures ∙ ap (λ (p : List ℕ). length p + length (separator p)) c.path.ensures)
+    ∙ sym (length-append-name (node_in c.args.arena.now c.loop-n.n).path c.args.name.now) in
+    fit-long c.args.arena.now c.args.name.now c.loop-n.sum c.loop-n.n reads-it.below (omega (arith, ends, c.if-end-gt255.true))
+    ∙ c.loop-n.invariant.2
 
 pub overflow_add-sum : goal.overflow_add-sum
 overflow_add-sum c =
@@ -93,8 +87,7 @@ overflow_add-sum c =
       opened = c.requires;
       below = omega (arith, c.count-count.ensures, c.loop-n-test.true);
     } in
-    let l = c.loop-n in
-    omega (arith, l.invariant, c.if-end-gt255.false, (held _ c.requires.holds).few, reads-it.below)
+    omega (arith, c.loop-n.invariant, c.if-end-gt255.false, (held _ c.requires.holds).few, reads-it.below)
 
 pub loop-n-smaller : goal.loop-n-smaller
 loop-n-smaller c =
@@ -107,24 +100,18 @@ loop-n-preserved c =
       opened = c.requires;
       below = omega (arith, c.count-count.ensures, c.loop-n-test.true);
     } in
-    let ends : let a = c.args in
-    c.joint.result + length a.name.now
-    ≡ length (append_name (node_in a.arena.now c.loop-n.n).path a.name.now) =
-    let a = c.args in
-    ap (λ (k : ℕ). k + length a.name.now) (c.joint.ensures ∙ ap (λ (p : List ℕ). length p + length (separator p)) c.path.ensures)
-    ∙ sym (length-append-name (node_in a.arena.now c.loop-n.n).path a.name.now) in
-    let l = c.loop-n in
-    let a = c.args in
+    let ends : c.joint.result + length c.args.name.now
+    ≡ length (append_name (node_in c.args.arena.now c.loop-n.n).path c.args.name.now) =
+    ap (λ (k : ℕ). k + length c.args.name.now) (c.joint.ensures ∙ ap (λ (p : List ℕ). length p + length (separator p)) c.path.ensures)
+    ∙ sym (length-append-name (node_in c.args.arena.now c.loop-n.n).path c.args.name.now) in
     let end = ends in (
       omega (arith, c.loop-n-test.true),
-      omega (arith, l.invariant.1, c.if-end-gt255.false),
-      ap (λ (k : ℕ). fit_from a.arena.now a.name.now (l.sum + k) (l.n + 1)) end
-          ∙ fit-step a.arena.now a.name.now l.sum l.n reads-it.below (omega (arith, end, c.if-end-gt255.false))
-          ∙ l.invariant.2,
+      omega (arith, c.loop-n.invariant.1, c.if-end-gt255.false),
+      ap (λ (k : ℕ). fit_from c.args.arena.now c.args.name.now (c.loop-n.sum + k) (c.loop-n.n + 1)) end
+          ∙ fit-step c.args.arena.now c.args.name.now c.loop-n.sum c.loop-n.n reads-it.below (omega (arith, end, c.if-end-gt255.false))
+          ∙ c.loop-n.invariant.2,
     )
 
 pub returns : goal.returns
 returns c =
-    let l = c.loop-n in
-    let a = c.args in
-    fit-end a.arena.now a.name.now l.sum l.n (omega (arith, c.count-count.ensures, c.loop-n-test.false)) ∙ l.invariant.2
+    fit-end c.args.arena.now c.args.name.now c.loop-n.sum c.loop-n.n (omega (arith, c.count-count.ensures, c.loop-n-test.false)) ∙ c.loop-n.invariant.2

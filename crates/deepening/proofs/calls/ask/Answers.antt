@@ -56,5 +56,4 @@ returns-else-not-paths_fit c =
 
 pub returns-in-Refused : goal.returns-in-Refused
 returns-in-Refused c =
-    let a = c.args in
-    refused-first a.child.now a.arena.now c.in-Refused.refusal (rw c.in-Refused.is at c.ask_node_zero-asked.ensures)
+    refused-first c.args.child.now c.args.arena.now c.in-Refused.refusal (rw c.in-Refused.is at c.ask_node_zero-asked.ensures)

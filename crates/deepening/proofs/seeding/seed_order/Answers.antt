@@ -10,7 +10,7 @@ use Rattle.deepening.proofs.seeding.seed_order.Goals as goal
 
 pub loop-n-init : goal.loop-n-init
 loop-n-init c =
-    let a = c.args in storing-start (order_entry_in a.from.now) a.into.now a.count
+    storing-start (order_entry_in c.args.from.now) c.args.into.now c.args.count
 
 pub order_entry-requires : goal.order_entry-requires
 order_entry-requires c =
@@ -30,10 +30,8 @@ loop-n-smaller c =
 
 pub loop-n-preserved : goal.loop-n-preserved
 loop-n-preserved c =
-    let store = c.write_order_entry in
-    let l = c.loop-n in
-    storing-step l.invariant _ c.loop-n-test.true store.auto.0
-    (store.ensures ∙ ap (λ (k : ℕ). order_entry_stored l.n k l.into) c.order_entry.ensures)
+    storing-step c.loop-n.invariant _ c.loop-n-test.true c.write_order_entry.auto.arena
+    (c.write_order_entry.ensures ∙ ap (λ (k : ℕ). order_entry_stored c.loop-n.n k c.loop-n.into) c.order_entry.ensures)
 
 pub shape_of-into : goal.shape_of-into
 shape_of-into c =

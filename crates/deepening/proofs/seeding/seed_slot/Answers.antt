@@ -18,9 +18,8 @@ store_record-requires c =
 
 pub returns : goal.returns
 returns c =
-    let a = c.args in
-    let from = a.from.now in
+    let from = c.args.from.now in
     let right = c.deepen_record-node.ensures in
-    c.store_record.ensures ∙ record-joined from a.name.now a.n _ _ right _
-    ∙ ap (site_stored a.n (deepened a.name.now (node_in from a.n)))
-    (c.store_links.ensures ∙ links-joined from a.name.now a.n _ _ right a.into.now)
+    c.store_record.ensures ∙ record-joined from c.args.name.now c.args.n _ _ right _
+    ∙ ap (site_stored c.args.n (deepened c.args.name.now (node_in from c.args.n)))
+    (c.store_links.ensures ∙ links-joined from c.args.name.now c.args.n _ _ right c.args.into.now)

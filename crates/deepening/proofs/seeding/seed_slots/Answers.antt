@@ -27,15 +27,12 @@ loop-n-smaller c =
     omega (arith, c.loop-n-test.true)
 
 pub loop-n-preserved : goal.loop-n-preserved
-loop-n-preserved c =
-    let store = c.seed_slot in
-    let l = c.loop-n in
-    let a = c.args in (
-      omega (arith, c.loop-n-test.true),
-      store.auto.1.0 ∙ l.invariant.1,
-      store.ensures ∙ ap (slot_seeded a.from.now a.name.now l.n) l.invariant.2
-          ∙ ap (λ (n : ℕ). slots_seeded a.from.now a.name.now n a.into.now) (let e : suc l.n ≡ l.n + 1 = omega arith in e),
-    )
+loop-n-preserved c = (
+  omega (arith, c.loop-n-test.true),
+  c.seed_slot.auto.into ∙ c.loop-n.invariant.1,
+  c.seed_slot.ensures ∙ ap (slot_seeded c.args.from.now c.args.name.now c.loop-n.n) c.loop-n.invariant.2
+      ∙ ap (λ (n : ℕ). slots_seeded c.args.from.now c.args.name.now n c.args.into.now) (let e : suc c.loop-n.n ≡ c.loop-n.n + 1 = omega arith in e),
+)
 
 pub shape_of-into : goal.shape_of-into
 shape_of-into c =
@@ -43,7 +40,5 @@ shape_of-into c =
 
 pub returns : goal.returns
 returns c =
-    let l = c.loop-n in
-    let a = c.args in
-    let e : l.n ≡ a.count = omega (arith, c.loop-n-test.false, l.invariant.0) in
-    l.invariant.2 ∙ ap (λ (n : ℕ). slots_seeded a.from.now a.name.now n a.into.now) e
+    let e : c.loop-n.n ≡ c.args.count = omega (arith, c.loop-n-test.false, c.loop-n.invariant.0) in
+    c.loop-n.invariant.2 ∙ ap (λ (n : ℕ). slots_seeded c.args.from.now c.args.name.now n c.args.into.now) e

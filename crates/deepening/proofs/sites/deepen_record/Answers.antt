@@ -19,14 +19,11 @@ path-old-requires c =
 
 pub put_joined-requires : goal.put_joined-requires
 put_joined-requires c =
-    let ends : let a = c.args in
-    c.joint-at.result + length a.name.now ≡ length (append_name (node_in a.arena.now a.n).path a.name.now) =
-    let a = c.args in
-    ap (λ (k : ℕ). k + length a.name.now) (c.joint-at.ensures ∙ ap (λ (p : List ℕ). length p + length (separator p)) c.path-old.ensures)
-    ∙ sym (length-append-name (node_in a.arena.now a.n).path a.name.now) in
-    let a = c.args in (
+    let ends : c.joint-at.result + length c.args.name.now ≡ length (append_name (node_in c.args.arena.now c.args.n).path c.args.name.now) =
+    ap (λ (k : ℕ). k + length c.args.name.now) (c.joint-at.ensures ∙ ap (λ (p : List ℕ). length p + length (separator p)) c.path-old.ensures)
+    ∙ sym (length-append-name (node_in c.args.arena.now c.args.n).path c.args.name.now) in (
       c.joint-at.ensures,
-      name-some a.arena.now a.name.now a.n c.requires.0,
+      name-some c.args.arena.now c.args.name.now c.args.n c.requires.0,
       omega (arith, ends, c.requires.0.fits, c.requires.1),
     )
 
@@ -40,53 +37,44 @@ overflow_add-node c =
 
 pub overflow_add-node-2 : goal.overflow_add-node-2
 overflow_add-node-2 c =
-    let ends : let a = c.args in
-    c.joint-at.result + length a.name.now ≡ length (append_name (node_in a.arena.now a.n).path a.name.now) =
-    let a = c.args in
-    ap (λ (k : ℕ). k + length a.name.now) (c.joint-at.ensures ∙ ap (λ (p : List ℕ). length p + length (separator p)) c.path-old.ensures)
-    ∙ sym (length-append-name (node_in a.arena.now a.n).path a.name.now) in
+    let ends : c.joint-at.result + length c.args.name.now ≡ length (append_name (node_in c.args.arena.now c.args.n).path c.args.name.now) =
+    ap (λ (k : ℕ). k + length c.args.name.now) (c.joint-at.ensures ∙ ap (λ (p : List ℕ). length p + length (separator p)) c.path-old.ensures)
+    ∙ sym (length-append-name (node_in c.args.arena.now c.args.n).path c.args.name.now) in
     omega (arith, ends, c.requires.0.fits)
 
 pub overflow_add-node-3 : goal.overflow_add-node-3
 overflow_add-node-3 c =
-    let ends : let a = c.args in
-    c.joint-at.result + length a.name.now ≡ length (append_name (node_in a.arena.now a.n).path a.name.now) =
-    let a = c.args in
-    ap (λ (k : ℕ). k + length a.name.now) (c.joint-at.ensures ∙ ap (λ (p : List ℕ). length p + length (separator p)) c.path-old.ensures)
-    ∙ sym (length-append-name (node_in a.arena.now a.n).path a.name.now) in
+    let ends : c.joint-at.result + length c.args.name.now ≡ length (append_name (node_in c.args.arena.now c.args.n).path c.args.name.now) =
+    ap (λ (k : ℕ). k + length c.args.name.now) (c.joint-at.ensures ∙ ap (λ (p : List ℕ). length p + length (separator p)) c.path-old.ensures)
+    ∙ sym (length-append-name (node_in c.args.arena.now c.args.n).path c.args.name.now) in
     omega (arith, ends, c.requires.0.fits)
 
 pub overflow_cast-node : goal.overflow_cast-node
 overflow_cast-node c =
-    let ends : let a = c.args in
-    c.joint-at.result + length a.name.now ≡ length (append_name (node_in a.arena.now a.n).path a.name.now) =
-    let a = c.args in
-    ap (λ (k : ℕ). k + length a.name.now) (c.joint-at.ensures ∙ ap (λ (p : List ℕ). length p + length (separator p)) c.path-old.ensures)
-    ∙ sym (length-append-name (node_in a.arena.now a.n).path a.name.now) in
+    let ends : c.joint-at.result + length c.args.name.now ≡ length (append_name (node_in c.args.arena.now c.args.n).path c.args.name.now) =
+    ap (λ (k : ℕ). k + length c.args.name.now) (c.joint-at.ensures ∙ ap (λ (p : List ℕ). length p + length (separator p)) c.path-old.ensures)
+    ∙ sym (length-append-name (node_in c.args.arena.now c.args.n).path c.args.name.now) in
     omega (arith, ends, c.requires.0.fits)
 
 pub returns : goal.returns
 returns c =
-    let ends : let a = c.args in
-    c.joint-at.result + length a.name.now ≡ length (append_name (node_in a.arena.now a.n).path a.name.now) =
-    let a = c.args in
-    ap (λ (k : ℕ). k + length a.name.now) (c.joint-at.ensures ∙ ap (λ (p : List ℕ). length p + length (separator p)) c.path-old.ensures)
-    ∙ sym (length-append-name (node_in a.arena.now a.n).path a.name.now) in
-    let a = c.args in
-    let bs = a.arena.now in
-    let name = a.name.now in
+    let ends : c.joint-at.result + length c.args.name.now ≡ length (append_name (node_in c.args.arena.now c.args.n).path c.args.name.now) =
+    ap (λ (k : ℕ). k + length c.args.name.now) (c.joint-at.ensures ∙ ap (λ (p : List ℕ). length p + length (separator p)) c.path-old.ensures)
+    ∙ sym (length-append-name (node_in c.args.arena.now c.args.n).path c.args.name.now) in
+    let bs = c.args.arena.now in
+    let name = c.args.name.now in
     let loaded = c.load_node-node.ensures in
-    let joined = append_name (node_in bs a.n).path name in
+    let joined = append_name (node_in bs c.args.n).path name in
     let end = c.joint-at.result + length name in
     record {
       first-child = loaded.first_child;
       last-child = loaded.last_child;
       next-sibling = loaded.next_sibling;
-      counted = ap (λ (k : ℕ). k + 1) loaded.prim_count ∙ prims-raised bs name a.n c.requires.0;
+      counted = ap (λ (k : ℕ). k + 1) loaded.prim_count ∙ prims-raised bs name c.args.n c.requires.0;
       long = ap (λ (k : ℕ). 27 + k) ends;
       short = c.requires.0.fits;
       front = ap (take (27 + end - 27)) (c.put_joined.ensures
-          ∙ ap (λ (p : List ℕ). append_name p name ++ drop end a.path.now) c.path-old.ensures)
-          ∙ take_at joined (drop end a.path.now) (27 + end - 27) (omega (arith, ends));
-      node = node-joined bs name a.n c.requires.0 c.load_node-node.result loaded;
+          ∙ ap (λ (p : List ℕ). append_name p name ++ drop end c.args.path.now) c.path-old.ensures)
+          ∙ take_at joined (drop end c.args.path.now) (27 + end - 27) (omega (arith, ends));
+      node = node-joined bs name c.args.n c.requires.0 c.load_node-node.result loaded;
     }

@@ -15,5 +15,4 @@ store_record-requires c =
 
 pub returns : goal.returns
 returns c =
-    let a = c.args in
-    c.store_record.ensures ∙ record-joined a.arena.now a.name.now a.n _ _ c.deepen_record-node.ensures a.arena.now
+    c.store_record.ensures ∙ record-joined c.args.arena.now c.args.name.now c.args.n _ _ c.deepen_record-node.ensures c.args.arena.now

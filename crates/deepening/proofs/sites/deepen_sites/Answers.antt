@@ -17,9 +17,8 @@ loop-n-init c =
 
 pub deepen_site-requires : goal.deepen_site-requires
 deepen_site-requires c =
-    let l = c.loop-n in
-    subst (λ (bs : List ℕ). CanJoin bs c.args.name.now l.n) (sym l.invariant.2)
-    (join-next c.args.arena.now c.args.name.now c.args.count c.requires l.n c.loop-n-test.true)
+    subst (λ (bs : List ℕ). CanJoin bs c.args.name.now c.loop-n.n) (sym c.loop-n.invariant.2)
+    (join-next c.args.arena.now c.args.name.now c.args.count c.requires c.loop-n.n c.loop-n-test.true)
 
 pub overflow_add-n : goal.overflow_add-n
 overflow_add-n c =
@@ -31,15 +30,12 @@ loop-n-smaller c =
 
 pub loop-n-preserved : goal.loop-n-preserved
 loop-n-preserved c =
-    let store = c.deepen_site in
-    let l = c.loop-n in
-    let a = c.args in
     let more = c.loop-n-test.true in (
       omega (arith, more),
-      store.auto.0 ∙ l.invariant.1,
-      store.ensures
-          ∙ ap (λ (bs : List ℕ). site_stored l.n (deepened a.name.now (node_in bs l.n)) bs) l.invariant.2
-          ∙ sites-next a.arena.now a.name.now a.count c.requires l.n more,
+      c.deepen_site.auto.arena ∙ c.loop-n.invariant.1,
+      c.deepen_site.ensures
+          ∙ ap (λ (bs : List ℕ). site_stored c.loop-n.n (deepened c.args.name.now (node_in bs c.loop-n.n)) bs) c.loop-n.invariant.2
+          ∙ sites-next c.args.arena.now c.args.name.now c.args.count c.requires c.loop-n.n more,
     )
 
 pub shape_of-arena : goal.shape_of-arena
@@ -48,7 +44,5 @@ shape_of-arena c =
 
 pub returns : goal.returns
 returns c =
-    let l = c.loop-n in
-    let a = c.args in
-    let e : l.n ≡ a.count = omega (arith, c.loop-n-test.false, l.invariant.0) in
-    l.invariant.2 ∙ ap (λ (n : ℕ). sites_deepened a.name.now n a.arena.now) e
+    let e : c.loop-n.n ≡ c.args.count = omega (arith, c.loop-n-test.false, c.loop-n.invariant.0) in
+    c.loop-n.invariant.2 ∙ ap (λ (n : ℕ). sites_deepened c.args.name.now n c.args.arena.now) e

@@ -38,7 +38,7 @@ erase-requires c =
     some-node _ (sym (rw c.in-Done.is at c.ask_node_zero-asked.ensures)) in
     let large : length c.args.set.now ≡ 1024 =
     c.if-set-ne-SET_BYTES.false in
-    let accepted : let a = c.args in can_erase (decode a.arena.now) a.set.now ≡ true =
+    let accepted : can_erase (decode c.args.arena.now) c.args.set.now ≡ true =
     sym c.can_erase.ensures ∙ not-false _ c.if-not-can_erase.false-raw in record { valid_arena = has-node; set_len = (large, accepted) }
 
 pub returns-else-not-can_erase : goal.returns-else-not-can_erase
@@ -47,7 +47,7 @@ returns-else-not-can_erase c =
     some-node _ (sym (rw c.in-Done.is at c.ask_node_zero-asked.ensures)) in
     let large : length c.args.set.now ≡ 1024 =
     c.if-set-ne-SET_BYTES.false in
-    let accepted : let a = c.args in can_erase (decode a.arena.now) a.set.now ≡ true =
+    let accepted : can_erase (decode c.args.arena.now) c.args.set.now ≡ true =
     sym c.can_erase.ensures ∙ not-false _ c.if-not-can_erase.false-raw in
     erase-done _ _ large has-node.0 has-node.1 accepted _ _ c.erase.ensures
 

@@ -13,8 +13,7 @@ number-kept-requires c =
 
 pub returns : goal.returns
 returns c =
-    let a = c.args in
     record {
-      kept = c.number-kept.ensures.0 ∙ ap (new_number (stays a.set.now)) c.count-count.ensures;
+      kept = c.number-kept.ensures.0 ∙ ap (new_number (stays c.args.set.now)) c.count-count.ensures;
       bytes = c.write_erased.ensures;
     }

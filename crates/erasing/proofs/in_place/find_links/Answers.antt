@@ -33,13 +33,12 @@ link_lists-requires c =
 
 pub returns : goal.returns
 returns c =
-    let a = c.args in
     let filled = c.gather_lists.last.1.1.1.1.0 in
     let ended = c.gather_lists.last.1.1.1.1.1.0 in
     record {
       lists = filled;
       ends = ended;
-      segments = subst (λ (n : ℕ). Segments (children_of (erase a.set.now (decode a.arena.now))) n filled ended) (sym c.requires.number_result.1)
+      segments = subst (λ (n : ℕ). Segments (children_of (erase c.args.set.now (decode c.args.arena.now))) n filled ended) (sym c.requires.number_result.1)
           c.gather_lists.ensures;
       linked = c.link_lists.ensures;
     }

@@ -48,8 +48,7 @@ pub returns : goal.returns
 returns c =
     let bytes : Bytes c.args.arena.now =
     bytes-by-place c.args.arena.now (λ k. (c.slice_known-1.given k).fits) in
-    let a = c.args in
-    let rooted = c.new_link.ensures ∙ ap (new_link_in a.numbers.now a.count) c.local_root-root.ensures in
-    erased-encoded _ _ _ _ bytes c.requires.0 _ _ _ _ a.kept c.requires.1 c.find_links.ensures refl _ _ _
+    let rooted = c.new_link.ensures ∙ ap (new_link_in c.args.numbers.now c.args.count) c.local_root-root.ensures in
+    erased-encoded _ _ _ _ bytes c.requires.0 _ _ _ _ c.args.kept c.requires.1 c.find_links.ensures refl _ _ _
     c.filter_order-listed.auto.order c.filter_order-listed.ensures.0 c.filter_order-listed.ensures.1 rooted _ _ _ _
     c.move_records.ensures c.write_links.ensures c.write_entries.ensures c.write_header.ensures

@@ -144,7 +144,7 @@ bounds-ends-numbers c =
 
 pub loop-n-smaller-then-set-parent-eq0 : goal.loop-n-smaller-then-set-parent-eq0
 loop-n-smaller-then-set-parent-eq0 c =
-    omega (arith, c.loop-n-test.taken)
+    omega (arith, c.loop-n-test.true)
 
 pub loop-n-preserved-then-set-parent-eq0 : goal.loop-n-preserved-then-set-parent-eq0
 loop-n-preserved-then-set-parent-eq0 c =

@@ -19,13 +19,11 @@ write_bytes-requires c =
 
 pub slice_bounds-store_record-end : goal.slice_bounds-store_record-end
 slice_bounds-store_record-end c =
-    let a = c.args in
-    omega (arith, ap length c.path-length.ensures, path-short a.arena.now a.from c.requires.has_path.0, c.write_bytes.auto.out, c.requires.has_path.2)
+    omega (arith, ap length c.path-length.ensures, path-short c.args.arena.now c.args.from c.requires.has_path.0, c.write_bytes.auto.out, c.requires.has_path.2)
 
 pub slice_bounds-store_record-end-2 : goal.slice_bounds-store_record-end-2
 slice_bounds-store_record-end-2 c =
-    let copied : let a = c.args in
-    take (length c.path-length.result.now) c.write_bytes.new.out ≡ (node_in a.arena.now a.from).path =
+    let copied : take (length c.path-length.result.now) c.write_bytes.new.out ≡ (node_in c.args.arena.now c.args.from).path =
     path-copied c.args.arena.now c.args.from c.requires.has_path.0 c.args.path.now _ _ c.requires.has_path.2
     c.path-length.ensures
     (c.write_bytes.ensures ∙ ap (λ (l : List ℕ). stored 0 l c.args.path.now) c.path.ensures) in
@@ -33,29 +31,25 @@ slice_bounds-store_record-end-2 c =
 
 pub store_record-requires : goal.store_record-requires
 store_record-requires c =
-    let copied : let a = c.args in
-    take (length c.path-length.result.now) c.write_bytes.new.out ≡ (node_in a.arena.now a.from).path =
+    let copied : take (length c.path-length.result.now) c.write_bytes.new.out ≡ (node_in c.args.arena.now c.args.from).path =
     path-copied c.args.arena.now c.args.from c.requires.has_path.0 c.args.path.now _ _ c.requires.has_path.2
     c.path-length.ensures
     (c.write_bytes.ensures ∙ ap (λ (l : List ℕ). stored 0 l c.args.path.now) c.path.ensures) in
-    let a = c.args in
     let p = c.requires.has_path.0 in record {
       has_slot = c.requires.has_path.1;
       record_length_value = (
         ap (λ (x : Node). x.record_length) c.renumber-node.ensures
-            ∙ counts-path a.arena.now a.from p _ c.load_node.ensures ∙ ap (λ (l : List ℕ). 27 + length l) (sym copied),
-        omega (arith, ap length copied, path-short a.arena.now a.from p),
+            ∙ counts-path c.args.arena.now c.args.from p _ c.load_node.ensures ∙ ap (λ (l : List ℕ). 27 + length l) (sym copied),
+        omega (arith, ap length copied, path-short c.args.arena.now c.args.from p),
       );
     }
 
 pub returns : goal.returns
 returns c =
-    let copied : let a = c.args in
-    take (length c.path-length.result.now) c.write_bytes.new.out ≡ (node_in a.arena.now a.from).path =
+    let copied : take (length c.path-length.result.now) c.write_bytes.new.out ≡ (node_in c.args.arena.now c.args.from).path =
     path-copied c.args.arena.now c.args.from c.requires.has_path.0 c.args.path.now _ _ c.requires.has_path.2
     c.path-length.ensures
     (c.write_bytes.ensures ∙ ap (λ (l : List ℕ). stored 0 l c.args.path.now) c.path.ensures) in
-    let a = c.args in
     c.store_record.ensures
-    ∙ (λ i. record_stored a.to (c.renumber-node.ensures i) (copied i) a.arena.now)
-    ∙ record-moved a.arena.now a.from c.requires.has_path.0 _ c.load_node.ensures a.numbers.now a.count a.to
+    ∙ (λ i. record_stored c.args.to (c.renumber-node.ensures i) (copied i) c.args.arena.now)
+    ∙ record-moved c.args.arena.now c.args.from c.requires.has_path.0 _ c.load_node.ensures c.args.numbers.now c.args.count c.args.to

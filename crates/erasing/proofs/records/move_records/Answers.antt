@@ -35,15 +35,13 @@ pub move_record-requires : goal.move_record-requires
 move_record-requires c =
     let bytes : Bytes c.args.arena.now =
     bytes-by-place c.args.arena.now (λ k. (c.slice_known-1.given k).fits) in
-    let l = c.loop-n in
-    let ready = c.requires in
     let stays = c.if-set-from-eq0.true in record {
       has_path = (
-        moving-path _ _ _ _ bytes ready _ _ l.inv.0 (omega (arith, c.loop-n-test)) stays,
-        moving-slot _ _ _ _ bytes ready _ _ l.inv.0 (omega (arith, c.loop-n-test)) stays,
-        l.inv.1,
+        moving-path _ _ _ _ bytes c.requires _ _ c.loop-n.invariant.0 (omega (arith, c.loop-n-test)) stays,
+        moving-slot _ _ _ _ bytes c.requires _ _ c.loop-n.invariant.0 (omega (arith, c.loop-n-test)) stays,
+        c.loop-n.invariant.1,
       );
-      numbers_len = (ready.numbered.long, few-nodes _ _ _ _ bytes ready);
+      numbers_len = (c.requires.numbered.long, few-nodes _ _ _ _ bytes c.requires);
     }
 
 pub loop-n-smaller-then-set-from-eq0 : goal.loop-n-smaller-then-set-from-eq0
@@ -53,11 +51,10 @@ loop-n-smaller-then-set-from-eq0 c =
 pub loop-n-preserved-then-set-from-eq0 : goal.loop-n-preserved-then-set-from-eq0
 loop-n-preserved-then-set-from-eq0 c =
     let bytes : Bytes c.args.arena.now =
-    bytes-by-place c.args.arena.now (λ k. (c.slice_known-1.given k).fits) in
-    let l = c.loop-n in (
-      moving-kept _ _ _ _ bytes c.requires _ _ l.invariant.0 (omega (arith, c.loop-n-test)) c.if-set-from-eq0.true _ c.move_record.auto.arena
+    bytes-by-place c.args.arena.now (λ k. (c.slice_known-1.given k).fits) in (
+      moving-kept _ _ _ _ bytes c.requires _ _ c.loop-n.invariant.0 (omega (arith, c.loop-n-test)) c.if-set-from-eq0.true _ c.move_record.auto.arena
           c.move_record.ensures,
-      c.move_record.auto.path ∙ l.invariant.1,
+      c.move_record.auto.path ∙ c.loop-n.invariant.1,
     )
 
 pub loop-n-smaller : goal.loop-n-smaller
@@ -68,8 +65,7 @@ pub loop-n-preserved : goal.loop-n-preserved
 loop-n-preserved c =
     let bytes : Bytes c.args.arena.now =
     bytes-by-place c.args.arena.now (λ k. (c.slice_known-1.given k).fits) in
-    let l = c.loop-n in
-    (moving-gone _ _ _ _ bytes c.requires _ _ l.invariant.0 (omega (arith, c.loop-n-test)) c.if-set-from-eq0.false, l.invariant.1)
+    (moving-gone _ _ _ _ bytes c.requires _ _ c.loop-n.invariant.0 (omega (arith, c.loop-n-test)) c.if-set-from-eq0.false, c.loop-n.invariant.1)
 
 pub shape_of-arena : goal.shape_of-arena
 shape_of-arena c =

@@ -15,7 +15,7 @@ count-count-requires c =
 
 pub loop-n-init : goal.loop-n-init
 loop-n-init c =
-    let a = c.args in (omega arith, accepting-start (decode a.arena.now) a.set.now)
+    (omega arith, accepting-start (decode c.args.arena.now) c.args.set.now)
 
 pub spares_one-requires : goal.spares_one-requires
 spares_one-requires c =
@@ -36,15 +36,12 @@ loop-n-smaller c =
     omega (arith, c.loop-n-test)
 
 pub loop-n-preserved : goal.loop-n-preserved
-loop-n-preserved c =
-    let a = c.args in
-    let l = c.loop-n in (
-      omega (arith, c.loop-n-test),
-      accepting-step (decode a.arena.now) a.set.now l.n l.invariant.1 (sym c.spares_one.ensures ∙ not-false _ c.if-not-spares_one.false-raw),
-    )
+loop-n-preserved c = (
+  omega (arith, c.loop-n-test),
+  accepting-step (decode c.args.arena.now) c.args.set.now c.loop-n.n c.loop-n.invariant.1 (sym c.spares_one.ensures ∙ not-false _ c.if-not-spares_one.false-raw),
+)
 
 pub returns : goal.returns
 returns c =
-    let l = c.loop-n in
-    accepting-ends _ _ l.n l.invariant.1
+    accepting-ends _ _ c.loop-n.n c.loop-n.invariant.1
     (omega (arith, c.loop-n-test, c.count-count.ensures, sizes c.args.arena.now c.requires.valid_arena))

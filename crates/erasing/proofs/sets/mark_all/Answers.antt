@@ -34,8 +34,7 @@ loop-n-smaller c =
 
 pub loop-n-preserved : goal.loop-n-preserved
 loop-n-preserved c =
-    let l = c.loop-n in
-    (omega arith, marked_step _ l.n _ l.set l.invariant.1 c.loop-n-test.true c.mark.ensures)
+    (omega arith, marked_step _ c.loop-n.n _ c.loop-n.set c.loop-n.invariant.1 c.loop-n-test.true c.mark.ensures)
 
 pub shape_of-set : goal.shape_of-set
 shape_of-set c =
@@ -43,6 +42,5 @@ shape_of-set c =
 
 pub returns : goal.returns
 returns c =
-    let l = c.loop-n in
-    let all : l.n ≡ 1024 = omega (arith, l.invariant.0, c.loop-n-test) in
-    rw all at l.invariant.1
+    let all : c.loop-n.n ≡ 1024 = omega (arith, c.loop-n.invariant.0, c.loop-n-test) in
+    rw all at c.loop-n.invariant.1

@@ -13,8 +13,7 @@ bounds-set-n c =
 
 pub returns-then-n-eq0 : goal.returns-then-n-eq0
 returns-then-n-eq0 c =
-    let a = c.args in
-    accepts-node-0 (decode a.arena.now) a.set.now a.n c.if-byte-eq0.true c.if-n-eq0.true
+    accepts-node-0 (decode c.args.arena.now) c.args.set.now c.args.n c.if-byte-eq0.true c.if-n-eq0.true
 
 pub bounds-set-parent : goal.bounds-set-parent
 bounds-set-parent c =
@@ -23,8 +22,7 @@ bounds-set-parent c =
 
 pub returns-then-set-parent-ne0 : goal.returns-then-set-parent-ne0
 returns-then-set-parent-ne0 c =
-    let a = c.args in
-    refuses-parent (decode a.arena.now) a.set.now a.n c.parent-parent.result
+    refuses-parent (decode c.args.arena.now) c.args.set.now c.args.n c.parent-parent.result
     c.if-byte-eq0.true c.if-n-eq0.false c.parent-parent.ensures c.if-set-parent-ne0.true
 
 pub bounds-set-origin : goal.bounds-set-origin
@@ -34,17 +32,14 @@ bounds-set-origin c =
 
 pub returns-then-byte-eq0 : goal.returns-then-byte-eq0
 returns-then-byte-eq0 c =
-    let a = c.args in
-    accepts-origin (decode a.arena.now) a.set.now a.n c.parent-parent.result c.origin-origin.result
+    accepts-origin (decode c.args.arena.now) c.args.set.now c.args.n c.parent-parent.result c.origin-origin.result
     c.if-byte-eq0.true c.if-n-eq0.false
     c.parent-parent.ensures c.if-set-parent-ne0.false c.origin-origin.ensures
 
 pub returns-then-byte-gt1 : goal.returns-then-byte-gt1
 returns-then-byte-gt1 c =
-    let a = c.args in
-    refuses-other (decode a.arena.now) a.set.now a.n c.if-byte-gt1.true
+    refuses-other (decode c.args.arena.now) c.args.set.now c.args.n c.if-byte-gt1.true
 
 pub returns : goal.returns
 returns c =
-    let a = c.args in
-    accepts-gone (decode a.arena.now) a.set.now a.n c.arc.result c.if-byte-eq0.false c.if-byte-gt1.false c.arc.ensures
+    accepts-gone (decode c.args.arena.now) c.args.set.now c.args.n c.arc.result c.if-byte-eq0.false c.if-byte-gt1.false c.arc.ensures

@@ -95,8 +95,7 @@ bounds-set-origin c =
       omega (arith, c.parent-parent.ensures, (has-slot _ _ (readable-parent _ _ r (omega arith))).within),
       omega (arith, c.origin-origin.ensures, (has-slot _ _ (readable-origin _ _ r (omega arith))).within),
     ) in
-    let l = c.loop-n in
-    omega (arith, links, l.invariant.1.long, length-set l.set c.parent-parent.result 0)
+    omega (arith, links, c.loop-n.invariant.1.long, length-set c.loop-n.set c.parent-parent.result 0)
 
 pub loop-n-smaller-then-set-n-eq0 : goal.loop-n-smaller-then-set-n-eq0
 loop-n-smaller-then-set-n-eq0 c =
@@ -112,10 +111,9 @@ loop-n-preserved-then-set-n-eq0 c =
       omega (arith, c.parent-parent.ensures, (has-slot _ _ (readable-parent _ _ r (omega arith))).within),
       omega (arith, c.origin-origin.ensures, (has-slot _ _ (readable-origin _ _ r (omega arith))).within),
     ) in
-    let l = c.loop-n in
     let both = links in (
-      omega (arith, l.invariant.0),
-      sparing-kept _ l.n l.set l.invariant.1 c.loop-n-test.true _ _ c.parent-parent.ensures
+      omega (arith, c.loop-n.invariant.0),
+      sparing-kept _ c.loop-n.n c.loop-n.set c.loop-n.invariant.1 c.loop-n-test.true _ _ c.parent-parent.ensures
           c.origin-origin.ensures both.0 both.1 c.if-set-n-eq0.true,
     )
 
@@ -125,8 +123,7 @@ loop-n-smaller c =
 
 pub loop-n-preserved : goal.loop-n-preserved
 loop-n-preserved c =
-    let l = c.loop-n in
-    (omega (arith, l.invariant.0), sparing-gone _ l.n l.set l.invariant.1 c.loop-n-test.true c.if-set-n-eq0.false)
+    (omega (arith, c.loop-n.invariant.0), sparing-gone _ c.loop-n.n c.loop-n.set c.loop-n.invariant.1 c.loop-n-test.true c.if-set-n-eq0.false)
 
 pub shape_of-set : goal.shape_of-set
 shape_of-set c =

@@ -7,24 +7,20 @@ use Rattle.line_table.proofs.filling.class_depth.Goals as goal
 
 pub returns-then-cell-eq1 : goal.returns-then-cell-eq1
 returns-then-cell-eq1 c =
-    let given = c.requires in
-    let authored = bit-set _ (authored-read given (omega arith) c.cell.ensures) c.if-cell-eq1.true in
-    authored-class given authored
+    let authored = bit-set _ (authored-read c.requires (omega arith) c.cell.ensures) c.if-cell-eq1.true in
+    authored-class c.requires authored
 
 pub cell-requires-2 : goal.cell-requires-2
 cell-requires-2 c =
-    let given = c.requires in
-    cell-within given _ 8 (omega (arith, origin-read given (omega arith) c.cell-origin.ensures, origin-lower given)) (omega arith)
+    cell-within c.requires _ 8 (omega (arith, origin-read c.requires (omega arith) c.cell-origin.ensures, origin-lower c.requires)) (omega arith)
 
 pub cell-requires-3 : goal.cell-requires-3
 cell-requires-3 c =
-    let given = c.requires in
-    let authored = bit-clear _ (authored-read given (omega arith) c.cell.ensures) c.if-cell-eq1.false in
-    let falls = replaced-falls given authored (origin-read given (omega arith) c.cell-origin.ensures) c.cell-2.ensures in
-    cell-within given _ 14 (omega (arith, falls)) (omega arith)
+    let authored = bit-clear _ (authored-read c.requires (omega arith) c.cell.ensures) c.if-cell-eq1.false in
+    let falls = replaced-falls c.requires authored (origin-read c.requires (omega arith) c.cell-origin.ensures) c.cell-2.ensures in
+    cell-within c.requires _ 14 (omega (arith, falls)) (omega arith)
 
 pub returns : goal.returns
 returns c =
-    let given = c.requires in
-    let authored = bit-clear _ (authored-read given (omega arith) c.cell.ensures) c.if-cell-eq1.false in
-    class-from-origin given authored (origin-read given (omega arith) c.cell-origin.ensures) c.cell-2.ensures c.cell-3.ensures
+    let authored = bit-clear _ (authored-read c.requires (omega arith) c.cell.ensures) c.if-cell-eq1.false in
+    class-from-origin c.requires authored (origin-read c.requires (omega arith) c.cell-origin.ensures) c.cell-2.ensures c.cell-3.ensures

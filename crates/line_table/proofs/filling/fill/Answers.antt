@@ -13,8 +13,7 @@ returns-then-count-eq0 c =
 
 pub fill_root-requires : goal.fill_root-requires
 fill_root-requires c =
-    let given = c.requires in
-    (record { opened = given.0.0; below = omega (arith, given.0.2, positive _ c.if-count-eq0.false) }, omega (arith, given.0.2, given.1))
+    (record { opened = c.requires.valid_arena.0; below = omega (arith, c.requires.valid_arena.2, positive _ c.if-count-eq0.false) }, omega (arith, c.requires.valid_arena.2, c.requires.count_in_bounds))
 
 pub loop-n-init : goal.loop-n-init
 loop-n-init c =
@@ -22,8 +21,7 @@ loop-n-init c =
 
 pub fill_row-requires : goal.fill_row-requires
 fill_row-requires c =
-    let given = c.requires in
-    tabling_row given.0.2 c.loop-n.invariant given.0.0 given.0.1 c.loop-n-test.true
+    tabling_row c.requires.valid_arena.2 c.loop-n.invariant c.requires.valid_arena.0 c.requires.valid_arena.1 c.loop-n-test.true
 
 pub overflow_add-n : goal.overflow_add-n
 overflow_add-n c =

@@ -8,9 +8,8 @@ use Rattle.line_table.proofs.filling.fill_classes.Goals as goal
 pub put-requires : goal.put-requires
 unfolding node_row
 put-requires c =
-    let given = c.requires in
     let below = c.depth_below-below.ensures in
-    next given 12 (omega arith) given.filled (record { same = below.0; fits = omega (arith, below.1) })
+    next c.requires 12 (omega arith) c.requires.filled (record { same = below.0; fits = omega (arith, below.1) })
 
 pub put-requires-2 : goal.put-requires-2
 unfolding node_row

@@ -9,10 +9,9 @@ use Rattle.line_table.proofs.filling.fill_numbers.Goals as goal
 pub put-requires : goal.put-requires
 unfolding node_row
 put-requires c =
-    let given = c.requires in
-    let row = given.standing.readable in
-    let lower = (legal _ row.opened).origin-lower _ given.above row.below in
-    next given 0 (omega arith) given.filled (record { same = c.origin.ensures; fits = omega (arith, c.origin.ensures, lower, small row) })
+    let row = c.requires.standing.readable in
+    let lower = (legal _ row.opened).origin-lower _ c.requires.above row.below in
+    next c.requires 0 (omega arith) c.requires.filled (record { same = c.origin.ensures; fits = omega (arith, c.origin.ensures, lower, small row) })
 
 pub put-requires-2 : goal.put-requires-2
 unfolding node_row

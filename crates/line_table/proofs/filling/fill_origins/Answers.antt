@@ -10,39 +10,33 @@ use Rattle.line_table.proofs.filling.fill_origins.Goals as goal
 pub put-requires : goal.put-requires
 unfolding node_row
 put-requires c =
-    let given = c.requires in
-    let authored = bit-set _ (authored-read given (omega arith) c.cell.ensures) c.if-cell-eq1.true in
-    next given 10 (omega arith) given.filled (authored-root given authored)
+    let authored = bit-set _ (authored-read c.requires (omega arith) c.cell.ensures) c.if-cell-eq1.true in
+    next c.requires 10 (omega arith) c.requires.filled (authored-root c.requires authored)
 
 pub put-requires-then-cell-eq1 : goal.put-requires-then-cell-eq1
 unfolding node_row
 put-requires-then-cell-eq1 c =
-    let given = c.requires in
-    let authored = bit-set _ (authored-read given (omega arith) c.cell.ensures) c.if-cell-eq1.true in
-    next given 11 (omega arith) c.put.ensures (authored-hops given authored)
+    let authored = bit-set _ (authored-read c.requires (omega arith) c.cell.ensures) c.if-cell-eq1.true in
+    next c.requires 11 (omega arith) c.put.ensures (authored-hops c.requires authored)
 
 pub cell-first-requires : goal.cell-first-requires
 cell-first-requires c =
-    let given = c.requires in
-    cell-within given _ 10 (omega (arith, origin-read given (omega arith) c.cell-from.ensures, origin-lower given)) (omega arith)
+    cell-within c.requires _ 10 (omega (arith, origin-read c.requires (omega arith) c.cell-from.ensures, origin-lower c.requires)) (omega arith)
 
 pub cell-hops-requires : goal.cell-hops-requires
 cell-hops-requires c =
-    let given = c.requires in
-    cell-within given _ 11 (omega (arith, origin-read given (omega arith) c.cell-from.ensures, origin-lower given)) (omega arith)
+    cell-within c.requires _ 11 (omega (arith, origin-read c.requires (omega arith) c.cell-from.ensures, origin-lower c.requires)) (omega arith)
 
 pub put-requires-else-cell-eq1 : goal.put-requires-else-cell-eq1
 unfolding node_row
 put-requires-else-cell-eq1 c =
-    let given = c.requires in
-    let authored = bit-clear _ (authored-read given (omega arith) c.cell.ensures) c.if-cell-eq1.false in
-    next given 10 (omega arith) given.filled
-    (root-from-origin given authored (origin-read given (omega arith) c.cell-from.ensures) c.cell-first.ensures)
+    let authored = bit-clear _ (authored-read c.requires (omega arith) c.cell.ensures) c.if-cell-eq1.false in
+    next c.requires 10 (omega arith) c.requires.filled
+    (root-from-origin c.requires authored (origin-read c.requires (omega arith) c.cell-from.ensures) c.cell-first.ensures)
 
 pub put-requires-else-cell-eq1-2 : goal.put-requires-else-cell-eq1-2
 unfolding node_row
 put-requires-else-cell-eq1-2 c =
-    let given = c.requires in
-    let authored = bit-clear _ (authored-read given (omega arith) c.cell.ensures) c.if-cell-eq1.false in
-    next given 11 (omega arith) c.put-else-cell-eq1.ensures
-    (hops-from-origin given authored (origin-read given (omega arith) c.cell-from.ensures) c.cell-hops.ensures)
+    let authored = bit-clear _ (authored-read c.requires (omega arith) c.cell.ensures) c.if-cell-eq1.false in
+    next c.requires 11 (omega arith) c.put-else-cell-eq1.ensures
+    (hops-from-origin c.requires authored (origin-read c.requires (omega arith) c.cell-from.ensures) c.cell-hops.ensures)

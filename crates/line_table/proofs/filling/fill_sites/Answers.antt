@@ -12,46 +12,40 @@ use Rattle.line_table.proofs.filling.fill_sites.Goals as goal
 pub put-requires : goal.put-requires
 unfolding node_row
 put-requires c =
-    let given = c.requires in
     let told = sym c.is_propagated_specializes.ensures ∙ c.if-is_propagated_specializes.true in
-    next given 7 (omega arith) given.filled (record { same = propagated-site _ _ told; fits = omega arith })
+    next c.requires 7 (omega arith) c.requires.filled (record { same = propagated-site _ _ told; fits = omega arith })
 
 pub put-requires-then-is_propagated_specializes : goal.put-requires-then-is_propagated_specializes
 unfolding node_row
 put-requires-then-is_propagated_specializes c =
-    let given = c.requires in
     let told = sym c.is_propagated_specializes.ensures ∙ c.if-is_propagated_specializes.true in
     let origin = c.cell-origin.ensures in
-    next given 8 (omega arith) c.put.ensures (record { same = origin-read given (omega arith) origin ∙ sym (propagated-replaced _ _ told); fits = origin.fits })
+    next c.requires 8 (omega arith) c.put.ensures (record { same = origin-read c.requires (omega arith) origin ∙ sym (propagated-replaced _ _ told); fits = origin.fits })
 
 pub put-requires-then-is_propagated_specializes-2 : goal.put-requires-then-is_propagated_specializes-2
 unfolding node_row
 put-requires-then-is_propagated_specializes-2 c =
-    let given = c.requires in
     let told = sym c.is_propagated_specializes.ensures ∙ c.if-is_propagated_specializes.true in
     let origin = c.cell-origin.ensures in
-    next given 9 (omega arith) c.put-then-is_propagated_specializes.ensures (record { same = origin-read given (omega arith) origin ∙ sym (propagated-outward _ _ told); fits = origin.fits })
+    next c.requires 9 (omega arith) c.put-then-is_propagated_specializes.ensures (record { same = origin-read c.requires (omega arith) origin ∙ sym (propagated-outward _ _ told); fits = origin.fits })
 
 pub put-requires-else-is_propagated_specializes : goal.put-requires-else-is_propagated_specializes
 unfolding node_row
 put-requires-else-is_propagated_specializes c =
-    let given = c.requires in
-    next given 7 (omega arith) given.filled (record { same = c.number.ensures.0 ∙ ap bit c.is_implied.ensures; fits = omega (arith, c.number.ensures.1) })
+    next c.requires 7 (omega arith) c.requires.filled (record { same = c.number.ensures.0 ∙ ap bit c.is_implied.ensures; fits = omega (arith, c.number.ensures.1) })
 
 pub put-requires-else-is_propagated_specializes-2 : goal.put-requires-else-is_propagated_specializes-2
 unfolding node_row
 put-requires-else-is_propagated_specializes-2 c =
-    let given = c.requires in
     let told = sym c.is_propagated_specializes.ensures ∙ c.if-is_propagated_specializes.left in
-    next given 8 (omega arith) c.put-else-is_propagated_specializes.ensures (record { same = sym (other-replaced _ _ told); fits = omega (arith, small given.standing.readable) })
+    next c.requires 8 (omega arith) c.put-else-is_propagated_specializes.ensures (record { same = sym (other-replaced _ _ told); fits = omega (arith, small c.requires.standing.readable) })
 
 pub put-requires-else-is_propagated_specializes-3 : goal.put-requires-else-is_propagated_specializes-3
 unfolding node_row
 put-requires-else-is_propagated_specializes-3 c =
-    let given = c.requires in
     let told = sym c.is_propagated_specializes.ensures ∙ c.if-is_propagated_specializes.left in
-    next given 9 (omega arith) c.put-else-is_propagated_specializes-2.ensures
+    next c.requires 9 (omega arith) c.put-else-is_propagated_specializes-2.ensures
     (record {
       same = c.parent.ensures ∙ sym (other-outward _ _ told);
-      fits = omega (arith, c.parent.ensures, parent-lower given, small given.standing.readable);
+      fits = omega (arith, c.parent.ensures, parent-lower c.requires, small c.requires.standing.readable);
     })

@@ -10,8 +10,7 @@ use Rattle.line_table.proofs.filling.fill_tests.Goals as goal
 pub put-requires : goal.put-requires
 unfolding node_row
 put-requires c =
-    let given = c.requires in
-    next given 4 (omega arith) given.filled (record { same = c.number.ensures.0 ∙ ap bit c.has_specializes.ensures; fits = omega (arith, c.number.ensures.1) })
+    next c.requires 4 (omega arith) c.requires.filled (record { same = c.number.ensures.0 ∙ ap bit c.has_specializes.ensures; fits = omega (arith, c.number.ensures.1) })
 
 pub put-requires-2 : goal.put-requires-2
 unfolding node_row

@@ -11,8 +11,7 @@ use Rattle.line_table.proofs.filling.hierarchy_depth.Goals as goal
 
 pub returns-then-not-is_class_based : goal.returns-then-not-is_class_based
 returns-then-not-is_class_based c =
-    let given = c.requires in
-    hierarchy-none given.0 (ap is_class_based_arc (sym c.arc.ensures) ∙ sym c.is_class_based.ensures ∙ not-true _ c.if-not-is_class_based.true-raw) given.1.1
+    hierarchy-none c.requires.filling (ap is_class_based_arc (sym c.arc.ensures) ∙ sym c.is_class_based.ensures ∙ not-true _ c.if-not-is_class_based.true-raw) c.requires.below_value.1
 
 pub cell-up-requires : goal.cell-up-requires
 cell-up-requires c =
@@ -31,10 +30,9 @@ cell-requires-then-cell-below c =
 
 pub returns-then-cell-below : goal.returns-then-cell-below
 returns-then-cell-below c =
-    let given = c.requires in
-    hierarchy-above given.0 c.parent.ensures c.cell-up.ensures
+    hierarchy-above c.requires.filling c.parent.ensures c.cell-up.ensures
     (ap is_class_based_arc (sym c.arc.ensures) ∙ sym c.is_class_based.ensures ∙ not-false _ c.if-not-is_class_based.false-raw)
-    given.1.0 c.cell.ensures c.if-cell-below.true c.cell-then-cell-below.ensures
+    c.requires.below_value.0 c.cell.ensures c.if-cell-below.true c.cell-then-cell-below.ensures
 
 pub cell-requires-2 : goal.cell-requires-2
 cell-requires-2 c =
@@ -43,7 +41,6 @@ cell-requires-2 c =
 
 pub returns : goal.returns
 returns c =
-    let given = c.requires in
-    hierarchy-starts given.0 c.parent.ensures c.cell-up.ensures
+    hierarchy-starts c.requires.filling c.parent.ensures c.cell-up.ensures
     (ap is_class_based_arc (sym c.arc.ensures) ∙ sym c.is_class_based.ensures ∙ not-false _ c.if-not-is_class_based.false-raw)
-    given.1.0 c.cell.ensures c.if-cell-below.false c.cell-2.ensures
+    c.requires.below_value.0 c.cell.ensures c.if-cell-below.false c.cell-2.ensures

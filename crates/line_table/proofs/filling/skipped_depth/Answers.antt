@@ -9,14 +9,12 @@ use Rattle.line_table.proofs.filling.skipped_depth.Goals as goal
 
 pub returns-then-arc-ne-RELOCATE : goal.returns-then-arc-ne-RELOCATE
 returns-then-arc-ne-RELOCATE c =
-    let given = c.requires in
     let depth = c.cell.ensures in
-    skipped-here given (λ e. c.if-arc-ne-RELOCATE.true (c.arc.ensures ∙ e)) (depth-read given (omega arith) depth) depth.fits
+    skipped-here c.requires (λ e. c.if-arc-ne-RELOCATE.true (c.arc.ensures ∙ e)) (depth-read c.requires (omega arith) depth) depth.fits
 
 pub cell-requires-2 : goal.cell-requires-2
 cell-requires-2 c =
-    let given = c.requires in
-    cell-within given _ 13 (omega (arith, parent-falls given c.parent.ensures)) (omega arith)
+    cell-within c.requires _ 13 (omega (arith, parent-falls c.requires c.parent.ensures)) (omega arith)
 
 pub returns : goal.returns
 returns c =

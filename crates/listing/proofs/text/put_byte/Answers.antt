@@ -10,8 +10,7 @@ use Rattle.listing.proofs.text.put_byte.Goals as goal
 
 pub returns : goal.returns
 returns c =
-    let a = c.args in
     record {
       place = refl;
-      bytes = c.write_u8.ensures ∙ ap (λ (p : List ℕ). stored a.at p a.out.now) (byte-own a.byte (omega arith));
+      bytes = c.write_u8.ensures ∙ ap (λ (p : List ℕ). stored c.args.at p c.args.out.now) (byte-own c.args.byte (omega arith));
     }

@@ -33,14 +33,13 @@ pub added_record-node-requires : goal.added_record-node-requires
 added_record-node-requires c =
     let has-node : let bs = c.args.arena.now in ValidArena bs × (0 < count_in bs) =
     some-node _ (sym (rw c.in-Done.is at c.ask_node_zero-asked.ensures)) in
-    let passes : let a = c.args in refusal (add_questions (decode a.arena.now) (desc_of a.desc a.path.now)) ≡ 0 =
+    let passes : refusal (add_questions (decode c.args.arena.now) (desc_of c.args.desc c.args.path.now)) ≡ 0 =
     sym (rw c.in-Accepted.is at c.check_desc-checked.ensures.refused) in
-    let a = c.args in
     let there = has-node in (
       there.0,
       (
-        parent-slot a.arena.now there.0 a.desc a.path.now there.1 passes,
-        short-path a.arena.now there.0 a.desc a.path.now there.1 passes,
+        parent-slot c.args.arena.now there.0 c.args.desc c.args.path.now there.1 passes,
+        short-path c.args.arena.now there.0 c.args.desc c.args.path.now there.1 passes,
       ),
     )
 
@@ -48,42 +47,38 @@ pub append_node-requires : goal.append_node-requires
 append_node-requires c =
     let has-node : let bs = c.args.arena.now in ValidArena bs × (0 < count_in bs) =
     some-node _ (sym (rw c.in-Done.is at c.ask_node_zero-asked.ensures)) in
-    let passes : let a = c.args in refusal (add_questions (decode a.arena.now) (desc_of a.desc a.path.now)) ≡ 0 =
+    let passes : refusal (add_questions (decode c.args.arena.now) (desc_of c.args.desc c.args.path.now)) ≡ 0 =
     sym (rw c.in-Accepted.is at c.check_desc-checked.ensures.refused) in
     let named : c.in-Accepted.prims ≡ prim_count c.args.path.now =
     (rw c.in-Accepted.is at c.check_desc-checked.ensures.prims) refl in
-    let a = c.args in
     let there = has-node in
     rw c.added_record-node.ensures
-    (can-add a.arena.now there.0 a.desc a.path.now there.1 _ _ passes named
+    (can-add c.args.arena.now there.0 c.args.desc c.args.path.now there.1 _ _ passes named
     c.count-count.ensures)
 
 pub returns-in-Accepted : goal.returns-in-Accepted
 returns-in-Accepted c =
     let has-node : let bs = c.args.arena.now in ValidArena bs × (0 < count_in bs) =
     some-node _ (sym (rw c.in-Done.is at c.ask_node_zero-asked.ensures)) in
-    let passes : let a = c.args in refusal (add_questions (decode a.arena.now) (desc_of a.desc a.path.now)) ≡ 0 =
+    let passes : refusal (add_questions (decode c.args.arena.now) (desc_of c.args.desc c.args.path.now)) ≡ 0 =
     sym (rw c.in-Accepted.is at c.check_desc-checked.ensures.refused) in
     let named : c.in-Accepted.prims ≡ prim_count c.args.path.now =
     (rw c.in-Accepted.is at c.check_desc-checked.ensures.prims) refl in
-    let a = c.args in
-    let bs = a.arena.now in
+    let bs = c.args.arena.now in
     let there = has-node in
-    let node = ap (λ (r : Node). node_of r a.path.now) c.added_record-node.ensures
-    ∙ added-node bs there.0 a.desc a.path.now there.1 c.in-Accepted.prims passes named in
-    add_done bs (desc_of a.desc a.path.now) there.0 there.1 _ _ passes c.count-count.ensures
+    let node = ap (λ (r : Node). node_of r c.args.path.now) c.added_record-node.ensures
+    ∙ added-node bs there.0 c.args.desc c.args.path.now there.1 c.in-Accepted.prims passes named in
+    add_done bs (desc_of c.args.desc c.args.path.now) there.0 there.1 _ _ passes c.count-count.ensures
     (c.append_node.ensures ∙ ap (λ (y : model.Node). encode (with_node (decode bs) y) bs) node)
 
 pub returns-in-Refused-checked : goal.returns-in-Refused-checked
 returns-in-Refused-checked c =
     let has-node : let bs = c.args.arena.now in ValidArena bs × (0 < count_in bs) =
     some-node _ (sym (rw c.in-Done.is at c.ask_node_zero-asked.ensures)) in
-    let a = c.args in
-    add-refused a.arena.now (desc_of a.desc a.path.now) has-node.0 has-node.1 _
+    add-refused c.args.arena.now (desc_of c.args.desc c.args.path.now) has-node.0 has-node.1 _
     (rw c.in-Refused-checked.is at c.check_desc-checked.ensures.refused)
 
 pub returns-in-Refused : goal.returns-in-Refused
 returns-in-Refused c =
-    let a = c.args in
-    add-refused-first a.arena.now (desc_of a.desc a.path.now) c.in-Refused.refusal
+    add-refused-first c.args.arena.now (desc_of c.args.desc c.args.path.now) c.in-Refused.refusal
     (rw c.in-Refused.is at c.ask_node_zero-asked.ensures)

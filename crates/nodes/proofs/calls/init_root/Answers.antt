@@ -55,9 +55,8 @@ append_node-requires c =
     sym (counted-well-formed _ _ counted) in
     let empty : count_in c.args.arena.now ≡ 0 =
     sym c.count.ensures ∙ c.if-count-ne0.false in
-    let a = c.args in
     rw c.start_record.ensures
-    (can-start a.arena.now a.stack a.layer a.path.now opened empty _ formed (counted-names _ _ counted))
+    (can-start c.args.arena.now c.args.stack c.args.layer c.args.path.now opened empty _ formed (counted-names _ _ counted))
 
 pub returns-in-Names : goal.returns-in-Names
 returns-in-Names c =
@@ -69,11 +68,10 @@ returns-in-Names c =
     sym (counted-well-formed _ _ counted) in
     let empty : count_in c.args.arena.now ≡ 0 =
     sym c.count.ensures ∙ c.if-count-ne0.false in
-    let a = c.args in
-    let bs = a.arena.now in
-    let node = ap (λ (r : Node). node_of r a.path.now) c.start_record.ensures
-    ∙ start-node a.stack a.layer c.in-Names.prims a.path.now (counted-names _ _ counted) in
-    start-done bs a.stack a.layer a.path.now opened empty _ formed
+    let bs = c.args.arena.now in
+    let node = ap (λ (r : Node). node_of r c.args.path.now) c.start_record.ensures
+    ∙ start-node c.args.stack c.args.layer c.in-Names.prims c.args.path.now (counted-names _ _ counted) in
+    start-done bs c.args.stack c.args.layer c.args.path.now opened empty _ formed
     (c.append_node.ensures ∙ ap (λ (y : model.Node). encode (with_node (decode bs) y) bs) node)
 
 pub returns-in-Refused : goal.returns-in-Refused

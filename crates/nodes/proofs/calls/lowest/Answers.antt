@@ -19,8 +19,7 @@ uses-requires c =
 
 pub returns-then-uses : goal.returns-then-uses
 returns-then-uses c =
-    let a = c.args in
-    let here = lowest-steps a.arena.now a.stack a.path.now c.loop-n.n (omega (arith, c.requires.1, c.loop-n-test.true)) in
+    let here = lowest-steps c.args.arena.now c.args.stack c.args.path.now c.loop-n.n (omega (arith, c.requires.1, c.loop-n-test.true)) in
     (rw (sym c.uses.ensures ∙ c.if-uses.true) at (sym here)) ∙ c.loop-n.invariant.1
 
 pub loop-n-smaller : goal.loop-n-smaller
@@ -29,11 +28,9 @@ loop-n-smaller c =
 
 pub loop-n-preserved : goal.loop-n-preserved
 loop-n-preserved c =
-    let a = c.args in
-    let here = lowest-steps a.arena.now a.stack a.path.now c.loop-n.n (omega (arith, c.requires.1, c.loop-n-test.true)) in
+    let here = lowest-steps c.args.arena.now c.args.stack c.args.path.now c.loop-n.n (omega (arith, c.requires.1, c.loop-n-test.true)) in
     (omega (arith, c.loop-n-test.true), (rw (sym c.uses.ensures ∙ c.if-uses.false) at (sym here)) ∙ c.loop-n.invariant.1)
 
 pub returns : goal.returns
 returns c =
-    let a = c.args in
-    sym (lowest-ends a.arena.now a.stack a.path.now c.loop-n.n (omega (arith, c.requires.1, c.loop-n-test.false))) ∙ c.loop-n.invariant.1
+    sym (lowest-ends c.args.arena.now c.args.stack c.args.path.now c.loop-n.n (omega (arith, c.requires.1, c.loop-n-test.false))) ∙ c.loop-n.invariant.1

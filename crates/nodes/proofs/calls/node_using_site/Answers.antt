@@ -20,9 +20,8 @@ pub returns-then-not-is_well_formed : goal.returns-then-not-is_well_formed
 returns-then-not-is_well_formed c =
     let has-node : let bs = c.args.arena.now in ValidArena bs × (0 < count_in bs) =
     some-node _ (sym (rw c.in-Done.is at c.ask_node_zero-asked.ensures)) in
-    let a = c.args in
     found-refused _ _ Path
-    (sym (node-zero-passed a.arena.now (ask 5 (well_formed a.path.now) ∷ []) has-node.0 has-node.1
+    (sym (node-zero-passed c.args.arena.now (ask 5 (well_formed c.args.path.now) ∷ []) has-node.0 has-node.1
     ∙ rw (sym c.is_well_formed.ensures ∙ not-true _ c.if-not-is_well_formed.true-raw)))
 
 pub count-requires : goal.count-requires
@@ -41,16 +40,14 @@ pub returns-else-not-is_well_formed : goal.returns-else-not-is_well_formed
 returns-else-not-is_well_formed c =
     let has-node : let bs = c.args.arena.now in ValidArena bs × (0 < count_in bs) =
     some-node _ (sym (rw c.in-Done.is at c.ask_node_zero-asked.ensures)) in
-    let a = c.args in
     found-node _ _ _
-    (node-zero-passed a.arena.now (ask 5 (well_formed a.path.now) ∷ []) has-node.0 has-node.1
+    (node-zero-passed c.args.arena.now (ask 5 (well_formed c.args.path.now) ∷ []) has-node.0 has-node.1
     ∙ rw (sym c.is_well_formed.ensures ∙ not-false _ c.if-not-is_well_formed.false-raw))
     (c.of.ensures ∙ ap optional c.lowest-found.ensures)
 
 pub returns-in-Refused : goal.returns-in-Refused
 returns-in-Refused c =
-    let a = c.args in
-    let bs = a.arena.now in
+    let bs = c.args.arena.now in
     found-refused _ _ c.in-Refused.refusal
-    (refused-before c.in-Refused.refusal (ask_arena bs (has_node_zero (decode bs) ∷ [])) (ask 5 (well_formed a.path.now) ∷ [])
+    (refused-before c.in-Refused.refusal (ask_arena bs (has_node_zero (decode bs) ∷ [])) (ask 5 (well_formed c.args.path.now) ∷ [])
     (rw c.in-Refused.is at c.ask_node_zero-asked.ensures))

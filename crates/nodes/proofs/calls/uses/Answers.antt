@@ -33,10 +33,9 @@ returns-then-stack c =
     ≡ c.contributes.result =
     ap (λ (f : ℕ). not (has_flag inert_flag f || has_flag culled_flag f)) ((fields_read _ _ c.requires).flags ∙ sym c.flags.ensures)
     ∙ sym c.contributes.ensures in
-    let a = c.args in
     rw (
       skips ∙ not-false _ c.if-not-contributes.false-raw,
-      ne_eqb (node_in a.arena.now a.n).stack a.stack (λ e. c.if-stack.true (c.stack.ensures ∙ sym (fields_read _ _ c.requires).stack ∙ e)),
+      ne_eqb (node_in c.args.arena.now c.args.n).stack c.args.stack (λ e. c.if-stack.true (c.stack.ensures ∙ sym (fields_read _ _ c.requires).stack ∙ e)),
     )
 
 pub path-requires : goal.path-requires
@@ -49,7 +48,6 @@ returns c =
     ≡ c.contributes.result =
     ap (λ (f : ℕ). not (has_flag inert_flag f || has_flag culled_flag f)) ((fields_read _ _ c.requires).flags ∙ sym c.flags.ensures)
     ∙ sym c.contributes.ensures in
-    let a = c.args in
     let stack = (fields_read _ _ c.requires).stack ∙ sym c.stack.ensures ∙ c.if-stack.false in
-    rw (skips ∙ not-false _ c.if-not-contributes.false-raw, eq-eqb (node_in a.arena.now a.n).stack a.stack stack)
-    (c.same_path.ensures ∙ ap (λ (p : List ℕ). same_path p a.path.now) c.path.ensures)
+    rw (skips ∙ not-false _ c.if-not-contributes.false-raw, eq-eqb (node_in c.args.arena.now c.args.n).stack c.args.stack stack)
+    (c.same_path.ensures ∙ ap (λ (p : List ℕ). same_path p c.args.path.now) c.path.ensures)

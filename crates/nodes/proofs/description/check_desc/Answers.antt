@@ -15,7 +15,6 @@ check_record-requires c =
 
 pub returns : goal.returns
 returns c =
-    let a = c.args in
-    desc-checked a.arena.now c.requires.0 a.desc a.path.now (omega (arith, c.requires.1, c.requires.2)) _ _ _ _ _ _ c.requires.1
+    desc-checked c.args.arena.now c.requires.0 c.args.desc c.args.path.now (omega (arith, c.requires.1, c.requires.2)) _ _ _ _ _ _ c.requires.1
     c.path_bytes.ensures.0 (ap (λ (n : ℕ). not (eqb n 0)) c.local_root.ensures)
     c.node_or-parent.ensures c.node_or.ensures c.check_record.ensures

@@ -4,8 +4,7 @@ use Rattle.nodes.proofs.description.default_depth.Goals as goal
 
 pub prim_count-requires : goal.prim_count-requires
 prim_count-requires c =
-    let pre = c.requires in
-    record { whole = pre.0.whole; within = rw c.in-Some.is at pre.1 }
+    record { whole = c.requires.valid_arena.whole; within = rw c.in-Some.is at c.requires.has_slot_in }
 
 pub returns-in-Some : goal.returns-in-Some
 returns-in-Some c =

@@ -11,13 +11,11 @@ use Rattle.nodes.proofs.paths.ask.Goals as goal
 
 pub returns-then-buffer-ne-PATH_BYTES : goal.returns-then-buffer-ne-PATH_BYTES
 returns-then-buffer-ne-PATH_BYTES c =
-    let a = c.args in
-    buffer-refused a.arena.now (is_path_buffer a.buffer.now) (reads_node (decode a.arena.now) a.n)
-    (ne_eqb (length a.buffer.now) 255 c.if-buffer-ne-PATH_BYTES.true)
+    buffer-refused c.args.arena.now (is_path_buffer c.args.buffer.now) (reads_node (decode c.args.arena.now) c.args.n)
+    (ne_eqb (length c.args.buffer.now) 255 c.if-buffer-ne-PATH_BYTES.true)
 
 pub returns : goal.returns
 returns c =
-    let a = c.args in
     c.ask_node.ensures
-    ∙ sym (buffer-passed a.arena.now (is_path_buffer a.buffer.now) (reads_node (decode a.arena.now) a.n)
-    (eq-eqb (length a.buffer.now) 255 c.if-buffer-ne-PATH_BYTES.false))
+    ∙ sym (buffer-passed c.args.arena.now (is_path_buffer c.args.buffer.now) (reads_node (decode c.args.arena.now) c.args.n)
+    (eq-eqb (length c.args.buffer.now) 255 c.if-buffer-ne-PATH_BYTES.false))

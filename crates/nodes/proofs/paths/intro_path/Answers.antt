@@ -16,67 +16,51 @@ use Rattle.nodes.proofs.paths.intro_path.Goals as goal
 
 pub put-requires : goal.put-requires
 put-requires c =
-    let asked : let a = c.args in
-    refusal (ask_path a.arena.now a.buffer.now (reads_node (decode a.arena.now) a.n)) ≡ 0 =
+    let asked : refusal (ask_path c.args.arena.now c.args.buffer.now (reads_node (decode c.args.arena.now) c.args.n)) ≡ 0 =
     sym (rw c.in-Done.is at c.ask-asked.ensures) in
-    let there : let a = c.args in
-    ValidNode a.arena.now a.n × (length a.buffer.now ≡ 255) =
-    let a = c.args in
-    path-asked a.arena.now a.buffer.now a.n asked in
+    let there : ValidNode c.args.arena.now c.args.n × (length c.args.buffer.now ≡ 255) =
+    path-asked c.args.arena.now c.args.buffer.now c.args.n asked in
     (omega arith, there.1)
 
 pub returns-then-n-eq0 : goal.returns-then-n-eq0
 returns-then-n-eq0 c =
-    let asked : let a = c.args in
-    refusal (ask_path a.arena.now a.buffer.now (reads_node (decode a.arena.now) a.n)) ≡ 0 =
+    let asked : refusal (ask_path c.args.arena.now c.args.buffer.now (reads_node (decode c.args.arena.now) c.args.n)) ≡ 0 =
     sym (rw c.in-Done.is at c.ask-asked.ensures) in
     put-done _ _ _ _ _ _ asked (root-introduced _ _ c.if-n-eq0.true) c.put.ensures.result_value
     c.put.ensures.buffer_after
 
 pub depth_below-depth-requires : goal.depth_below-depth-requires
 depth_below-depth-requires c =
-    let asked : let a = c.args in
-    refusal (ask_path a.arena.now a.buffer.now (reads_node (decode a.arena.now) a.n)) ≡ 0 =
+    let asked : refusal (ask_path c.args.arena.now c.args.buffer.now (reads_node (decode c.args.arena.now) c.args.n)) ≡ 0 =
     sym (rw c.in-Done.is at c.ask-asked.ensures) in
-    let there : let a = c.args in
-    ValidNode a.arena.now a.n × (length a.buffer.now ≡ 255) =
-    let a = c.args in
-    path-asked a.arena.now a.buffer.now a.n asked in
+    let there : ValidNode c.args.arena.now c.args.n × (length c.args.buffer.now ≡ 255) =
+    path-asked c.args.arena.now c.args.buffer.now c.args.n asked in
     there.0
 
 pub parent-parent-requires : goal.parent-parent-requires
 parent-parent-requires c =
-    let asked : let a = c.args in
-    refusal (ask_path a.arena.now a.buffer.now (reads_node (decode a.arena.now) a.n)) ≡ 0 =
+    let asked : refusal (ask_path c.args.arena.now c.args.buffer.now (reads_node (decode c.args.arena.now) c.args.n)) ≡ 0 =
     sym (rw c.in-Done.is at c.ask-asked.ensures) in
-    let there : let a = c.args in
-    ValidNode a.arena.now a.n × (length a.buffer.now ≡ 255) =
-    let a = c.args in
-    path-asked a.arena.now a.buffer.now a.n asked in
+    let there : ValidNode c.args.arena.now c.args.n × (length c.args.buffer.now ≡ 255) =
+    path-asked c.args.arena.now c.args.buffer.now c.args.n asked in
     there.0
 
 pub path-requires : goal.path-requires
 path-requires c =
-    let asked : let a = c.args in
-    refusal (ask_path a.arena.now a.buffer.now (reads_node (decode a.arena.now) a.n)) ≡ 0 =
+    let asked : refusal (ask_path c.args.arena.now c.args.buffer.now (reads_node (decode c.args.arena.now) c.args.n)) ≡ 0 =
     sym (rw c.in-Done.is at c.ask-asked.ensures) in
-    let there : let a = c.args in
-    ValidNode a.arena.now a.n × (length a.buffer.now ≡ 255) =
-    let a = c.args in
-    path-asked a.arena.now a.buffer.now a.n asked in
+    let there : ValidNode c.args.arena.now c.args.n × (length c.args.buffer.now ≡ 255) =
+    path-asked c.args.arena.now c.args.buffer.now c.args.n asked in
     let parent-there : ValidNode c.args.arena.now c.parent-parent.result =
     rw c.parent-parent.ensures (readable-parent _ _ there.0 (omega (arith, c.if-n-eq0.false))) in
     has-path _ _ parent-there
 
 pub put-requires-in-Done : goal.put-requires-in-Done
 put-requires-in-Done c =
-    let asked : let a = c.args in
-    refusal (ask_path a.arena.now a.buffer.now (reads_node (decode a.arena.now) a.n)) ≡ 0 =
+    let asked : refusal (ask_path c.args.arena.now c.args.buffer.now (reads_node (decode c.args.arena.now) c.args.n)) ≡ 0 =
     sym (rw c.in-Done.is at c.ask-asked.ensures) in
-    let there : let a = c.args in
-    ValidNode a.arena.now a.n × (length a.buffer.now ≡ 255) =
-    let a = c.args in
-    path-asked a.arena.now a.buffer.now a.n asked in
+    let there : ValidNode c.args.arena.now c.args.n × (length c.args.buffer.now ≡ 255) =
+    path-asked c.args.arena.now c.args.buffer.now c.args.n asked in
     let parent-there : ValidNode c.args.arena.now c.parent-parent.result =
     rw c.parent-parent.ensures (readable-parent _ _ there.0 (omega (arith, c.if-n-eq0.false))) in (
       rw (c.path_at_intro_depth.ensures, c.path.ensures) (short-intro _ _ parent-there _),
@@ -85,13 +69,10 @@ put-requires-in-Done c =
 
 pub returns-else-n-eq0 : goal.returns-else-n-eq0
 returns-else-n-eq0 c =
-    let asked : let a = c.args in
-    refusal (ask_path a.arena.now a.buffer.now (reads_node (decode a.arena.now) a.n)) ≡ 0 =
+    let asked : refusal (ask_path c.args.arena.now c.args.buffer.now (reads_node (decode c.args.arena.now) c.args.n)) ≡ 0 =
     sym (rw c.in-Done.is at c.ask-asked.ensures) in
-    let there : let a = c.args in
-    ValidNode a.arena.now a.n × (length a.buffer.now ≡ 255) =
-    let a = c.args in
-    path-asked a.arena.now a.buffer.now a.n asked in
+    let there : ValidNode c.args.arena.now c.args.n × (length c.args.buffer.now ≡ 255) =
+    path-asked c.args.arena.now c.args.buffer.now c.args.n asked in
     put-done _ _ _ _ _ _ asked
     (c.path_at_intro_depth.ensures
     ∙ introduced _ _ there.0 c.if-n-eq0.false _ _ _ c.depth_below-depth.ensures.0

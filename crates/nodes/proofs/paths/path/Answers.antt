@@ -13,36 +13,27 @@ use Rattle.nodes.proofs.paths.path.Goals as goal
 
 pub path-requires : goal.path-requires
 path-requires c =
-    let asked : let a = c.args in
-    refusal (ask_path a.arena.now a.buffer.now (reads_node (decode a.arena.now) a.n)) ≡ 0 =
+    let asked : refusal (ask_path c.args.arena.now c.args.buffer.now (reads_node (decode c.args.arena.now) c.args.n)) ≡ 0 =
     sym (rw c.in-Done.is at c.ask-asked.ensures) in
-    let there : let a = c.args in
-    ValidNode a.arena.now a.n × (length a.buffer.now ≡ 255) =
-    let a = c.args in
-    path-asked a.arena.now a.buffer.now a.n asked in
+    let there : ValidNode c.args.arena.now c.args.n × (length c.args.buffer.now ≡ 255) =
+    path-asked c.args.arena.now c.args.buffer.now c.args.n asked in
     has-path _ _ there.0
 
 pub put-requires : goal.put-requires
 put-requires c =
-    let asked : let a = c.args in
-    refusal (ask_path a.arena.now a.buffer.now (reads_node (decode a.arena.now) a.n)) ≡ 0 =
+    let asked : refusal (ask_path c.args.arena.now c.args.buffer.now (reads_node (decode c.args.arena.now) c.args.n)) ≡ 0 =
     sym (rw c.in-Done.is at c.ask-asked.ensures) in
-    let there : let a = c.args in
-    ValidNode a.arena.now a.n × (length a.buffer.now ≡ 255) =
-    let a = c.args in
-    path-asked a.arena.now a.buffer.now a.n asked in
+    let there : ValidNode c.args.arena.now c.args.n × (length c.args.buffer.now ≡ 255) =
+    path-asked c.args.arena.now c.args.buffer.now c.args.n asked in
     let node = there in
     (rw c.path.ensures (short-path _ _ node.0), node.1)
 
 pub returns-in-Done : goal.returns-in-Done
 returns-in-Done c =
-    let asked : let a = c.args in
-    refusal (ask_path a.arena.now a.buffer.now (reads_node (decode a.arena.now) a.n)) ≡ 0 =
+    let asked : refusal (ask_path c.args.arena.now c.args.buffer.now (reads_node (decode c.args.arena.now) c.args.n)) ≡ 0 =
     sym (rw c.in-Done.is at c.ask-asked.ensures) in
-    let there : let a = c.args in
-    ValidNode a.arena.now a.n × (length a.buffer.now ≡ 255) =
-    let a = c.args in
-    path-asked a.arena.now a.buffer.now a.n asked in
+    let there : ValidNode c.args.arena.now c.args.n × (length c.args.buffer.now ≡ 255) =
+    path-asked c.args.arena.now c.args.buffer.now c.args.n asked in
     put-done _ _ _ _ _ _ asked (c.path.ensures ∙ path-there _ _ there.0) c.put.ensures.result_value c.put.ensures.buffer_after
 
 pub returns-in-Refused : goal.returns-in-Refused

@@ -13,47 +13,35 @@ use Rattle.nodes.proofs.paths.path_at_introduction.Goals as goal
 
 pub depth_below-depth-requires : goal.depth_below-depth-requires
 depth_below-depth-requires c =
-    let asked : let a = c.args in
-    refusal (ask_path a.arena.now a.buffer.now (reads_node (decode a.arena.now) a.n)) ≡ 0 =
+    let asked : refusal (ask_path c.args.arena.now c.args.buffer.now (reads_node (decode c.args.arena.now) c.args.n)) ≡ 0 =
     sym (rw c.in-Done.is at c.ask-asked.ensures) in
-    let there : let a = c.args in
-    ValidNode a.arena.now a.n × (length a.buffer.now ≡ 255) =
-    let a = c.args in
-    path-asked a.arena.now a.buffer.now a.n asked in
+    let there : ValidNode c.args.arena.now c.args.n × (length c.args.buffer.now ≡ 255) =
+    path-asked c.args.arena.now c.args.buffer.now c.args.n asked in
     there.0
 
 pub path-requires : goal.path-requires
 path-requires c =
-    let asked : let a = c.args in
-    refusal (ask_path a.arena.now a.buffer.now (reads_node (decode a.arena.now) a.n)) ≡ 0 =
+    let asked : refusal (ask_path c.args.arena.now c.args.buffer.now (reads_node (decode c.args.arena.now) c.args.n)) ≡ 0 =
     sym (rw c.in-Done.is at c.ask-asked.ensures) in
-    let there : let a = c.args in
-    ValidNode a.arena.now a.n × (length a.buffer.now ≡ 255) =
-    let a = c.args in
-    path-asked a.arena.now a.buffer.now a.n asked in
+    let there : ValidNode c.args.arena.now c.args.n × (length c.args.buffer.now ≡ 255) =
+    path-asked c.args.arena.now c.args.buffer.now c.args.n asked in
     has-path _ _ there.0
 
 pub put-requires : goal.put-requires
 put-requires c =
-    let asked : let a = c.args in
-    refusal (ask_path a.arena.now a.buffer.now (reads_node (decode a.arena.now) a.n)) ≡ 0 =
+    let asked : refusal (ask_path c.args.arena.now c.args.buffer.now (reads_node (decode c.args.arena.now) c.args.n)) ≡ 0 =
     sym (rw c.in-Done.is at c.ask-asked.ensures) in
-    let there : let a = c.args in
-    ValidNode a.arena.now a.n × (length a.buffer.now ≡ 255) =
-    let a = c.args in
-    path-asked a.arena.now a.buffer.now a.n asked in
+    let there : ValidNode c.args.arena.now c.args.n × (length c.args.buffer.now ≡ 255) =
+    path-asked c.args.arena.now c.args.buffer.now c.args.n asked in
     let node = there in
     (rw (c.path_at_intro_depth.ensures, c.path.ensures) (short-intro _ _ node.0 _), node.1)
 
 pub returns-in-Done : goal.returns-in-Done
 returns-in-Done c =
-    let asked : let a = c.args in
-    refusal (ask_path a.arena.now a.buffer.now (reads_node (decode a.arena.now) a.n)) ≡ 0 =
+    let asked : refusal (ask_path c.args.arena.now c.args.buffer.now (reads_node (decode c.args.arena.now) c.args.n)) ≡ 0 =
     sym (rw c.in-Done.is at c.ask-asked.ensures) in
-    let there : let a = c.args in
-    ValidNode a.arena.now a.n × (length a.buffer.now ≡ 255) =
-    let a = c.args in
-    path-asked a.arena.now a.buffer.now a.n asked in
+    let there : ValidNode c.args.arena.now c.args.n × (length c.args.buffer.now ≡ 255) =
+    path-asked c.args.arena.now c.args.buffer.now c.args.n asked in
     put-done _ _ _ _ _ _ asked
     (c.path_at_intro_depth.ensures
     ∙ taken_back _ _ there.0 _ _ c.depth_below-depth.ensures.0 c.path.ensures)

@@ -14,29 +14,27 @@ use Rattle.nodes.proofs.setting.mark.Goals as goal
 
 pub arc-requires : goal.arc-requires
 arc-requires c =
-    let valid : let a = c.args in ValidNode a.arena.now a.n =
+    let valid : ValidNode c.args.arena.now c.args.n =
     readable _ _ (sym (rw c.in-Done.is at c.ask_node-asked.ensures)) in
     has-slot _ _ valid
 
 pub returns-then-not-may_mark : goal.returns-then-not-may_mark
 returns-then-not-may_mark c =
-    let valid : let a = c.args in ValidNode a.arena.now a.n =
+    let valid : ValidNode c.args.arena.now c.args.n =
     readable _ _ (sym (rw c.in-Done.is at c.ask_node-asked.ensures)) in
-    let may : let a = c.args in
-    may_mark a.flags (arc_in a.arena.now a.n) ≡ c.may_mark.result =
-    let a = c.args in
-    sym (c.may_mark.ensures ∙ ap (may_mark a.flags) c.arc.ensures) in
+    let may : may_mark c.args.flags (arc_in c.args.arena.now c.args.n) ≡ c.may_mark.result =
+    sym (c.may_mark.ensures ∙ ap (may_mark c.args.flags) c.arc.ensures) in
     mark-refused _ _ _ valid (may ∙ not-true _ c.if-not-may_mark.true-raw)
 
 pub flags-requires : goal.flags-requires
 flags-requires c =
-    let valid : let a = c.args in ValidNode a.arena.now a.n =
+    let valid : ValidNode c.args.arena.now c.args.n =
     readable _ _ (sym (rw c.in-Done.is at c.ask_node-asked.ensures)) in
     has-slot _ _ valid
 
 pub write_flags-requires : goal.write_flags-requires
 write_flags-requires c =
-    let valid : let a = c.args in ValidNode a.arena.now a.n =
+    let valid : ValidNode c.args.arena.now c.args.n =
     readable _ _ (sym (rw c.in-Done.is at c.ask_node-asked.ensures)) in
     has-slot _ _ valid
 
@@ -44,12 +42,10 @@ pub returns-else-not-may_mark : goal.returns-else-not-may_mark
 returns-else-not-may_mark c =
     let bytes : Bytes c.args.arena.now =
     bytes-by-place c.args.arena.now (λ k. (c.slice_known-1.given k).fits) in
-    let valid : let a = c.args in ValidNode a.arena.now a.n =
+    let valid : ValidNode c.args.arena.now c.args.n =
     readable _ _ (sym (rw c.in-Done.is at c.ask_node-asked.ensures)) in
-    let may : let a = c.args in
-    may_mark a.flags (arc_in a.arena.now a.n) ≡ c.may_mark.result =
-    let a = c.args in
-    sym (c.may_mark.ensures ∙ ap (may_mark a.flags) c.arc.ensures) in
+    let may : may_mark c.args.flags (arc_in c.args.arena.now c.args.n) ≡ c.may_mark.result =
+    sym (c.may_mark.ensures ∙ ap (may_mark c.args.flags) c.arc.ensures) in
     let given = c.args.flags in
     mark-done _ _ _ bytes valid
     (may ∙ not-false _ c.if-not-may_mark.false-raw) _

@@ -12,11 +12,9 @@ returns-then-flags-gt7 c =
 
 pub returns-then-arc-ne-ROOT : goal.returns-then-arc-ne-ROOT
 returns-then-arc-ne-ROOT c =
-    let a = c.args in
-    rw (lt-ltb a.flags 8 (omega (arith, c.if-flags-gt7.false)), ne_eqb a.arc 0 c.if-arc-ne-ROOT.true)
+    rw (lt-ltb c.args.flags 8 (omega (arith, c.if-flags-gt7.false)), ne_eqb c.args.arc 0 c.if-arc-ne-ROOT.true)
 
 pub returns : goal.returns
 returns c =
-    let a = c.args in
-    rw (lt-ltb a.flags 8 (omega (arith, c.if-flags-gt7.false)), eq-eqb a.arc 0 c.if-arc-ne-ROOT.false)
+    rw (lt-ltb c.args.flags 8 (omega (arith, c.if-flags-gt7.false)), eq-eqb c.args.arc 0 c.if-arc-ne-ROOT.false)
     (ap not c.is_culled.ensures)

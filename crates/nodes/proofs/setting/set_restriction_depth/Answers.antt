@@ -11,7 +11,7 @@ use Rattle.nodes.proofs.setting.set_restriction_depth.Goals as goal
 
 pub write_restriction-requires : goal.write_restriction-requires
 write_restriction-requires c =
-    let valid : let a = c.args in ValidNode a.arena.now a.n =
+    let valid : ValidNode c.args.arena.now c.args.n =
     readable _ _ (sym (rw c.in-Done.is at c.ask_node-asked.ensures)) in
     has-slot _ _ valid
 
@@ -19,7 +19,7 @@ pub returns-in-Done : goal.returns-in-Done
 returns-in-Done c =
     let bytes : Bytes c.args.arena.now =
     bytes-by-place c.args.arena.now (λ k. (c.slice_known-1.given k).fits) in
-    let valid : let a = c.args in ValidNode a.arena.now a.n =
+    let valid : ValidNode c.args.arena.now c.args.n =
     readable _ _ (sym (rw c.in-Done.is at c.ask_node-asked.ensures)) in
     restriction-done _ _ _ bytes valid _
     c.write_restriction.ensures

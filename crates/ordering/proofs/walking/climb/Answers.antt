@@ -27,10 +27,9 @@ next_sibling-sibling-requires c =
 
 pub returns-then-sibling : goal.returns-then-sibling
 returns-then-sibling c =
-    let a = c.args in
     let e = c.next_sibling-sibling.ensures in
     e
-    ∙ onward-out (next_sibling_in a.arena.now) (parent_in a.arena.now) a.from c.requires.0.lower c.loop-node.node c.loop-node-test.true
+    ∙ onward-out (next_sibling_in c.args.arena.now) (parent_in c.args.arena.now) c.args.from c.requires.0.lower c.loop-node.node c.loop-node-test.true
     (λ none. c.if-sibling.true (e ∙ none)) ∙ c.loop-node.invariant.1
 
 pub parent-node-requires : goal.parent-node-requires
@@ -46,18 +45,16 @@ loop-node-smaller c =
 
 pub loop-node-preserved : goal.loop-node-preserved
 loop-node-preserved c =
-    let a = c.args in
     let other = c.loop-node-test.true in
-    let next = next_sibling_in a.arena.now in
-    let up = parent_in a.arena.now in
+    let next = next_sibling_in c.args.arena.now in
+    let up = parent_in c.args.arena.now in
     let lower = c.requires.0.lower in (
       omega (arith, c.parent-node.ensures, c.loop-node.invariant.0, lower c.loop-node.node (omega arith) c.loop-node.invariant.0),
       ap (λ (k : ℕ). onward next up (k + 1) k) c.parent-node.ensures
-          ∙ onward-up next up a.from lower c.loop-node.node other c.loop-node.invariant.0 (sym c.next_sibling-sibling.ensures ∙ c.if-sibling.false)
+          ∙ onward-up next up c.args.from lower c.loop-node.node other c.loop-node.invariant.0 (sym c.next_sibling-sibling.ensures ∙ c.if-sibling.false)
           ∙ c.loop-node.invariant.1,
     )
 
 pub returns : goal.returns
 returns c =
-    let a = c.args in
-    onward-root (next_sibling_in a.arena.now) (parent_in a.arena.now) a.from c.requires.0.lower c.loop-node.node c.loop-node-test.false ∙ c.loop-node.invariant.1
+    onward-root (next_sibling_in c.args.arena.now) (parent_in c.args.arena.now) c.args.from c.requires.0.lower c.loop-node.node c.loop-node-test.false ∙ c.loop-node.invariant.1

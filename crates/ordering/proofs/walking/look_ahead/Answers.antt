@@ -12,16 +12,13 @@ use Rattle.ordering.proofs.walking.look_ahead.Goals as goal
 
 pub returns-then-sibling : goal.returns-then-sibling
 returns-then-sibling c =
-    let a = c.args in
     let e = c.next_sibling-sibling.ensures in
-    e ∙ onward-out (next_sibling_in a.arena.now) (parent_in a.arena.now) a.x c.requires.0.lower a.x c.if-x-eq0.false (λ none. c.if-sibling.true (e ∙ none))
+    e ∙ onward-out (next_sibling_in c.args.arena.now) (parent_in c.args.arena.now) c.args.x c.requires.0.lower c.args.x c.if-x-eq0.false (λ none. c.if-sibling.true (e ∙ none))
 
 pub returns : goal.returns
 returns c =
-    let a = c.args in
-    let next = next_sibling_in a.arena.now in
-    let up = parent_in a.arena.now in
-    let parent = c.parent in
+    let next = next_sibling_in c.args.arena.now in
+    let up = parent_in c.args.arena.now in
     c.requires.1
-    ∙ ap (λ (k : ℕ). onward next up (k + 1) k) (sym c.if-parent-known.false ∙ parent.ensures)
-    ∙ onward-up next up a.x c.requires.0.lower a.x c.if-x-eq0.false (omega arith) (sym c.next_sibling-sibling.ensures ∙ c.if-sibling.false)
+    ∙ ap (λ (k : ℕ). onward next up (k + 1) k) (sym c.if-parent-known.false ∙ c.parent.ensures)
+    ∙ onward-up next up c.args.x c.requires.0.lower c.args.x c.if-x-eq0.false (omega arith) (sym c.next_sibling-sibling.ensures ∙ c.if-sibling.false)

@@ -42,11 +42,11 @@ overflow_add-at c =
 
 pub write_order_entry-requires-in-loop-at : goal.write_order_entry-requires-in-loop-at
 write_order_entry-requires-in-loop-at c =
-    record { whole = c.loop-at.invariant.1.long; within = omega (arith, c.loop-at-test.taken, c.requires.few) }
+    record { whole = c.loop-at.invariant.1.long; within = omega (arith, c.loop-at-test.true, c.requires.few) }
 
 pub loop-at-smaller : goal.loop-at-smaller
 loop-at-smaller c =
-    omega (arith, c.loop-at-test.taken)
+    omega (arith, c.loop-at-test.true)
 
 pub loop-at-preserved : goal.loop-at-preserved
 loop-at-preserved c =

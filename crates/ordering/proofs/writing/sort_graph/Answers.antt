@@ -16,12 +16,11 @@ returns-then-not-sort_children c =
 
 pub write_sorted-requires : goal.write_sorted-requires
 write_sorted-requires c =
-    let a = c.args in
     let sorted = c.sort_children.new.sorted in
     let ends = c.sort_children.new.ends in
     let true-now = not-false _ c.if-not-sort_children.false-raw in record {
       valid_arena = (c.requires.0, c.requires.1, c.requires.2, sym c.sort_children.ensures.answer ∙ true-now);
-      segments = subst (λ (n : ℕ). Segments (sorted_children (decode a.arena.now)) n sorted ends) (sizes a.arena.now c.requires.0 ∙ sym c.requires.1)
+      segments = subst (λ (n : ℕ). Segments (sorted_children (decode c.args.arena.now)) n sorted ends) (sizes c.args.arena.now c.requires.0 ∙ sym c.requires.1)
           (c.sort_children.ensures.segments true-now);
     }
 

@@ -13,7 +13,7 @@ use Rattle.ordering.proofs.writing.write_sorted.Goals as goal
 
 pub store_lists-requires : goal.store_lists-requires
 store_lists-requires c =
-    let ready : let a = c.args in Orderable a.arena.now a.count =
+    let ready : Orderable c.args.arena.now c.args.count =
     record {
       bytes = bytes-by-place c.args.arena.now (λ k. (c.slice_known-1.given k).fits);
       opened = c.requires.valid_arena.0;
@@ -25,7 +25,7 @@ store_lists-requires c =
 
 pub write_walk-requires : goal.write_walk-requires
 write_walk-requires c =
-    let ready : let a = c.args in Orderable a.arena.now a.count =
+    let ready : Orderable c.args.arena.now c.args.count =
     record {
       bytes = bytes-by-place c.args.arena.now (λ k. (c.slice_known-1.given k).fits);
       opened = c.requires.valid_arena.0;
@@ -34,16 +34,15 @@ write_walk-requires c =
       has-order = c.requires.valid_arena.3;
     } in
     let stored : c.store_lists.new.arena ≡ linked c.args.arena.now c.args.count ready =
-    let a = c.args in
     let marked = c.write_state.ensures in
-    c.store_lists.ensures ∙ ap (lists_stored a.sorted.now a.ends.now a.count) marked
+    c.store_lists.ensures ∙ ap (lists_stored c.args.sorted.now c.args.ends.now c.args.count) marked
     ∙ lists-stored _ _ ready _ _ c.requires.segments
     (subst Bytes marked (bytes-by-place c.write_state.new.arena (λ i. (c.slice_known-2-1.given i).fits))) in
     subst (λ (s : List ℕ). Walkable s c.args.count) (sym stored) (walkable _ _ ready)
 
 pub returns : goal.returns
 returns c =
-    let ready : let a = c.args in Orderable a.arena.now a.count =
+    let ready : Orderable c.args.arena.now c.args.count =
     record {
       bytes = bytes-by-place c.args.arena.now (λ k. (c.slice_known-1.given k).fits);
       opened = c.requires.valid_arena.0;
@@ -52,9 +51,8 @@ returns c =
       has-order = c.requires.valid_arena.3;
     } in
     let stored : c.store_lists.new.arena ≡ linked c.args.arena.now c.args.count ready =
-    let a = c.args in
     let marked = c.write_state.ensures in
-    c.store_lists.ensures ∙ ap (lists_stored a.sorted.now a.ends.now a.count) marked
+    c.store_lists.ensures ∙ ap (lists_stored c.args.sorted.now c.args.ends.now c.args.count) marked
     ∙ lists-stored _ _ ready _ _ c.requires.segments
     (subst Bytes marked (bytes-by-place c.write_state.new.arena (λ i. (c.slice_known-2-1.given i).fits))) in
     c.write_walk.ensures ∙ ap (walk_stored c.args.count) stored ∙ walk-written _ _ ready

@@ -11,7 +11,7 @@ use Rattle.ordering.proofs.writing.write_standing.Goals as goal
 
 pub write_walk-requires : goal.write_walk-requires
 write_walk-requires c =
-    let ready : let a = c.args in Orderable a.arena.now a.count =
+    let ready : Orderable c.args.arena.now c.args.count =
     let bytes = bytes-by-place c.args.arena.now (λ k. (c.slice_known-1.given k).fits) in
     record {
       bytes = bytes;
@@ -26,7 +26,7 @@ write_walk-requires c =
 
 pub returns : goal.returns
 returns c =
-    let ready : let a = c.args in Orderable a.arena.now a.count =
+    let ready : Orderable c.args.arena.now c.args.count =
     let bytes = bytes-by-place c.args.arena.now (λ k. (c.slice_known-1.given k).fits) in
     record {
       bytes = bytes;

@@ -9,5 +9,4 @@ use Rattle.ordering.proofs.writing.write_state.Goals as goal
 
 pub returns : goal.returns
 returns c =
-    let a = c.args in
-    c.write_state.ensures ∙ ap (λ (m : ℕ). marks_stored true (not (eqb m 1)) (eqb m 1) a.arena.now) c.shallow-shallow.ensures
+    c.write_state.ensures ∙ ap (λ (m : ℕ). marks_stored true (not (eqb m 1)) (eqb m 1) c.args.arena.now) c.shallow-shallow.ensures

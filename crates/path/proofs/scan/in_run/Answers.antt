@@ -22,28 +22,24 @@ other-in-run false b e = e
 
 pub returns-then-is_word_byte : goal.returns-then-is_word_byte
 returns-then-is_word_byte c =
-    let s = c.args in
-    sym (word-in-run s.selection s.b (sym c.is_word_byte.ensures ∙ c.if-is_word_byte.true))
+    sym (word-in-run c.args.selection c.args.b (sym c.is_word_byte.ensures ∙ c.if-is_word_byte.true))
 
 pub returns-then-not-selection : goal.returns-then-not-selection
 returns-then-not-selection c =
-    let s = c.args in
-    rw (other-in-run s.selection s.b (sym c.is_word_byte.ensures ∙ c.if-is_word_byte.false), not-true s.selection c.if-not-selection.true-raw)
+    rw (other-in-run c.args.selection c.args.b (sym c.is_word_byte.ensures ∙ c.if-is_word_byte.false), not-true c.args.selection c.if-not-selection.true-raw)
 
 pub returns-then-b-eq45 : goal.returns-then-b-eq45
 returns-then-b-eq45 c =
-    let s = c.args in
     rw (
-      other-in-run s.selection s.b (sym c.is_word_byte.ensures ∙ c.if-is_word_byte.false),
-      not-false s.selection c.if-not-selection.false-raw,
+      other-in-run c.args.selection c.args.b (sym c.is_word_byte.ensures ∙ c.if-is_word_byte.false),
+      not-false c.args.selection c.if-not-selection.false-raw,
       eq-eqb _ _ c.if-b-eq45.true,
     )
 
 pub returns : goal.returns
 returns c =
-    let s = c.args in
     rw (
-      other-in-run s.selection s.b (sym c.is_word_byte.ensures ∙ c.if-is_word_byte.false),
-      not-false s.selection c.if-not-selection.false-raw,
+      other-in-run c.args.selection c.args.b (sym c.is_word_byte.ensures ∙ c.if-is_word_byte.false),
+      not-false c.args.selection c.if-not-selection.false-raw,
       ne_eqb _ _ c.if-b-eq45.false,
     )

@@ -9,20 +9,16 @@ use Rattle.path.proofs.scan.read_name.Goals as goal
 
 pub returns-then-not-name_begins : goal.returns-then-not-name_begins
 returns-then-not-name_begins c =
-    let s = c.args in
-    no_name s.path.now s.at (sym c.name_begins.ensures ∙ not-true _ c.if-not-name_begins.true-raw)
+    no_name c.args.path.now c.args.at (sym c.name_begins.ensures ∙ not-true _ c.if-not-name_begins.true-raw)
 
 pub overflow_add-at : goal.overflow_add-at
 overflow_add-at c =
-    let s = c.args in
-    omega (arith, begins-within s.path.now s.at (sym c.name_begins.ensures ∙ not-false _ c.if-not-name_begins.false-raw))
+    omega (arith, begins-within c.args.path.now c.args.at (sym c.name_begins.ensures ∙ not-false _ c.if-not-name_begins.false-raw))
 
 pub run_end-requires : goal.run_end-requires
 run_end-requires c =
-    let s = c.args in
-    omega (arith, begins-within s.path.now s.at (sym c.name_begins.ensures ∙ not-false _ c.if-not-name_begins.false-raw))
+    omega (arith, begins-within c.args.path.now c.args.at (sym c.name_begins.ensures ∙ not-false _ c.if-not-name_begins.false-raw))
 
 pub returns : goal.returns
 returns c =
-    let s = c.args in
-    name-read s.path.now s.at c.run_end.result (sym c.name_begins.ensures ∙ not-false _ c.if-not-name_begins.false-raw) c.run_end.ensures
+    name-read c.args.path.now c.args.at c.run_end.result (sym c.name_begins.ensures ∙ not-false _ c.if-not-name_begins.false-raw) c.run_end.ensures

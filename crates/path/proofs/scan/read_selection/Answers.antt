@@ -12,37 +12,32 @@ use Rattle.path.proofs.scan.read_selection.Goals as goal
 
 pub returns-then-not-name_begins : goal.returns-then-not-name_begins
 returns-then-not-name_begins c =
-    let s = c.args in
-    no-set s.path.now s.at (sym c.name_begins.ensures ∙ not-true _ c.if-not-name_begins.true-raw)
+    no-set c.args.path.now c.args.at (sym c.name_begins.ensures ∙ not-true _ c.if-not-name_begins.true-raw)
 
 pub overflow_add-at : goal.overflow_add-at
 overflow_add-at c =
     let begun : begins_name c.args.path.now c.args.at ≡ true =
     sym c.name_begins.ensures ∙ not-false _ c.if-not-name_begins.false-raw in
-    let s = c.args in
-    omega (arith, begins-within s.path.now s.at begun)
+    omega (arith, begins-within c.args.path.now c.args.at begun)
 
 pub run_end-sign-requires : goal.run_end-sign-requires
 run_end-sign-requires c =
     let begun : begins_name c.args.path.now c.args.at ≡ true =
     sym c.name_begins.ensures ∙ not-false _ c.if-not-name_begins.false-raw in
-    let s = c.args in
-    omega (arith, begins-within s.path.now s.at begun)
+    omega (arith, begins-within c.args.path.now c.args.at begun)
 
 pub returns-then-not-stands : goal.returns-then-not-stands
 returns-then-not-stands c =
     let begun : begins_name c.args.path.now c.args.at ≡ true =
     sym c.name_begins.ensures ∙ not-false _ c.if-not-name_begins.false-raw in
-    let s = c.args in
-    no_sign s.path.now s.at c.run_end-sign.result begun c.run_end-sign.ensures
+    no_sign c.args.path.now c.args.at c.run_end-sign.result begun c.run_end-sign.ensures
     (sym c.stands.ensures ∙ not-true _ c.if-not-stands.true-raw)
 
 pub run_end-last-requires : goal.run_end-last-requires
 run_end-last-requires c =
     let signed : stands_at c.args.path.now c.run_end-sign.result equals_sign ≡ true =
     sym c.stands.ensures ∙ not-false _ c.if-not-stands.false-raw in
-    let s = c.args in
-    omega (arith, stands-within s.path.now c.run_end-sign.result equals_sign signed)
+    omega (arith, stands-within c.args.path.now c.run_end-sign.result equals_sign signed)
 
 pub returns-then-not-stands-2 : goal.returns-then-not-stands-2
 returns-then-not-stands-2 c =
@@ -50,9 +45,7 @@ returns-then-not-stands-2 c =
     sym c.name_begins.ensures ∙ not-false _ c.if-not-name_begins.false-raw in
     let signed : stands_at c.args.path.now c.run_end-sign.result equals_sign ≡ true =
     sym c.stands.ensures ∙ not-false _ c.if-not-stands.false-raw in
-    let s = c.args in
-    let word = c.run_end-sign in
-    no-brace s.path.now s.at word.result begun word.ensures
+    no-brace c.args.path.now c.args.at c.run_end-sign.result begun c.run_end-sign.ensures
     signed c.run_end-last.result c.run_end-last.ensures
     (sym c.stands-2.ensures ∙ not-true _ c.if-not-stands-2.true-raw)
 
@@ -62,8 +55,6 @@ returns c =
     sym c.name_begins.ensures ∙ not-false _ c.if-not-name_begins.false-raw in
     let signed : stands_at c.args.path.now c.run_end-sign.result equals_sign ≡ true =
     sym c.stands.ensures ∙ not-false _ c.if-not-stands.false-raw in
-    let s = c.args in
-    let word = c.run_end-sign in
-    selection-read s.path.now s.at word.result begun word.ensures
+    selection-read c.args.path.now c.args.at c.run_end-sign.result begun c.run_end-sign.ensures
     signed c.run_end-last.result c.run_end-last.ensures
     (sym c.stands-2.ensures ∙ not-false _ c.if-not-stands-2.false-raw)

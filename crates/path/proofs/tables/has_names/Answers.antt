@@ -23,21 +23,18 @@ returns-then-word-names c =
     let counted : count_prims c.args.path.now ≡ ends_as c.read_behind_slash-word.result =
     sym (c.read_behind_slash-word.ensures.same ∙ sym (rooted c.args.path.now (omega (arith, c.if-path-eq1.false, c.requires.in_bounds.0)) c.if-path-ne47.false)
     ∙ count-prims-reads c.args.path.now c.requires.in_bounds.1) in
-    let a = c.args in
-    sym (ap (is_names a.names) counted ∙ other-names _ a.names c.if-word-names.true)
+    sym (ap (is_names c.args.names) counted ∙ other-names _ c.args.names c.if-word-names.true)
 
 pub returns-then-end-eq14 : goal.returns-then-end-eq14
 returns-then-end-eq14 c =
     let counted : count_prims c.args.path.now ≡ ends_as c.read_behind_slash-word.result =
     sym (c.read_behind_slash-word.ensures.same ∙ sym (rooted c.args.path.now (omega (arith, c.if-path-eq1.false, c.requires.in_bounds.0)) c.if-path-ne47.false)
     ∙ count-prims-reads c.args.path.now c.requires.in_bounds.1) in
-    let a = c.args in
-    sym (ap (is_names a.names) counted ∙ names-end _ a.names c.if-word-names.false ∙ rw (eq-eqb _ _ c.if-end-eq14.true))
+    sym (ap (is_names c.args.names) counted ∙ names-end _ c.args.names c.if-word-names.false ∙ rw (eq-eqb _ _ c.if-end-eq14.true))
 
 pub returns : goal.returns
 returns c =
     let counted : count_prims c.args.path.now ≡ ends_as c.read_behind_slash-word.result =
     sym (c.read_behind_slash-word.ensures.same ∙ sym (rooted c.args.path.now (omega (arith, c.if-path-eq1.false, c.requires.in_bounds.0)) c.if-path-ne47.false)
     ∙ count-prims-reads c.args.path.now c.requires.in_bounds.1) in
-    let a = c.args in
-    sym (ap (is_names a.names) counted ∙ names-end _ a.names c.if-word-names.false ∙ rw (ne_eqb _ _ c.if-end-eq14.false))
+    sym (ap (is_names c.args.names) counted ∙ names-end _ c.args.names c.if-word-names.false ∙ rw (ne_eqb _ _ c.if-end-eq14.false))

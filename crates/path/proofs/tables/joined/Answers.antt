@@ -7,4 +7,4 @@ use Rattle.path.proofs.tables.joined.Goals as goal
 
 pub returns : goal.returns
 returns c =
-    let a = c.args in (omega (arith, c.requires), joined-ends a.state a.names)
+    (omega (arith, c.requires), joined-ends c.args.state c.args.names)

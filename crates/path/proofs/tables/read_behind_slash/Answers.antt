@@ -15,9 +15,8 @@ loop-i-init c =
 
 pub loop-i-preserved : goal.loop-i-preserved
 loop-i-preserved c =
-    let l = c.loop-i in
     rw (c.row_of_two-in-loop-i.ensures, c.row_of_two.ensures)
-    (reached-four _ l.i l.state l.names l.invariant c.loop-i-test.true
+    (reached-four _ c.loop-i.i c.loop-i.state c.loop-i.names c.loop-i.invariant c.loop-i-test.true
     (λ k. (c.shared_slice_known-in-loop-i-1.given k).fits))
 
 pub read_rest-requires : goal.read_rest-requires

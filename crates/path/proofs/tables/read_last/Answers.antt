@@ -16,11 +16,10 @@ returns-then-path-at c =
 
 pub returns : goal.returns
 returns c =
-    let a = c.args in
-    let more = reached-one _ _ _ _ c.requires.reached.0 c.if-path-at.false (c.type_inv.path a.at).fits in
+    let more = reached-one _ _ _ _ c.requires.reached.0 c.if-path-at.false (c.type_inv.path c.args.at).fits in
     record {
       small = c.joined-2.ensures.0;
       same = c.joined-2.ensures.1
-          ∙ ap (λ (row : ℕ). ending (row / 2 ^ (a.state % 64)) (a.names + row / 2 ^ (a.state % 64) / 64 % 2)) c.row_of_one.ensures
+          ∙ ap (λ (row : ℕ). ending (row / 2 ^ (c.args.state % 64)) (c.args.names + row / 2 ^ (c.args.state % 64) / 64 % 2)) c.row_of_one.ensures
           ∙ reached-end _ _ _ _ more c.requires.reached.1.0;
     }

@@ -8,7 +8,6 @@ use Rattle.path.proofs.tables.read_rest.Goals as goal
 
 pub read_last-requires-2 : goal.read_last-requires-2
 read_last-requires-2 c =
-    let a = c.args in
-    let more = reached-two a.path.now a.at a.state a.names c.requires.reached.0 c.if-path-at.false
-    (c.shared_slice_known-4-1.given a.at).fits (c.type_inv.path (a.at + 1)).fits in
+    let more = reached-two c.args.path.now c.args.at c.args.state c.args.names c.requires.reached.0 c.if-path-at.false
+    (c.shared_slice_known-4-1.given c.args.at).fits (c.type_inv.path (c.args.at + 1)).fits in
     (c.requires.tables, (rw c.row_of_two.ensures more, (omega (arith, c.requires.reached.1.0), c.requires.reached.1.1)))

@@ -17,9 +17,8 @@ pub read_u16-length-requires : goal.read_u16-length-requires
 read_u16-length-requires c =
     let here : c.loop-n.n < length (nodes_read c.args.snapshot.now) =
     omega (arith, c.loop-n-test.true, c.requires.counted) in
-    let fits : let l = c.loop-n in
-    (28 ≤ field l.at 2 l.snapshot) × (field l.at 2 l.snapshot ≤ 282)
-    × (l.at + (2 + field l.at 2 l.snapshot) ≤ length l.snapshot) =
+    let fits : (28 ≤ field c.loop-n.at 2 c.loop-n.snapshot) × (field c.loop-n.at 2 c.loop-n.snapshot ≤ 282)
+    × (c.loop-n.at + (2 + field c.loop-n.at 2 c.loop-n.snapshot) ≤ length c.loop-n.snapshot) =
     record-range _ _ _ _ c.loop-n.invariant here in
     omega (arith, fits)
 
@@ -27,9 +26,8 @@ pub overflow_add-flags-in-loop-n : goal.overflow_add-flags-in-loop-n
 overflow_add-flags-in-loop-n c =
     let here : c.loop-n.n < length (nodes_read c.args.snapshot.now) =
     omega (arith, c.loop-n-test.true, c.requires.counted) in
-    let fits : let l = c.loop-n in
-    (28 ≤ field l.at 2 l.snapshot) × (field l.at 2 l.snapshot ≤ 282)
-    × (l.at + (2 + field l.at 2 l.snapshot) ≤ length l.snapshot) =
+    let fits : (28 ≤ field c.loop-n.at 2 c.loop-n.snapshot) × (field c.loop-n.at 2 c.loop-n.snapshot ≤ 282)
+    × (c.loop-n.at + (2 + field c.loop-n.at 2 c.loop-n.snapshot) ≤ length c.loop-n.snapshot) =
     record-range _ _ _ _ c.loop-n.invariant here in
     omega (arith, fits)
 
@@ -37,9 +35,8 @@ pub bounds-snapshot-flags : goal.bounds-snapshot-flags
 bounds-snapshot-flags c =
     let here : c.loop-n.n < length (nodes_read c.args.snapshot.now) =
     omega (arith, c.loop-n-test.true, c.requires.counted) in
-    let fits : let l = c.loop-n in
-    (28 ≤ field l.at 2 l.snapshot) × (field l.at 2 l.snapshot ≤ 282)
-    × (l.at + (2 + field l.at 2 l.snapshot) ≤ length l.snapshot) =
+    let fits : (28 ≤ field c.loop-n.at 2 c.loop-n.snapshot) × (field c.loop-n.at 2 c.loop-n.snapshot ≤ 282)
+    × (c.loop-n.at + (2 + field c.loop-n.at 2 c.loop-n.snapshot) ≤ length c.loop-n.snapshot) =
     record-range _ _ _ _ c.loop-n.invariant here in
     omega (arith, fits)
 
@@ -47,9 +44,8 @@ pub bounds-snapshot-flags-in-loop-n : goal.bounds-snapshot-flags-in-loop-n
 bounds-snapshot-flags-in-loop-n c =
     let here : c.loop-n.n < length (nodes_read c.args.snapshot.now) =
     omega (arith, c.loop-n-test.true, c.requires.counted) in
-    let fits : let l = c.loop-n in
-    (28 ≤ field l.at 2 l.snapshot) × (field l.at 2 l.snapshot ≤ 282)
-    × (l.at + (2 + field l.at 2 l.snapshot) ≤ length l.snapshot) =
+    let fits : (28 ≤ field c.loop-n.at 2 c.loop-n.snapshot) × (field c.loop-n.at 2 c.loop-n.snapshot ≤ 282)
+    × (c.loop-n.at + (2 + field c.loop-n.at 2 c.loop-n.snapshot) ≤ length c.loop-n.snapshot) =
     record-range _ _ _ _ c.loop-n.invariant here in
     omega (arith, fits)
 
@@ -57,9 +53,8 @@ pub overflow_add-at : goal.overflow_add-at
 overflow_add-at c =
     let here : c.loop-n.n < length (nodes_read c.args.snapshot.now) =
     omega (arith, c.loop-n-test.true, c.requires.counted) in
-    let fits : let l = c.loop-n in
-    (28 ≤ field l.at 2 l.snapshot) × (field l.at 2 l.snapshot ≤ 282)
-    × (l.at + (2 + field l.at 2 l.snapshot) ≤ length l.snapshot) =
+    let fits : (28 ≤ field c.loop-n.at 2 c.loop-n.snapshot) × (field c.loop-n.at 2 c.loop-n.snapshot ≤ 282)
+    × (c.loop-n.at + (2 + field c.loop-n.at 2 c.loop-n.snapshot) ≤ length c.loop-n.snapshot) =
     record-range _ _ _ _ c.loop-n.invariant here in
     omega (arith, c.read_u16-length.ensures, fits)
 
@@ -67,19 +62,18 @@ pub overflow_add-at-in-loop-n : goal.overflow_add-at-in-loop-n
 overflow_add-at-in-loop-n c =
     let here : c.loop-n.n < length (nodes_read c.args.snapshot.now) =
     omega (arith, c.loop-n-test.true, c.requires.counted) in
-    let fits : let l = c.loop-n in
-    (28 ≤ field l.at 2 l.snapshot) × (field l.at 2 l.snapshot ≤ 282)
-    × (l.at + (2 + field l.at 2 l.snapshot) ≤ length l.snapshot) =
+    let fits : (28 ≤ field c.loop-n.at 2 c.loop-n.snapshot) × (field c.loop-n.at 2 c.loop-n.snapshot ≤ 282)
+    × (c.loop-n.at + (2 + field c.loop-n.at 2 c.loop-n.snapshot) ≤ length c.loop-n.snapshot) =
     record-range _ _ _ _ c.loop-n.invariant here in
     omega (arith, c.read_u16-length.ensures, fits)
 
 pub overflow_add-n : goal.overflow_add-n
 overflow_add-n c =
-    omega (arith, c.loop-n-test.taken)
+    omega (arith, c.loop-n-test.true)
 
 pub loop-n-smaller : goal.loop-n-smaller
 loop-n-smaller c =
-    omega (arith, c.loop-n-test.taken)
+    omega (arith, c.loop-n-test.true)
 
 pub loop-n-preserved : goal.loop-n-preserved
 loop-n-preserved c =

@@ -28,5 +28,4 @@ precedes-requires c =
 
 pub returns : goal.returns
 returns c =
-    let a = c.args in
-    subst (Precedes (view_in a.arena.now) a.x) c.next_sibling-y.ensures (c.precedes.ensures e)
+    subst (Precedes (view_in c.args.arena.now) c.args.x) c.next_sibling-y.ensures (c.precedes.ensures e)

@@ -9,9 +9,8 @@ use Rattle.strength.proofs.calls.compare_siblings.Goals as goal
 
 pub returns-then-a-b : goal.returns-then-a-b
 returns-then-a-b c =
-    let a = c.args in
-    let u = view_of (decode a.arena.now) in
-    sym (ap (compare_sibling_node_strength u a.a) (sym c.if-a-b.true) ∙ siblings-same u a.a)
+    let u = view_of (decode c.args.arena.now) in
+    sym (ap (compare_sibling_node_strength u c.args.a) (sym c.if-a-b.true) ∙ siblings-same u c.args.a)
 
 pub local_root-root-requires : goal.local_root-root-requires
 local_root-root-requires c =
@@ -19,13 +18,12 @@ local_root-root-requires c =
 
 pub compare_sibling_node_strength-requires : goal.compare_sibling_node_strength-requires
 compare_sibling_node_strength-requires c =
-    let s = c.requires in
     record {
-      left = record { readable = s.left; root-read = c.local_root-root.ensures };
-      right = record { readable = s.right; root-read = c.local_root-root.ensures };
-      left-above = left-above _ _ _ s c.if-a-b.false;
-      right-above = right-above _ _ _ s c.if-a-b.false;
-      parents = one_parent _ _ _ s c.if-a-b.false;
+      left = record { readable = c.requires.left; root-read = c.local_root-root.ensures };
+      right = record { readable = c.requires.right; root-read = c.local_root-root.ensures };
+      left-above = left-above _ _ _ c.requires c.if-a-b.false;
+      right-above = right-above _ _ _ c.requires c.if-a-b.false;
+      parents = one_parent _ _ _ c.requires c.if-a-b.false;
     }
 
 pub returns : goal.returns

@@ -21,14 +21,12 @@ first_child-child-requires c =
 
 pub loop-left-init : goal.loop-left-init
 loop-left-init c =
-    let a = c.args in
-    ap (λ (k : ℕ). copy_from a.arena.now a.n k c.first_child-child.result) c.count-count.ensures
-    ∙ ap (copy_from a.arena.now a.n (count_in a.arena.now)) c.first_child-child.ensures
+    ap (λ (k : ℕ). copy_from c.args.arena.now c.args.n k c.first_child-child.result) c.count-count.ensures
+    ∙ ap (copy_from c.args.arena.now c.args.n (count_in c.args.arena.now)) c.first_child-child.ensures
 
 pub returns-then-child-count : goal.returns-then-child-count
 returns-then-child-count c =
-    let a = c.args in
-    sym (copies-end a.arena.now a.n c.loop-left.left c.loop-left.child (omega (arith, c.if-child-count.true, c.count-count.ensures)))
+    sym (copies-end c.args.arena.now c.args.n c.loop-left.left c.loop-left.child (omega (arith, c.if-child-count.true, c.count-count.ensures)))
     ∙ c.loop-left.invariant
 
 pub is_copy-requires : goal.is_copy-requires
@@ -41,10 +39,8 @@ pub returns-then-is_copy : goal.returns-then-is_copy
 returns-then-is_copy c =
     let child-read : ValidNode c.args.arena.now c.loop-left.child =
     record { opened = c.requires.readable.opened; below = omega (arith, c.if-child-count.false, c.count-count.ensures) } in
-    let a = c.args in
-    let here = c.loop-left in
-    copy-taken a.arena.now a.n here.left here.child (omega (arith, c.loop-left-test.true)) child-read.below (sym c.is_copy.ensures ∙ c.if-is_copy.true)
-    ∙ here.invariant
+    copy-taken c.args.arena.now c.args.n c.loop-left.left c.loop-left.child (omega (arith, c.loop-left-test.true)) child-read.below (sym c.is_copy.ensures ∙ c.if-is_copy.true)
+    ∙ c.loop-left.invariant
 
 pub next_sibling-child-requires : goal.next_sibling-child-requires
 next_sibling-child-requires c =
@@ -64,14 +60,11 @@ pub loop-left-preserved : goal.loop-left-preserved
 loop-left-preserved c =
     let child-read : ValidNode c.args.arena.now c.loop-left.child =
     record { opened = c.requires.readable.opened; below = omega (arith, c.if-child-count.false, c.count-count.ensures) } in
-    let a = c.args in
-    let here = c.loop-left in
-    copy_passed a.arena.now a.n here.left here.child c.next_sibling-child.result (omega (arith, c.loop-left-test.true)) child-read.below
+    copy_passed c.args.arena.now c.args.n c.loop-left.left c.loop-left.child c.next_sibling-child.result (omega (arith, c.loop-left-test.true)) child-read.below
     (sym c.is_copy.ensures ∙ c.if-is_copy.false) c.next_sibling-child.ensures
-    ∙ here.invariant
+    ∙ c.loop-left.invariant
 
 pub returns : goal.returns
 returns c =
-    let a = c.args in
     let none : c.loop-left.left ≡ 0 = omega (arith, c.loop-left-test.false) in
-    sym (ap (λ (k : ℕ). copy_from a.arena.now a.n k c.loop-left.child) none) ∙ c.loop-left.invariant
+    sym (ap (λ (k : ℕ). copy_from c.args.arena.now c.args.n k c.loop-left.child) none) ∙ c.loop-left.invariant

@@ -11,10 +11,8 @@ origin-requires c =
 
 pub returns-then-origin-n : goal.returns-then-origin-n
 returns-then-origin-n c =
-    let a = c.args in
-    rw (ne_eqb ((view_in a.arena.now).origin a.child) a.n (λ e. c.if-origin-n.true (c.origin.ensures ∙ e)))
+    rw (ne_eqb ((view_in c.args.arena.now).origin c.args.child) c.args.n (λ e. c.if-origin-n.true (c.origin.ensures ∙ e)))
 
 pub returns : goal.returns
 returns c =
-    let a = c.args in
-    rw (eq-eqb ((view_in a.arena.now).origin a.child) a.n (sym c.origin.ensures ∙ c.if-origin-n.false)) c.is_propagated_specializes.ensures
+    rw (eq-eqb ((view_in c.args.arena.now).origin c.args.child) c.args.n (sym c.origin.ensures ∙ c.if-origin-n.false)) c.is_propagated_specializes.ensures

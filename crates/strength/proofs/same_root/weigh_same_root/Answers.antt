@@ -27,8 +27,7 @@ returns-in-Less c =
     let classes-same : class_depth (view_in c.args.arena.now) c.args.a ≡ class_depth (view_in c.args.arena.now) c.args.b =
     read_same c.class_depth-x.ensures c.class_depth-y.ensures c.if-x-y.false in
     let alike : RootsAlike (view_in c.args.arena.now) c.args.a c.args.b =
-    let given = c.requires in
-    record { classes = classes-same; hops = read_same given.1.hops given.2.hops c.if-ra-rb.false } in
+    record { classes = classes-same; hops = read_same c.requires.1.hops c.requires.2.hops c.if-ra-rb.false } in
     local-less _ _ _ _ alike (sym c.local_line.ensures ∙ c.in-Less.is)
 
 pub returns-in-Equal : goal.returns-in-Equal
@@ -36,8 +35,7 @@ returns-in-Equal c =
     let classes-same : class_depth (view_in c.args.arena.now) c.args.a ≡ class_depth (view_in c.args.arena.now) c.args.b =
     read_same c.class_depth-x.ensures c.class_depth-y.ensures c.if-x-y.false in
     let alike : RootsAlike (view_in c.args.arena.now) c.args.a c.args.b =
-    let given = c.requires in
-    record { classes = classes-same; hops = read_same given.1.hops given.2.hops c.if-ra-rb.false } in
+    record { classes = classes-same; hops = read_same c.requires.1.hops c.requires.2.hops c.if-ra-rb.false } in
     local-passed _ _ _ _ alike (sym c.local_line.ensures ∙ c.in-Equal.is) c.ask_origins.ensures
 
 pub returns-in-Greater : goal.returns-in-Greater
@@ -45,6 +43,5 @@ returns-in-Greater c =
     let classes-same : class_depth (view_in c.args.arena.now) c.args.a ≡ class_depth (view_in c.args.arena.now) c.args.b =
     read_same c.class_depth-x.ensures c.class_depth-y.ensures c.if-x-y.false in
     let alike : RootsAlike (view_in c.args.arena.now) c.args.a c.args.b =
-    let given = c.requires in
-    record { classes = classes-same; hops = read_same given.1.hops given.2.hops c.if-ra-rb.false } in
+    record { classes = classes-same; hops = read_same c.requires.1.hops c.requires.2.hops c.if-ra-rb.false } in
     local-greater _ _ _ _ alike (sym c.local_line.ensures ∙ c.in-Greater.is)

@@ -11,16 +11,13 @@ returns-then-x-y c =
 
 pub origins_are_nested-requires : goal.origins_are_nested-requires
 origins_are_nested-requires c =
-    let given = c.requires in
-    (root-standing _ given.0.left given.1, root-standing _ given.0.right given.2)
+    (root-standing _ c.requires.0.left c.requires.1, root-standing _ c.requires.0.right c.requires.2)
 
 pub returns-then-origins_are_nested : goal.returns-then-origins_are_nested
 returns-then-origins_are_nested c =
-    let given = c.requires in
-    sym (roots-nested _ _ _ _ _ given.1 given.2 (sym c.origins_are_nested.ensures ∙ c.if-origins_are_nested.true))
+    sym (roots-nested _ _ _ _ _ c.requires.1 c.requires.2 (sym c.origins_are_nested.ensures ∙ c.if-origins_are_nested.true))
 
 pub returns : goal.returns
 returns c =
-    let given = c.requires in
     read-smaller c.depth-y.ensures c.depth-x.ensures c.by_number.ensures
-    ∙ sym (not-nested _ _ _ _ _ given.1 given.2 (sym c.origins_are_nested.ensures ∙ c.if-origins_are_nested.false))
+    ∙ sym (not-nested _ _ _ _ _ c.requires.1 c.requires.2 (sym c.origins_are_nested.ensures ∙ c.if-origins_are_nested.false))

@@ -14,12 +14,10 @@ pub returns-then-ra-rb : goal.returns-then-ra-rb
 returns-then-ra-rb c =
     let origins-differ : (view_in c.args.arena.now).origin c.args.a ≡ (view_in c.args.arena.now).origin c.args.b → ⊥ =
     read-other c.origin-x.ensures c.origin-y.ensures c.if-x-y.false in
-    let given = c.requires in
-    one-root _ _ _ _ origins-differ (read_same given.1.node given.2.node c.if-ra-rb.true) c.weigh_same_root.ensures
+    one-root _ _ _ _ origins-differ (read_same c.requires.1.node c.requires.2.node c.if-ra-rb.true) c.weigh_same_root.ensures
 
 pub returns : goal.returns
 returns c =
     let origins-differ : (view_in c.args.arena.now).origin c.args.a ≡ (view_in c.args.arena.now).origin c.args.b → ⊥ =
     read-other c.origin-x.ensures c.origin-y.ensures c.if-x-y.false in
-    let given = c.requires in
-    roots-differ given.0 _ _ given.1 given.2 origins-differ c.if-ra-rb.false c.by_number.ensures
+    roots-differ c.requires.0 _ _ c.requires.1 c.requires.2 origins-differ c.if-ra-rb.false c.by_number.ensures

@@ -23,7 +23,7 @@ returns-then-not-links_allowed c =
       origin = c.origin.result;
       has_specs = c.has_specs.result;
     } in
-    let read : let a = c.args in numbers ≡ numbers_in a.arena.now a.before.count =
+    let read : numbers ≡ numbers_in c.args.arena.now c.args.before.count =
     λ i. record {
       arc = c.requires.arc_value.0 i;
       flags = c.flags.ensures i;
@@ -31,9 +31,9 @@ returns-then-not-links_allowed c =
       origin = c.origin.ensures i;
       has_specs = c.has_specs.ensures i;
     } in
-    let linked : let a = c.args in c.links_allowed.result ≡ links a.arena.now a.before =
+    let linked : c.links_allowed.result ≡ links c.args.arena.now c.args.before =
     c.links_allowed.ensures ∙ ap (links_at c.args.before) read in
-    let a = c.args in sym (links-wrong a.arena.now a.before (sym linked ∙ not-true _ c.if-not-links_allowed.true-raw))
+    sym (links-wrong c.args.arena.now c.args.before (sym linked ∙ not-true _ c.if-not-links_allowed.true-raw))
 
 pub returns-then-not-kind_allowed : goal.returns-then-not-kind_allowed
 returns-then-not-kind_allowed c =
@@ -45,7 +45,7 @@ returns-then-not-kind_allowed c =
       origin = c.origin.result;
       has_specs = c.has_specs.result;
     } in
-    let read : let a = c.args in numbers ≡ numbers_in a.arena.now a.before.count =
+    let read : numbers ≡ numbers_in c.args.arena.now c.args.before.count =
     λ i. record {
       arc = c.requires.arc_value.0 i;
       flags = c.flags.ensures i;
@@ -53,12 +53,11 @@ returns-then-not-kind_allowed c =
       origin = c.origin.ensures i;
       has_specs = c.has_specs.ensures i;
     } in
-    let linked : let a = c.args in c.links_allowed.result ≡ links a.arena.now a.before =
+    let linked : c.links_allowed.result ≡ links c.args.arena.now c.args.before =
     c.links_allowed.ensures ∙ ap (links_at c.args.before) read in
-    let allowed : let a = c.args in c.kind_allowed.result ≡ kind a.arena.now a.before =
+    let allowed : c.kind_allowed.result ≡ kind c.args.arena.now c.args.before =
     c.kind_allowed.ensures ∙ ap (kind_at c.args.before) read in
-    let a = c.args in
-    sym (kind-wrong a.arena.now a.before (sym linked ∙ not-false _ c.if-not-links_allowed.false-raw) (sym allowed ∙ not-true _ c.if-not-kind_allowed.true-raw))
+    sym (kind-wrong c.args.arena.now c.args.before (sym linked ∙ not-false _ c.if-not-links_allowed.false-raw) (sym allowed ∙ not-true _ c.if-not-kind_allowed.true-raw))
 
 pub returns : goal.returns
 returns c =
@@ -70,7 +69,7 @@ returns c =
       origin = c.origin.result;
       has_specs = c.has_specs.result;
     } in
-    let read : let a = c.args in numbers ≡ numbers_in a.arena.now a.before.count =
+    let read : numbers ≡ numbers_in c.args.arena.now c.args.before.count =
     λ i. record {
       arc = c.requires.arc_value.0 i;
       flags = c.flags.ensures i;
@@ -78,9 +77,9 @@ returns c =
       origin = c.origin.ensures i;
       has_specs = c.has_specs.ensures i;
     } in
-    let linked : let a = c.args in c.links_allowed.result ≡ links a.arena.now a.before =
+    let linked : c.links_allowed.result ≡ links c.args.arena.now c.args.before =
     c.links_allowed.ensures ∙ ap (links_at c.args.before) read in
-    let allowed : let a = c.args in c.kind_allowed.result ≡ kind a.arena.now a.before =
+    let allowed : c.kind_allowed.result ≡ kind c.args.arena.now c.args.before =
     c.kind_allowed.ensures ∙ ap (kind_at c.args.before) read in
     let bs = c.args.arena.now in
     let b = c.args.before in

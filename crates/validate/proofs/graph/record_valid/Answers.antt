@@ -24,38 +24,38 @@ returns-then-length-2 c =
 
 pub returns-then-not-numbers_valid : goal.returns-then-not-numbers_valid
 returns-then-not-numbers_valid c =
-    let fits : let a = c.args in HasPath a.arena.now a.before.count =
+    let fits : HasPath c.args.arena.now c.args.before.count =
     record { slot = c.requires.has_slot.0; numbered = omega (arith, c.if-length.false, c.requires.has_slot.1); short = omega (arith, c.if-length-2.false, c.requires.has_slot.1) } in
     sym (numbers-wrong _ _ fits (omega (arith, c.if-length.false, c.requires.has_slot.1)) (sym c.numbers_valid.ensures ∙ not-true _ c.if-not-numbers_valid.true-raw))
 
 pub depth_valid-requires : goal.depth_valid-requires
 depth_valid-requires c =
-    let numbered : let a = c.args in numbers_valid a.arena.now a.before ≡ true =
+    let numbered : numbers_valid c.args.arena.now c.args.before ≡ true =
     sym c.numbers_valid.ensures ∙ not-false _ c.if-not-numbers_valid.false-raw in
     let same = c.parent-parent.ensures in
     (c.requires.has_slot.0, same, λ l. omega (arith, numbers-lower _ _ numbered l, same))
 
 pub returns-then-not-depth_valid : goal.returns-then-not-depth_valid
 returns-then-not-depth_valid c =
-    let fits : let a = c.args in HasPath a.arena.now a.before.count =
+    let fits : HasPath c.args.arena.now c.args.before.count =
     record { slot = c.requires.has_slot.0; numbered = omega (arith, c.if-length.false, c.requires.has_slot.1); short = omega (arith, c.if-length-2.false, c.requires.has_slot.1) } in
-    let numbered : let a = c.args in numbers_valid a.arena.now a.before ≡ true =
+    let numbered : numbers_valid c.args.arena.now c.args.before ≡ true =
     sym c.numbers_valid.ensures ∙ not-false _ c.if-not-numbers_valid.false-raw in
     sym (depth-wrong _ _ fits (omega (arith, c.if-length.false, c.requires.has_slot.1)) numbered
     (sym c.depth_valid.ensures ∙ not-true _ c.if-not-depth_valid.true-raw))
 
 pub has_names-requires : goal.has_names-requires
 has_names-requires c =
-    let fits : let a = c.args in HasPath a.arena.now a.before.count =
+    let fits : HasPath c.args.arena.now c.args.before.count =
     record { slot = c.requires.has_slot.0; numbered = omega (arith, c.if-length.false, c.requires.has_slot.1); short = omega (arith, c.if-length-2.false, c.requires.has_slot.1) } in
     let long = path-length c.args.arena.now c.args.before.count fits in
     let same = ap length c.path.ensures in record { tables = c.requires.tables; in_bounds = (omega (arith, long, same, c.if-length.false, c.requires.has_slot.1), omega (arith, long, same, c.if-length-2.false, c.requires.has_slot.1)) }
 
 pub returns : goal.returns
 returns c =
-    let fits : let a = c.args in HasPath a.arena.now a.before.count =
+    let fits : HasPath c.args.arena.now c.args.before.count =
     record { slot = c.requires.has_slot.0; numbered = omega (arith, c.if-length.false, c.requires.has_slot.1); short = omega (arith, c.if-length-2.false, c.requires.has_slot.1) } in
-    let numbered : let a = c.args in numbers_valid a.arena.now a.before ≡ true =
+    let numbered : numbers_valid c.args.arena.now c.args.before ≡ true =
     sym c.numbers_valid.ensures ∙ not-false _ c.if-not-numbers_valid.false-raw in
     c.has_names.ensures ∙ (λ i. is_names (c.prim_count-prims.ensures i) (count_prims (c.path.ensures i)))
     ∙ sym (names-left _ _ fits (omega (arith, c.if-length.false, c.requires.has_slot.1)) numbered

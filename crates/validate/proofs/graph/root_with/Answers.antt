@@ -5,7 +5,7 @@ use Rattle.validate.proofs.graph.root_with.Goals as goal
 
 pub returns-then-arc-ne-ROOT : goal.returns-then-arc-ne-ROOT
 returns-then-arc-ne-ROOT c =
-    let s = c.args in sym (root_kept s.n s.arc s.root c.if-arc-ne-ROOT.true)
+    sym (root_kept c.args.n c.args.arc c.args.root c.if-arc-ne-ROOT.true)
 
 pub returns : goal.returns
 returns c =

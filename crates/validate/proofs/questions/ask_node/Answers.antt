@@ -24,15 +24,13 @@ pub returns-in-Done : goal.returns-in-Done
 returns-in-Done c =
     let has-node : let bs = c.args.arena.now in ValidArena bs × (0 < count_in bs) =
     some-node _ (sym (rw c.in-Done.is at c.ask_node_zero-asked.ensures)) in
-    let a = c.args in
-    let bs = a.arena.now in
+    let bs = c.args.arena.now in
     let there = has-node in
-    c.ask_number.ensures ∙ ap (λ (k : ℕ). refusal (ask 4 (ltb a.n k) ∷ [])) (sym (sizes bs there.0))
-    ∙ sym (node-zero-passed bs (ask 4 (ltb a.n (size (decode bs))) ∷ []) there.0 there.1)
+    c.ask_number.ensures ∙ ap (λ (k : ℕ). refusal (ask 4 (ltb c.args.n k) ∷ [])) (sym (sizes bs there.0))
+    ∙ sym (node-zero-passed bs (ask 4 (ltb c.args.n (size (decode bs))) ∷ []) there.0 there.1)
 
 pub returns-in-Refused : goal.returns-in-Refused
 returns-in-Refused c =
-    let a = c.args in
-    let g = decode a.arena.now in
-    refused-before c.in-Refused.refusal (ask_arena a.arena.now (has_node_zero g ∷ [])) (ask 4 (ltb a.n (size g)) ∷ [])
+    let g = decode c.args.arena.now in
+    refused-before c.in-Refused.refusal (ask_arena c.args.arena.now (has_node_zero g ∷ [])) (ask 4 (ltb c.args.n (size g)) ∷ [])
     (rw c.in-Refused.is at c.ask_node_zero-asked.ensures)

@@ -17,10 +17,8 @@ pub returns-in-Done : goal.returns-in-Done
 returns-in-Done c =
     let reads-it : ValidNode c.args.arena.now c.args.a =
     readable _ _ (sym (rw c.in-Done.is at c.ask_node-asked.ensures)) in
-    let a = c.args in
-    c.ask_number.ensures ∙ sym (number-left a.arena.now a.a a.b reads-it)
+    c.ask_number.ensures ∙ sym (number-left c.args.arena.now c.args.a c.args.b reads-it)
 
 pub returns-in-Refused : goal.returns-in-Refused
 returns-in-Refused c =
-    let a = c.args in
-    refused-first a.arena.now a.a a.b c.in-Refused.refusal (rw c.in-Refused.is at c.ask_node-asked.ensures)
+    refused-first c.args.arena.now c.args.a c.args.b c.in-Refused.refusal (rw c.in-Refused.is at c.ask_node-asked.ensures)

@@ -7,10 +7,8 @@ use Rattle.validate.proofs.questions.ask_number.Goals as goal
 
 pub returns-then-n-count : goal.returns-then-n-count
 returns-then-n-count c =
-    let a = c.args in
-    rw (le-ltb a.n (count_in a.arena.now) (omega (arith, c.count.ensures, c.if-n-count.true)))
+    rw (le-ltb c.args.n (count_in c.args.arena.now) (omega (arith, c.count.ensures, c.if-n-count.true)))
 
 pub returns : goal.returns
 returns c =
-    let a = c.args in
-    rw (lt-ltb a.n (count_in a.arena.now) (omega (arith, c.count.ensures, c.if-n-count.false)))
+    rw (lt-ltb c.args.n (count_in c.args.arena.now) (omega (arith, c.count.ensures, c.if-n-count.false)))

@@ -19,18 +19,16 @@ parent-requires-2 c =
 
 pub returns-then-parent : goal.returns-then-parent
 returns-then-parent c =
-    let a = c.args in
-    let ns = (decode a.arena.now).nodes in
+    let ns = (decode c.args.arena.now).nodes in
     rw (
-      ne_eqb a.a a.b c.if-a-b.false,
-      ne_eqb (node_at ns a.a).parent (node_at ns a.b).parent (λ e. c.if-parent.true (c.parent.ensures ∙ e ∙ sym c.parent-2.ensures)),
+      ne_eqb c.args.a c.args.b c.if-a-b.false,
+      ne_eqb (node_at ns c.args.a).parent (node_at ns c.args.b).parent (λ e. c.if-parent.true (c.parent.ensures ∙ e ∙ sym c.parent-2.ensures)),
     )
 
 pub returns : goal.returns
 returns c =
-    let a = c.args in
-    let ns = (decode a.arena.now).nodes in
+    let ns = (decode c.args.arena.now).nodes in
     rw (
-      ne_eqb a.a a.b c.if-a-b.false,
-      eq-eqb (node_at ns a.a).parent (node_at ns a.b).parent (sym c.parent.ensures ∙ c.if-parent.false ∙ c.parent-2.ensures),
+      ne_eqb c.args.a c.args.b c.if-a-b.false,
+      eq-eqb (node_at ns c.args.a).parent (node_at ns c.args.b).parent (sym c.parent.ensures ∙ c.if-parent.false ∙ c.parent-2.ensures),
     )

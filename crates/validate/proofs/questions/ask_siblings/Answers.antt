@@ -20,13 +20,11 @@ pub returns-in-Done : goal.returns-in-Done
 returns-in-Done c =
     let reads_both : ValidNode c.args.arena.now c.args.a × ValidNode c.args.arena.now c.args.b =
     both-readable _ _ _ (sym (rw c.in-Done.is at c.ask_nodes-asked.ensures)) in
-    let a = c.args in
     let both = reads_both in
-    c.ask_parents.ensures ∙ sym (parents-left a.arena.now a.a a.b both.0 both.1)
+    c.ask_parents.ensures ∙ sym (parents-left c.args.arena.now c.args.a c.args.b both.0 both.1)
 
 pub returns-in-Refused : goal.returns-in-Refused
 returns-in-Refused c =
-    let a = c.args in
-    let bs = a.arena.now in
-    refused-before c.in-Refused.refusal (ask_arena bs (compares_nodes (decode bs) a.a a.b)) (ask 8 (has_one_parent bs a.a a.b) ∷ [])
+    let bs = c.args.arena.now in
+    refused-before c.in-Refused.refusal (ask_arena bs (compares_nodes (decode bs) c.args.a c.args.b)) (ask 8 (has_one_parent bs c.args.a c.args.b) ∷ [])
     (rw c.in-Refused.is at c.ask_nodes-asked.ensures)

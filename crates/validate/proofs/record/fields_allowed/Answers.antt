@@ -9,17 +9,14 @@ use Rattle.validate.proofs.record.fields_allowed.Goals as goal
 
 pub returns-then-numbers-gt1 : goal.returns-then-numbers-gt1
 returns-then-numbers-gt1 c =
-    let a = c.args in
-    rw (lt-leb a.numbers.has_specs 1 c.if-numbers-gt1.true) (sym (and-false (a.before.any_flags || ltb a.numbers.flags 16)))
+    rw (lt-leb c.args.numbers.has_specs 1 c.if-numbers-gt1.true) (sym (and-false (c.args.before.any_flags || ltb c.args.numbers.flags 16)))
 
 pub returns-then-numbers-gt15 : goal.returns-then-numbers-gt15
 returns-then-numbers-gt15 c =
-    let a = c.args in
-    rw (le-ltb a.numbers.flags 16 c.if-numbers-gt15.true, le-leb a.numbers.has_specs 1 c.if-numbers-gt1.false)
-    (sym (and-true _ ∙ or-false a.before.any_flags))
+    rw (le-ltb c.args.numbers.flags 16 c.if-numbers-gt15.true, le-leb c.args.numbers.has_specs 1 c.if-numbers-gt1.false)
+    (sym (and-true _ ∙ or-false c.args.before.any_flags))
 
 pub returns : goal.returns
 returns c =
-    let a = c.args in
-    rw (lt-ltb a.numbers.flags 16 (omega (arith, c.if-numbers-gt15.false)), le-leb a.numbers.has_specs 1 c.if-numbers-gt1.false)
-    (sym (and-true _ ∙ or-true a.before.any_flags))
+    rw (lt-ltb c.args.numbers.flags 16 (omega (arith, c.if-numbers-gt15.false)), le-leb c.args.numbers.has_specs 1 c.if-numbers-gt1.false)
+    (sym (and-true _ ∙ or-true c.args.before.any_flags))

@@ -23,5 +23,4 @@ returns-then-before-ge-MAX_NODES c =
 
 pub returns : goal.returns
 returns c =
-    let a = c.args in
-    rw (lt-ltb a.before.count 1024 c.if-before-ge-MAX_NODES.false) (left_over a.before.path_bytes a.«path-length» c.requires)
+    rw (lt-ltb c.args.before.count 1024 c.if-before-ge-MAX_NODES.false) (left_over c.args.before.path_bytes c.args.«path-length» c.requires)

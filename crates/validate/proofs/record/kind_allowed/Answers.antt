@@ -23,38 +23,34 @@ returns-then-numbers-gt-SPECIALIZE c =
 
 pub returns-then-not-fields_allowed : goal.returns-then-not-fields_allowed
 returns-then-not-fields_allowed c =
-    let a = c.args in
     rw (sym c.fields_allowed.ensures ∙ not-true _ c.if-not-fields_allowed.true-raw)
-    (sym (last-fails (arc_at a.before a.numbers) (culled_at a.before a.numbers)))
+    (sym (last-fails (arc_at c.args.before c.args.numbers) (culled_at c.args.before c.args.numbers)))
 
 pub returns-then-numbers-eq-ROOT : goal.returns-then-numbers-eq-ROOT
 returns-then-numbers-eq-ROOT c =
-    let a = c.args in
-    let whole = not (has_flag culled_flag a.numbers.flags) in
+    let whole = not (has_flag culled_flag c.args.numbers.flags) in
     rw (
-      le-leb a.numbers.arc 6 c.if-numbers-gt-SPECIALIZE.false,
+      le-leb c.args.numbers.arc 6 c.if-numbers-gt-SPECIALIZE.false,
       sym c.fields_allowed.ensures ∙ not-false _ c.if-not-fields_allowed.false-raw,
-      eq-eqb a.numbers.arc 0 c.if-numbers-eq-ROOT.true,
+      eq-eqb c.args.numbers.arc 0 c.if-numbers-eq-ROOT.true,
     )
     (c.root_allowed.ensures
-    ∙ ap (λ (t : Bool). root_place_at a.before a.numbers && t) (either_way a.before.culled_allowed whole ∙ sym (and-true _)))
+    ∙ ap (λ (t : Bool). root_place_at c.args.before c.args.numbers && t) (either_way c.args.before.culled_allowed whole ∙ sym (and-true _)))
 
 pub returns-then-before : goal.returns-then-before
 returns-then-before c =
-    let a = c.args in
     rw (
-      le-leb a.numbers.arc 6 c.if-numbers-gt-SPECIALIZE.false,
+      le-leb c.args.numbers.arc 6 c.if-numbers-gt-SPECIALIZE.false,
       sym c.fields_allowed.ensures ∙ not-false _ c.if-not-fields_allowed.false-raw,
-      ne_eqb a.numbers.arc 0 c.if-numbers-eq-ROOT.false,
+      ne_eqb c.args.numbers.arc 0 c.if-numbers-eq-ROOT.false,
       c.if-before.true,
     )
 
 pub returns : goal.returns
 returns c =
-    let a = c.args in
     rw (
-      le-leb a.numbers.arc 6 c.if-numbers-gt-SPECIALIZE.false,
+      le-leb c.args.numbers.arc 6 c.if-numbers-gt-SPECIALIZE.false,
       sym c.fields_allowed.ensures ∙ not-false _ c.if-not-fields_allowed.false-raw,
-      ne_eqb a.numbers.arc 0 c.if-numbers-eq-ROOT.false,
+      ne_eqb c.args.numbers.arc 0 c.if-numbers-eq-ROOT.false,
       c.if-before.false,
-    ) (ap not c.is_culled.ensures ∙ sym (and-true (not (has_flag culled_flag a.numbers.flags))))
+    ) (ap not c.is_culled.ensures ∙ sym (and-true (not (has_flag culled_flag c.args.numbers.flags))))

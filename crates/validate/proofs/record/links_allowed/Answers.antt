@@ -10,10 +10,8 @@ returns-then-before-eq0 c =
 
 pub returns-then-numbers-before : goal.returns-then-numbers-before
 returns-then-numbers-before c =
-    let a = c.args in
-    rw (ne_eqb a.before.count 0 c.if-before-eq0.false, le-ltb a.numbers.parent a.before.count c.if-numbers-before.true)
+    rw (ne_eqb c.args.before.count 0 c.if-before-eq0.false, le-ltb c.args.numbers.parent c.args.before.count c.if-numbers-before.true)
 
 pub returns : goal.returns
 returns c =
-    let a = c.args in
-    rw (ne_eqb a.before.count 0 c.if-before-eq0.false, lt-ltb a.numbers.parent a.before.count c.if-numbers-before.false)
+    rw (ne_eqb c.args.before.count 0 c.if-before-eq0.false, lt-ltb c.args.numbers.parent c.args.before.count c.if-numbers-before.false)

@@ -40,18 +40,18 @@ parent-requires c =
 
 pub replaced-instance-requires-in-loop-instance : goal.replaced-instance-requires-in-loop-instance
 replaced-instance-requires-in-loop-instance c =
-    parent-stands c.loop-instance.invariant c.loop-instance-test.taken c.parent.ensures
+    parent-stands c.loop-instance.invariant c.loop-instance-test.true c.parent.ensures
 
 pub loop-instance-smaller : goal.loop-instance-smaller
 loop-instance-smaller c =
-    rising-falls c.loop-instance.invariant c.loop-instance-test.taken c.parent.ensures
+    rising-falls c.loop-instance.invariant c.loop-instance-test.true c.parent.ensures
     c.replaced-instance-in-loop-instance.ensures
 
 pub loop-instance-preserved : goal.loop-instance-preserved
 loop-instance-preserved c =
     let based =
     sym c.is_class_based.ensures ∙ not-false _ c.if-not-is_class_based.false-raw in
-    rising_step c.loop-instance.invariant c.loop-instance-test.taken c.parent.ensures
+    rising_step c.loop-instance.invariant c.loop-instance-test.true c.parent.ensures
     c.replaced-instance-in-loop-instance.ensures c.arc.ensures based
     c.depth_below.ensures.0 c.if-depth_below-depth.false
 

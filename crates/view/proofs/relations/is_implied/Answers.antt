@@ -20,5 +20,4 @@ pub returns : goal.returns
 returns c =
     let origin : c.origin-origin.result ≡ (view_in c.args.arena.now).origin c.args.n =
     c.origin-origin.ensures ∙ sym (seen _ _ c.requires.0).origin in
-    let a = c.args in
-    ap not (c.same_site.ensures ∙ ap ((view_in a.arena.now).same_site a.n) origin)
+    ap not (c.same_site.ensures ∙ ap ((view_in c.args.arena.now).same_site c.args.n) origin)

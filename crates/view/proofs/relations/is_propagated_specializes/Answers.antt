@@ -15,15 +15,13 @@ arc-requires c =
 
 pub returns-then-arc-ne-SPECIALIZE : goal.returns-then-arc-ne-SPECIALIZE
 returns-then-arc-ne-SPECIALIZE c =
-    let stands = c.requires in
-    sym (not-specialize _ _ _ stands (λ e. c.if-arc-ne-SPECIALIZE.true (c.arc.ensures ∙ sym (seen _ _ stands.readable).arc ∙ e)))
+    sym (not-specialize _ _ _ c.requires (λ e. c.if-arc-ne-SPECIALIZE.true (c.arc.ensures ∙ sym (seen _ _ c.requires.readable).arc ∙ e)))
 
 pub returns-then-root-eq0 : goal.returns-then-root-eq0
 returns-then-root-eq0 c =
     let specialize : (view_in c.args.arena.now).arc c.args.n ≡ specialize_arc =
     (seen _ _ c.requires.readable).arc ∙ sym c.arc.ensures ∙ c.if-arc-ne-SPECIALIZE.false in
-    let a = c.args in
-    rw (propagated-read _ _ _ c.requires specialize, eq-eqb a.root 0 c.if-root-eq0.true)
+    rw (propagated-read _ _ _ c.requires specialize, eq-eqb c.args.root 0 c.if-root-eq0.true)
 
 pub parent-requires : goal.parent-requires
 parent-requires c =
@@ -35,11 +33,10 @@ returns-then-parent-root c =
     (seen _ _ c.requires.readable).arc ∙ sym c.arc.ensures ∙ c.if-arc-ne-SPECIALIZE.false in
     let parent : c.parent.result ≡ (view_in c.args.arena.now).parent c.args.n =
     c.parent.ensures ∙ sym (seen _ _ c.requires.readable).parent in
-    let a = c.args in
     rw (
       propagated-read _ _ _ c.requires specialize,
-      ne_eqb a.root 0 c.if-root-eq0.false,
-      ne_eqb ((view_in a.arena.now).parent a.n) a.root (λ e. c.if-parent-root.true (parent ∙ e)),
+      ne_eqb c.args.root 0 c.if-root-eq0.false,
+      ne_eqb ((view_in c.args.arena.now).parent c.args.n) c.args.root (λ e. c.if-parent-root.true (parent ∙ e)),
     )
 
 pub origin-origin-requires : goal.origin-origin-requires
@@ -52,8 +49,7 @@ same_site-requires c =
     (seen _ _ c.requires.readable).arc ∙ sym c.arc.ensures ∙ c.if-arc-ne-SPECIALIZE.false in
     let origin : c.origin-origin.result ≡ (view_in c.args.arena.now).origin c.args.n =
     c.origin-origin.ensures ∙ sym (seen _ _ c.requires.readable).origin in
-    let stands = c.requires in
-    (stands.readable, rw origin (readable-origin _ _ stands.readable (specialize-positive _ _ _ stands specialize)))
+    (c.requires.readable, rw origin (readable-origin _ _ c.requires.readable (specialize-positive _ _ _ c.requires specialize)))
 
 pub returns : goal.returns
 returns c =
@@ -63,9 +59,8 @@ returns c =
     c.parent.ensures ∙ sym (seen _ _ c.requires.readable).parent in
     let origin : c.origin-origin.result ≡ (view_in c.args.arena.now).origin c.args.n =
     c.origin-origin.ensures ∙ sym (seen _ _ c.requires.readable).origin in
-    let a = c.args in
     rw (
       propagated-read _ _ _ c.requires specialize,
-      ne_eqb a.root 0 c.if-root-eq0.false,
-      eq-eqb ((view_in a.arena.now).parent a.n) a.root (sym parent ∙ c.if-parent-root.false),
-    ) (c.same_site.ensures ∙ ap ((view_in a.arena.now).same_site a.n) origin)
+      ne_eqb c.args.root 0 c.if-root-eq0.false,
+      eq-eqb ((view_in c.args.arena.now).parent c.args.n) c.args.root (sym parent ∙ c.if-parent-root.false),
+    ) (c.same_site.ensures ∙ ap ((view_in c.args.arena.now).same_site c.args.n) origin)

@@ -20,7 +20,6 @@ stack-requires-2 c =
 
 pub returns : goal.returns
 returns c =
-    let stands = c.requires in
     let some = c.if-root-eq0.false in
-    ap₂ eqb (c.stack.ensures ∙ sym (seen _ _ (root-readable _ _ _ stands some)).stack) (c.stack-2.ensures ∙ sym (seen _ _ stands.readable).stack)
-    ∙ sym (local-stack-read _ _ _ stands some)
+    ap₂ eqb (c.stack.ensures ∙ sym (seen _ _ (root-readable _ _ _ c.requires some)).stack) (c.stack-2.ensures ∙ sym (seen _ _ c.requires.readable).stack)
+    ∙ sym (local-stack-read _ _ _ c.requires some)

@@ -21,10 +21,9 @@ stack-requires-2 c =
 pub returns-then-stack : goal.returns-then-stack
 unfolding same_site
 returns-then-stack c =
-    let a = c.args in
     let left = seen _ _ c.requires.0 in
     let right = seen _ _ c.requires.1 in
-    rw (ne_eqb (node_at (decode a.arena.now).nodes a.a).stack (node_at (decode a.arena.now).nodes a.b).stack
+    rw (ne_eqb (node_at (decode c.args.arena.now).nodes c.args.a).stack (node_at (decode c.args.arena.now).nodes c.args.b).stack
     (λ e. c.if-stack.true (c.stack.ensures ∙ sym left.stack ∙ e ∙ right.stack ∙ sym c.stack-2.ensures)))
 
 pub path-requires : goal.path-requires
@@ -38,9 +37,8 @@ path-requires-2 c =
 pub returns : goal.returns
 unfolding same_site
 returns c =
-    let a = c.args in
     let left = seen _ _ c.requires.0 in
     let right = seen _ _ c.requires.1 in
-    rw (eq-eqb (node_at (decode a.arena.now).nodes a.a).stack (node_at (decode a.arena.now).nodes a.b).stack
+    rw (eq-eqb (node_at (decode c.args.arena.now).nodes c.args.a).stack (node_at (decode c.args.arena.now).nodes c.args.b).stack
     (left.stack ∙ sym c.stack.ensures ∙ c.if-stack.false ∙ c.stack-2.ensures ∙ sym right.stack))
     (c.same_path.ensures ∙ ap₂ same_path (c.path.ensures ∙ sym left.path) (c.path-2.ensures ∙ sym right.path))
