@@ -12,7 +12,7 @@ returns c =
     let parent = c.node_or-parent.ensures in
     let origin = c.node_or.ensures ∙ ap (given_or (node_option d.origin)) parent in
     let depth = c.depth_or.ensures ∙ ap (given_or (number_option d.depth)) c.default_depth-default.ensures in
-    let rest = added_record c.args.arena.now d c.args.prims c.args.path-length in
+    let rest = added_record c.args.arena.now d c.args.prims c.args.path_length in
     λ i. record {
       first_child = rest.first_child;
       last_child = rest.last_child;
