@@ -9,5 +9,5 @@ use Rattle.arena.proofs.slot.write_specs.Goals as goal
 
 pub returns : goal.returns
 returns c =
-    run-stored (slot_at c.args.n) 43 (big_endian 2 c.args.«spec-from» ∷ []) (big_endian 1 c.args.«has-specs») c.args.arena.now _
+    run-stored (slot_at c.args.n) 43 (big_endian 2 c.args.spec_from ∷ []) (big_endian 1 c.args.has_specs) c.args.arena.now _
     (omega (arith, c.requires)) (_, c.write_u16.ensures, c.write_u8.ensures)

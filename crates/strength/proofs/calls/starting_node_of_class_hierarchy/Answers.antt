@@ -23,7 +23,7 @@ pub returns-in-Done : goal.returns-in-Done
 returns-in-Done c =
     let found = c.starting_node_of_class_hierarchy-found.ensures in
     one-hierarchy _ _ _ _ _ (sym (rw c.in-Done.is at c.ask_node-asked.ensures))
-    found.instance (c.of.ensures ∙ ap optional found.«class-node»)
+    found.instance (c.of.ensures ∙ ap optional found.class_node)
 
 pub returns-in-Refused : goal.returns-in-Refused
 returns-in-Refused c =

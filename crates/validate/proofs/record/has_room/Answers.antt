@@ -23,4 +23,4 @@ returns-then-before-ge-MAX_NODES c =
 
 pub returns : goal.returns
 returns c =
-    rw (lt-ltb c.args.before.count 1024 c.if-before-ge-MAX_NODES.false) (left_over c.args.before.path_bytes c.args.«path-length» c.requires)
+    rw (lt-ltb c.args.before.count 1024 c.if-before-ge-MAX_NODES.false) (left_over c.args.before.path_bytes c.args.path_length c.requires)
