@@ -16,6 +16,18 @@ use Rattle.arena.specs.Slot.{HasSlot, Loaded, with_first_child, with_last_child,
 use Rattle.child_lists.specs.Append.{three_links, sibling_linked}
 use Rattle.child_lists.proofs.append.link_child.Goals as goal
 
+-- ---- A record loaded, and stored with other links
+
+module _ (bs : List ℕ) (k : ℕ) (x : Node) (id : NodeId) (loaded : Loaded bs k x) where
+  only_child : links_stored k (with_first_child id (with_last_child id x)) bs ≡ three_links k id.0 id.0 (next_sibling_in bs k) bs
+  only_child = ap (λ (next : ℕ). three_links k id.0 id.0 next bs) loaded.next_sibling
+
+  last-child : links_stored k (with_last_child id x) bs ≡ three_links k (first_child_in bs k) id.0 (next_sibling_in bs k) bs
+  last-child = λ i. three_links k (loaded.first_child i) id.0 (loaded.next_sibling i) bs
+
+  next-sibling : links_stored k (with_next_sibling id x) bs ≡ sibling_linked k id.0 bs
+  next-sibling = λ i. three_links k (loaded.first_child i) (loaded.last_child i) id.0 bs
+
 -- ---- The needs
 abbrev number : ℕ → NodeId
 number n = record { 0 = n }

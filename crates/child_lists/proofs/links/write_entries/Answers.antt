@@ -10,11 +10,8 @@ use borrow.Author.Rules.{rules}
 use Rattle.model.specs.Arena.{tabulate, order_stored}
 use Rattle.arena.proofs.StoredEntries.{Storing, storing-start, storing-step, storing-end}
 use Rattle.arena.proofs.TabulateLaws.{tabulate-same}
+use Rattle.child_lists.proofs.links.write_entries.Invariants.{entry_of}
 use Rattle.child_lists.proofs.links.write_entries.Goals as goal
-
--- the entries, by place
-abbrev entry_of : List ℕ → ℕ → ℕ
-entry_of order n = get_or order n 0
 
 all-entries : (count : ℕ) (order : List ℕ) → count ≤ length order
     → tabulate (entry_of order) 0 count ≡ slice 0 count order

@@ -12,6 +12,10 @@ use Rattle.arena.proofs.StoredEntries.{Storing, storing-start, storing-step, sto
 use Rattle.arena.proofs.TabulateLaws.{tabulate-same}
 use Rattle.child_lists.proofs.links.write_entries.Given as goal
 
+-- the entries, by place
+abbrev pub entry_of : List ℕ → ℕ → ℕ
+entry_of order n = get_or order n 0
+
 abbrev pub invariant-loop-n : goal.invariant-loop-n
 invariant-loop-n l = Storing (entry_of l.order) l.initial.arena l.count l.arena l.n
 
