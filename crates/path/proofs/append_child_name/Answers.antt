@@ -1,12 +1,11 @@
 -- `append_child_name` meets its contract: the questions in their order, and then the bytes. Assumes
 -- nothing.
-use borrow.Author.Rules.{rules}
 use native.Mathlib.Omega.{arith}
 use Rattle.path.proofs.JoiningLaws.{joinable-short, refused-size, refused-path, refused-capacity, joinable, joinable-named, accepted}
 use Rattle.path.proofs.JoinLaws.{length-append-name}
 use mathlib.Core.Path.{refl, ◌∙◌, sym, ◌≡◌, ap}
 use borrow.Author.Tests.{not-true, not-false}
-use Prim.Native.Nat.{◌-◌, ℕ, ◌+◌}
+use Prim.Native.Nat.{ℕ, ◌+◌}
 use mathlib.Core.Bool.{true}
 use mathlib.Core.List.{List, ◌++◌}
 use lib.ListN.{length, drop}

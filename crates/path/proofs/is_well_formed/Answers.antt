@@ -1,5 +1,4 @@
 -- `is_well_formed` meets its contract, by what the count tells. Assumes nothing.
-use borrow.Author.Rules.{rules}
 use Rattle.path.proofs.ReadingLaws.{counted-well-formed, uncounted-malformed}
 use mathlib.Core.Path.{◌∙◌, sym}
 use Rattle.path.proofs.is_well_formed.Goals as goal

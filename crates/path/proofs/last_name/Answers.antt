@@ -1,5 +1,4 @@
 -- `last_name` meets its contract: what is left from the name's start on. Assumes nothing.
-use borrow.Author.Rules.{rules}
 use Prim.Native.Nat.{ℕ, ◌-◌, ◌≤◌}
 use Rattle.model.specs.Path.{last_name}
 use native.Mathlib.Omega.{arith}

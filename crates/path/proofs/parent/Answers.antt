@@ -1,7 +1,6 @@
 -- `parent` meets its contract: the front part has the parent's length. Assumes nothing.
-use borrow.Author.Rules.{rules}
 use mathlib.Core.Path.{sym, ap}
-use Prim.Native.Nat.{◌-◌, ℕ}
+use Prim.Native.Nat.{ℕ}
 use lib.Seq.{length-take-le}
 use Rattle.model.specs.Path.{parent}
 use lib.ListN.{take}

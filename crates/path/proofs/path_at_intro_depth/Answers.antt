@@ -1,8 +1,7 @@
 -- `path_at_intro_depth` meets its contract: the front part has the introduction path's length.
 -- Assumes nothing.
-use borrow.Author.Rules.{rules}
 use mathlib.Core.Path.{sym, ap}
-use Prim.Native.Nat.{◌-◌, ℕ}
+use Prim.Native.Nat.{ℕ}
 use lib.Seq.{length-take-le}
 use Rattle.model.specs.Path.{path_at_intro_depth}
 use lib.ListN.{take}

@@ -1,6 +1,5 @@
 -- `prim_count_by` meets its contract: what is longer than 255 bytes is no path, and the rest is
 -- read. Assumes nothing.
-use borrow.Author.Rules.{rules}
 use Rattle.path.proofs.ReadingLaws.{count-prims-long, count-prims-reads}
 use mathlib.Core.Path.{◌∙◌}
 use Rattle.path.proofs.prim_count_by.Goals as goal

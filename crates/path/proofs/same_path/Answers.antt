@@ -2,8 +2,8 @@
 -- is what is left of the length. Assumes nothing.
 use borrow.Author.Rules.{rules}
 use native.Mathlib.Omega.{arith}
-use Prim.Native.Nat.{ℕ, ◌-◌, ◌≤◌, ◌<◌}
-use mathlib.Core.Path.{◌≡◌, ap}
+use Prim.Native.Nat.{ℕ}
+use mathlib.Core.Path.{ap}
 use lib.ListN.{length, get_or}
 use Rattle.path.proofs.EqualLaws.{differ, all-equal}
 use mathlib.Core.List.{List}

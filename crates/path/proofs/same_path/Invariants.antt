@@ -1,13 +1,8 @@
 -- `same_path` meets its contract. The loop's invariant: the bytes before `i` are equal. The measure
 -- is what is left of the length. Assumes nothing.
-use borrow.Author.Rules.{rules}
-use native.Mathlib.Omega.{arith}
 use Prim.Native.Nat.{ℕ, ◌-◌, ◌≤◌, ◌<◌}
-use mathlib.Core.Path.{◌≡◌, ap}
+use mathlib.Core.Path.{◌≡◌}
 use lib.ListN.{length, get_or}
-use Rattle.path.proofs.EqualLaws.{differ, all-equal}
-use mathlib.Core.List.{List}
-use borrow.Author.Count.{below_more}
 use Rattle.path.proofs.same_path.Given as goal
 
 abbrev pub invariant-loop-i : goal.invariant-loop-i

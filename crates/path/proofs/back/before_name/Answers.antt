@@ -1,9 +1,7 @@
 -- `before_name` meets its contract: what the name starts after tells whether a slash goes with it.
 -- Assumes nothing.
-use borrow.Author.Rules.{rules}
 use native.Mathlib.Omega.{arith}
 use Rattle.path.proofs.BackwardLaws.{before-first, before-slash, before-bare}
-use Prim.Native.Nat.{◌-◌}
 use Rattle.path.proofs.back.before_name.Goals as goal
 
 pub returns-then-start-le1 : goal.returns-then-start-le1

@@ -1,5 +1,4 @@
 -- `ends_in` meets its contract: the byte before the end is tested. Assumes nothing.
-use borrow.Author.Rules.{rules}
 use Rattle.path.proofs.BackwardLaws.{ends-in-at}
 use Rattle.path.proofs.back.ends_in.Goals as goal
 

@@ -1,11 +1,8 @@
 -- `name_start` meets its contract. The loop's invariant: the first `k` bytes have the last name's
 -- start that the first `end` have. The measure is `k`. Assumes nothing.
-use borrow.Author.Rules.{rules}
 use native.Mathlib.Omega.{arith}
 use Rattle.path.proofs.BackwardLaws.{start-at-slash, start-at-brace, start-before, start_none}
-use mathlib.Core.Path.{◌≡◌, refl, ◌∙◌, sym}
-use Prim.Native.Nat.{◌≤◌, ◌-◌}
-use Rattle.model.specs.Path.{name_start}
+use mathlib.Core.Path.{refl, ◌∙◌, sym}
 use Rattle.path.proofs.back.name_start.Goals as goal
 
 pub loop-k-init : goal.loop-k-init

@@ -1,10 +1,7 @@
 -- `name_start` meets its contract. The loop's invariant: the first `k` bytes have the last name's
 -- start that the first `end` have. The measure is `k`. Assumes nothing.
-use borrow.Author.Rules.{rules}
-use native.Mathlib.Omega.{arith}
-use Rattle.path.proofs.BackwardLaws.{start-at-slash, start-at-brace, start-before, start_none}
-use mathlib.Core.Path.{◌≡◌, refl, ◌∙◌, sym}
-use Prim.Native.Nat.{◌≤◌, ◌-◌}
+use mathlib.Core.Path.{◌≡◌}
+use Prim.Native.Nat.{◌≤◌}
 use Rattle.model.specs.Path.{name_start}
 use Rattle.path.proofs.back.name_start.Given as goal
 

@@ -1,10 +1,8 @@
 -- `parent_length` meets its contract: the tests are the definition's, in its order. Assumes
 -- nothing.
-use borrow.Author.Rules.{rules}
 use native.Mathlib.Omega.{arith}
 use Rattle.path.proofs.BackwardLaws.{parent-selected, parent-none, parent-named}
 use mathlib.Core.Path.{◌∙◌, sym}
-use Prim.Native.Nat.{◌-◌}
 use lib.ListN.{length}
 use Rattle.path.proofs.back.parent_length.Goals as goal
 

@@ -1,11 +1,10 @@
 -- `selection_start` meets its contract. The loop's invariant: the last `{` of the first `k` bytes
 -- is that of the first `end`. The measure is `k`. Assumes nothing.
-use borrow.Author.Rules.{rules}
 use native.Mathlib.Omega.{arith}
 use Rattle.path.proofs.BackwardLaws.{brace-hit, after-miss, brace-none}
-use mathlib.Core.Path.{◌≡◌, refl, ◌∙◌, sym, ap}
-use Prim.Native.Nat.{◌≤◌, ◌-◌, pred}
-use Rattle.model.specs.Path.{open_brace, after_last}
+use mathlib.Core.Path.{refl, ◌∙◌, sym, ap}
+use Prim.Native.Nat.{pred}
+use Rattle.model.specs.Path.{open_brace}
 use Rattle.path.proofs.back.selection_start.Goals as goal
 
 pub loop-k-init : goal.loop-k-init

@@ -1,12 +1,10 @@
 -- `without_selections` meets its contract. The loop's invariant: what is left of the first `k`
 -- bytes is what is left of the first `end`.
 -- The measure is `k`. Assumes nothing.
-use borrow.Author.Rules.{rules}
 use native.Mathlib.Omega.{arith}
 use Rattle.path.proofs.BackwardLaws.{drops-one, ends-in-some}
-use mathlib.Core.Path.{◌≡◌, refl, ◌∙◌, sym, ap}
+use mathlib.Core.Path.{refl, ◌∙◌, sym, ap}
 use mathlib.Core.Bool.{false}
-use Prim.Native.Nat.{◌≤◌, ◌-◌}
 use Rattle.model.specs.Path.{without_selections, close_brace}
 use Rattle.laws.proofs.PathLemmas.{without-selections-none}
 use Rattle.path.proofs.back.without_selections.Goals as goal

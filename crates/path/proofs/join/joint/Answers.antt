@@ -1,8 +1,6 @@
 -- `joint` meets its contract: a slash is counted where one is put between. Assumes nothing.
-use borrow.Author.Rules.{rules}
 use Rattle.path.proofs.JoinLaws.{joined-slash, joined-brace, joined-between}
 use mathlib.Core.Path.{◌∙◌, sym}
-use Prim.Native.Nat.{◌-◌}
 use Rattle.path.proofs.join.joint.Goals as goal
 
 pub returns-then-ends_in : goal.returns-then-ends_in

@@ -1,9 +1,8 @@
 -- `put_joined` meets its contract: path, slash and name, each over what the last left. Assumes
 -- nothing.
-use borrow.Author.Rules.{rules}
 use native.Mathlib.Omega.{arith}
 use mathlib.Core.Path.{◌∙◌, ap}
-use Prim.Native.Nat.{◌-◌, ℕ, ◌+◌}
+use Prim.Native.Nat.{ℕ, ◌+◌}
 use lib.ListN.{length-set, length, take, drop, set}
 use Rattle.path.proofs.JoinLaws.{put-name}
 use native.Mathlib.Nat.{zero-add}

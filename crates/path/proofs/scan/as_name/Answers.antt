@@ -1,5 +1,4 @@
 -- `as_name` meets its contract, case by case. Assumes nothing.
-use borrow.Author.Rules.{rules}
 use Rattle.path.proofs.scan.as_name.Goals as goal
 
 pub returns-in-To : goal.returns-in-To

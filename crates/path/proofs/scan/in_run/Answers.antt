@@ -1,5 +1,4 @@
 -- `in_run` meets its contract: the tests are the definitions', in their order. Assumes nothing.
-use borrow.Author.Rules.{rules}
 use borrow.Author.Tests.{not-true, not-false, eq-eqb, ne_eqb}
 use mathlib.Core.Path.{◌≡◌, ◌∙◌, sym}
 use mathlib.Core.Bool.{Bool, true, false, ◌||◌, ◌&&◌}

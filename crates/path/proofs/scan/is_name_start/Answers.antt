@@ -1,6 +1,5 @@
 -- `is_name_start` meets its contract: the tests are the definition's, in its order. Assumes
 -- nothing.
-use borrow.Author.Rules.{rules}
 use mathlib.Core.Path.{◌∙◌, sym}
 use Rattle.model.specs.Path.{is_name_start}
 use Rattle.path.proofs.scan.is_name_start.Goals as goal

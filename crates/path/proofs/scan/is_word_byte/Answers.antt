@@ -1,5 +1,4 @@
 -- `is_word_byte` meets its contract: the tests are the definition's, in its order. Assumes nothing.
-use borrow.Author.Rules.{rules}
 use mathlib.Core.Path.{◌∙◌, sym}
 use Rattle.model.specs.Path.{is_word_byte}
 use Rattle.path.proofs.scan.is_word_byte.Goals as goal

@@ -1,6 +1,5 @@
 -- `read_element` meets its contract: a brace opens a selection, a name follows a slash or stands
 -- straight after a selection, and nothing else goes on. Assumes nothing.
-use borrow.Author.Rules.{rules}
 use Rattle.path.proofs.ReadingLaws.{element-selection, element-bare, element-slashed, no-element}
 use Rattle.path.proofs.scan.read_element.Goals as goal
 

@@ -1,6 +1,5 @@
 -- `read_name` meets its contract: a byte that begins a name must stand there, and the run behind it
 -- belongs to it. Assumes nothing.
-use borrow.Author.Rules.{rules}
 use native.Mathlib.Omega.{arith}
 use Rattle.path.proofs.ReadingLaws.{no_name, name-read, begins-within}
 use mathlib.Core.Path.{◌∙◌, sym}

@@ -1,6 +1,5 @@
 -- `read_path` meets its contract: the first slash, the first name, and what `read_elements` makes
 -- of the rest. Assumes nothing.
-use borrow.Author.Rules.{rules}
 use native.Mathlib.Omega.{arith}
 use Rattle.path.proofs.ReadingLaws.{empty-fails, unrooted-fails, only-root, rooted}
 use mathlib.Core.Path.{◌∙◌, sym}

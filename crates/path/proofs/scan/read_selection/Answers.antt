@@ -1,6 +1,5 @@
 -- `read_selection` meets its contract: set, `=`, selection and `}` are read in turn, and each that
 -- is missing fails the reading. Assumes nothing.
-use borrow.Author.Rules.{rules}
 use borrow.Author.Tests.{not-true, not-false}
 use native.Mathlib.Omega.{arith}
 use mathlib.Core.Path.{◌≡◌, ◌∙◌, sym}

@@ -1,12 +1,8 @@
 -- `run_end` meets its contract. The loop's invariant: every byte from `at` up to `i` is of the run.
 -- The measure is what is left of the length. Assumes nothing.
-use borrow.Author.Rules.{rules}
 use Rattle.path.proofs.ReadingLaws.{passed_none, passed-more, stops_at, stops-past}
-use Prim.Native.Nat.{◌-◌}
-use lib.ListN.{length}
 use mathlib.Core.Path.{◌∙◌, sym}
 use borrow.Author.Tests.{not-true, not-false}
-use Rattle.path.specs.PathReading.{in_run, Passed}
 use Rattle.path.proofs.scan.run_end.Goals as goal
 
 pub loop-i-init : goal.loop-i-init

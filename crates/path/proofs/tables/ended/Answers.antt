@@ -1,5 +1,4 @@
 -- `ended` meets its contract: the two states in which a path may end. Assumes nothing.
-use borrow.Author.Rules.{rules}
 use borrow.Author.Tests.{eq-eqb, ne_eqb}
 use Rattle.path.proofs.tables.ended.Goals as goal
 

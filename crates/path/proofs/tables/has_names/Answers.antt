@@ -1,6 +1,5 @@
 -- `has_names` meets its contract: the number that the reading ends with has the names and a state
 -- in which a path may end. Assumes nothing.
-use borrow.Author.Rules.{rules}
 use mathlib.Core.Path.{◌≡◌, sym, ap, ◌∙◌}
 use native.Mathlib.Omega.{arith}
 use borrow.Author.Tests.{eq-eqb, ne_eqb}

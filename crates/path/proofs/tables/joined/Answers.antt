@@ -1,6 +1,5 @@
 -- `joined` meets its contract: the parts of the number are the state and the names. Assumes
 -- nothing.
-use borrow.Author.Rules.{rules}
 use native.Mathlib.Omega.{arith}
 use Rattle.path.proofs.PathTables.{joined-ends}
 use Rattle.path.proofs.tables.joined.Goals as goal

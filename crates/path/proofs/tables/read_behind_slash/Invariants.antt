@@ -1,12 +1,9 @@
 -- `read_behind_slash` meets its contract. The loop's invariant is `Reached`: the reading from here
 -- comes to what it came to behind the first slash. The measure is what is left of the length.
 -- Assumes nothing.
-use borrow.Author.Rules.{rules}
 use Prim.Native.Nat.{◌-◌}
-use native.Mathlib.Omega.{arith}
 use lib.ListN.{length}
 use Rattle.path.specs.Tables.{Reached}
-use Rattle.path.proofs.PathTables.{reached-none, reached-four}
 use Rattle.path.proofs.tables.read_behind_slash.Given as goal
 
 abbrev pub invariant-loop-i : goal.invariant-loop-i

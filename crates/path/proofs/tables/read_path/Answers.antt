@@ -1,6 +1,5 @@
 -- `read_path` meets its contract: only `/` is a path that has no name behind its first slash.
 -- Assumes nothing.
-use borrow.Author.Rules.{rules}
 use mathlib.Core.Path.{sym, ◌∙◌}
 use native.Mathlib.Omega.{arith}
 use Rattle.path.proofs.ReadingLaws.{empty-fails, unrooted-fails, only-root, rooted}
