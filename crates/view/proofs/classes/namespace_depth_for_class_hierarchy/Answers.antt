@@ -1,6 +1,5 @@
 -- `namespace_depth_for_class_hierarchy` meets its contract: each call gives what the definition
 -- asks next. Assumes nothing.
-use borrow.Author.Rules.{rules}
 use mathlib.Core.Path.{ap, ◌∙◌}
 use native.Mathlib.Omega.{arith}
 use Rattle.model.specs.ArenaCalls.{ValidNode}

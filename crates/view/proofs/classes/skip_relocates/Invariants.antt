@@ -1,6 +1,6 @@
 -- `skip_relocates` meets its contract. The loop's invariant: the walk from `node` on comes to where
 -- that from n comes. The measure is `node`. Assumes nothing.
-use Rattle.view.proofs.WalkLoops.{Skipping, skipping-start, skipping-zero, skipping-stop, skipping-falls, skipping_step}
+use Rattle.view.proofs.WalkLoops.{Skipping}
 use Rattle.view.proofs.classes.skip_relocates.Given as goal
 
 abbrev pub invariant-loop-node : goal.invariant-loop-node

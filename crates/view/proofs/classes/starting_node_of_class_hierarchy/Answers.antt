@@ -1,10 +1,9 @@
 -- `starting_node_of_class_hierarchy` meets its contract. The loop's invariant: the walk from
 -- `instance` on comes to where that from n comes, and the last node that it leaves, or else
 -- `class_node`, is the one that that leaves. The measure is `instance`. Assumes nothing.
-use borrow.Author.Rules.{rules}
 use mathlib.Core.Path.{sym, ◌∙◌}
 use borrow.Author.Tests.{not-true, not-false}
-use Rattle.view.proofs.ClassLaws.{Rising, first-stands, rising-start, rising-zero, rising-by-arc, rising-by-depth, parent-stands, rising-falls, rising_step}
+use Rattle.view.proofs.ClassLaws.{first-stands, rising-start, rising-zero, rising-by-arc, rising-by-depth, parent-stands, rising-falls, rising_step}
 use Rattle.view.proofs.classes.starting_node_of_class_hierarchy.Goals as goal
 
 pub depth_below-depth-requires : goal.depth_below-depth-requires

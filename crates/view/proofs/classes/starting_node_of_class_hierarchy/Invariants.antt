@@ -1,10 +1,7 @@
 -- `starting_node_of_class_hierarchy` meets its contract. The loop's invariant: the walk from
 -- `instance` on comes to where that from n comes, and the last node that it leaves, or else
 -- `class_node`, is the one that that leaves. The measure is `instance`. Assumes nothing.
-use borrow.Author.Rules.{rules}
-use mathlib.Core.Path.{sym, ◌∙◌}
-use borrow.Author.Tests.{not-true, not-false}
-use Rattle.view.proofs.ClassLaws.{Rising, first-stands, rising-start, rising-zero, rising-by-arc, rising-by-depth, parent-stands, rising-falls, rising_step}
+use Rattle.view.proofs.ClassLaws.{Rising}
 use Rattle.view.proofs.classes.starting_node_of_class_hierarchy.Given as goal
 
 abbrev pub invariant-loop-instance : goal.invariant-loop-instance

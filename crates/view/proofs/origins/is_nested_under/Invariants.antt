@@ -1,6 +1,6 @@
 -- `is_nested_under` meets its contract. The loop's invariant: y is met from `n` on where it is met
 -- from x on. The measure is `n`. Assumes nothing.
-use Rattle.view.proofs.WalkLoops.{Nesting, nesting-start, nesting-met, nesting-zero, nesting-falls, nesting-step}
+use Rattle.view.proofs.WalkLoops.{Nesting}
 use Rattle.view.proofs.origins.is_nested_under.Given as goal
 
 abbrev pub invariant-loop-n : goal.invariant-loop-n

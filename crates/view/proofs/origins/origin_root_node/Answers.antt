@@ -2,7 +2,7 @@
 -- begin is where those from n on do, `hops` steps fewer away. The measure is `node`. Assumes
 -- nothing.
 use native.Mathlib.Omega.{arith}
-use Rattle.view.proofs.WalkLoops.{Originating, originating-start, originating-zero, originating-stop, originating-falls, originating-step}
+use Rattle.view.proofs.WalkLoops.{originating-start, originating-zero, originating-stop, originating-falls, originating-step}
 use Rattle.view.proofs.origins.origin_root_node.Goals as goal
 
 pub loop-node-init : goal.loop-node-init

@@ -1,8 +1,7 @@
 -- `origin_root_node` meets its contract. The loop's invariant: where the origins from `node` on
 -- begin is where those from n on do, `hops` steps fewer away. The measure is `node`. Assumes
 -- nothing.
-use native.Mathlib.Omega.{arith}
-use Rattle.view.proofs.WalkLoops.{Originating, originating-start, originating-zero, originating-stop, originating-falls, originating-step}
+use Rattle.view.proofs.WalkLoops.{Originating}
 use Rattle.view.proofs.origins.origin_root_node.Given as goal
 
 abbrev pub invariant-loop-node : goal.invariant-loop-node

@@ -1,6 +1,5 @@
 -- `origins_are_nested` meets its contract: the tests are the definition's, in its order. Assumes
 -- nothing.
-use borrow.Author.Rules.{rules}
 use mathlib.Core.Path.{sym, ◌∙◌}
 use Rattle.model.specs.Strength.{origins_are_nested}
 use Rattle.view.proofs.origins.origins_are_nested.Goals as goal

@@ -1,6 +1,6 @@
 -- `is_ancestor_of` meets its contract. The loop's invariant: x is met from `node` on where it is
 -- met from y on. The measure is `node`. Assumes nothing.
-use Rattle.view.proofs.AncestorLaws.{Ancestry, ancestry-start, ancestry-zero, ancestry-root, ancestry-met, ancestry-falls, ancestry-step}
+use Rattle.view.proofs.AncestorLaws.{Ancestry}
 use Rattle.view.proofs.parting.is_ancestor_of.Given as goal
 
 abbrev pub invariant-loop-node : goal.invariant-loop-node

@@ -1,8 +1,7 @@
 -- `part_chains` meets its contract. The loop's invariant: two walks, from a to `x` and from b to
 -- `y`, on their way to where the chains meet. The measure is the sum of the two. Assumes nothing.
-use native.Mathlib.Omega.{arith}
 use Prim.Native.Nat.{◌+◌}
-use Rattle.view.proofs.PartingLaws.{Meeting, part_same, meet-start, left-readable, right-readable, left-falls, right-falls, meet_left, meet_right, meet-above, meet_below, meet-apart}
+use Rattle.view.proofs.PartingLaws.{Meeting}
 use Rattle.view.proofs.parting.part_chains.Given as goal
 
 abbrev pub invariant-loop-x : goal.invariant-loop-x

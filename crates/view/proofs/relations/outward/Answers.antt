@@ -1,6 +1,5 @@
 -- `outward` meets its contract: to the origin of a propagated specializes, else to the parent.
 -- Assumes nothing.
-use borrow.Author.Rules.{rules}
 use mathlib.Core.Path.{sym, ◌∙◌}
 use Rattle.model.specs.Strength.{outward}
 use Rattle.arena.proofs.ReadNodes.{has-slot}

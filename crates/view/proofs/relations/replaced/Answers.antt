@@ -1,5 +1,4 @@
 -- `replaced` meets its contract: a propagated specializes is its origin. Assumes nothing.
-use borrow.Author.Rules.{rules}
 use mathlib.Core.Path.{sym, ◌∙◌}
 use Rattle.model.specs.Strength.{replaced}
 use Rattle.arena.proofs.ReadNodes.{has-slot}

@@ -1,5 +1,4 @@
 -- `same_site` meets its contract: the stacks first, then the paths. Assumes nothing.
-use borrow.Author.Rules.{rules}
 use borrow.Author.Tests.{eq-eqb, ne_eqb}
 use mathlib.Core.Path.{sym, ap₂, ◌∙◌}
 use Rattle.model.specs.Path.{same_path}
