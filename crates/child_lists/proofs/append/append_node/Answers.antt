@@ -23,6 +23,7 @@ is_shallow-shallow-requires c =
     let numbers : NumbersFit (node_of c.args.node c.args.path.now) =
     let fields = c.well_formed.1.1.0.1.1 in
     record {
+      flags = omega (arith, fields);
       stack = omega (arith, fields);
       layer = omega (arith, fields);
       depth = omega (arith, fields);
@@ -39,6 +40,7 @@ store_header-requires c =
     let numbers : NumbersFit (node_of c.args.node c.args.path.now) =
     let fields = c.well_formed.1.1.0.1.1 in
     record {
+      flags = omega (arith, fields);
       stack = omega (arith, fields);
       layer = omega (arith, fields);
       depth = omega (arith, fields);
@@ -55,6 +57,7 @@ link_child-requires c =
     let numbers : NumbersFit (node_of c.args.node c.args.path.now) =
     let fields = c.well_formed.1.1.0.1.1 in
     record {
+      flags = omega (arith, fields);
       stack = omega (arith, fields);
       layer = omega (arith, fields);
       depth = omega (arith, fields);
@@ -76,6 +79,7 @@ store_node-requires c =
     let numbers : NumbersFit (node_of c.args.node c.args.path.now) =
     let fields = c.well_formed.1.1.0.1.1 in
     record {
+      flags = omega (arith, fields);
       stack = omega (arith, fields);
       layer = omega (arith, fields);
       depth = omega (arith, fields);
@@ -98,6 +102,7 @@ returns c =
     let numbers : NumbersFit (node_of c.args.node c.args.path.now) =
     let fields = c.well_formed.1.1.0.1.1 in
     record {
+      flags = omega (arith, fields);
       stack = omega (arith, fields);
       layer = omega (arith, fields);
       depth = omega (arith, fields);

@@ -12,7 +12,7 @@ use Rattle.snapshot.proofs.checks.check_records.Goals as goal
 
 pub loop-n-init : goal.loop-n-init
 loop-n-init c =
-    checked-none _ _ _ _ c.requires.exact c.requires.prims_len
+    checked-none _ _ _ c.requires.exact c.requires.prims_len
 
 pub record_at-record-requires : goal.record_at-record-requires
 record_at-record-requires c =
@@ -35,7 +35,7 @@ pub returns-in-Refused : goal.returns-in-Refused
 returns-in-Refused c =
     let here : c.loop-n.n < length (nodes_read c.args.bytes.now) =
     omega (arith, c.loop-n-test.true, c.requires.exact.counted) in
-    refused-here _ _ _ _ _ _ _ c.loop-n.invariant here c.record_at-record.result.now c.record_at-record.ensures
+    refused-here _ _ _ _ _ _ c.loop-n.invariant here c.record_at-record.result.now c.record_at-record.ensures
     c.check_one-checked.result c.check_one-checked.ensures _ c.in-Refused.is
 
 pub bounds-prims-n : goal.bounds-prims-n
@@ -43,7 +43,7 @@ bounds-prims-n c =
     let here : c.loop-n.n < length (nodes_read c.args.bytes.now) =
     omega (arith, c.loop-n-test.true, c.requires.exact.counted) in
     let small : c.loop-n.n < 1024 =
-    fits-prims _ _ _ _ _ _ _ c.loop-n.invariant here c.record_at-record.result.now c.record_at-record.ensures
+    fits-prims _ _ _ _ _ _ c.loop-n.invariant here c.record_at-record.result.now c.record_at-record.ensures
     c.check_one-checked.result c.check_one-checked.ensures _ c.in-Accepted.is in
     omega (arith, small, c.loop-n.invariant.whole)
 
@@ -102,7 +102,7 @@ loop-n-preserved c =
     let here : c.loop-n.n < length (nodes_read c.args.bytes.now) =
     omega (arith, c.loop-n-test.true, c.requires.exact.counted) in
     rw c.with_root-has_root.ensures
-    (checked-more _ _ _ _ _ _ _ c.loop-n.invariant here c.record_at-record.result.now c.record_at-record.ensures
+    (checked-more _ _ _ _ _ _ c.loop-n.invariant here c.record_at-record.result.now c.record_at-record.ensures
     c.check_one-checked.result c.check_one-checked.ensures _ c.in-Accepted.is)
 
 pub shape_of-prims : goal.shape_of-prims
@@ -111,4 +111,4 @@ shape_of-prims c =
 
 pub returns : goal.returns
 returns c =
-    checked-all _ _ _ _ _ _ _ c.loop-n.invariant (omega (arith, c.loop-n-test.false, c.requires.exact.counted))
+    checked-all _ _ _ _ _ _ c.loop-n.invariant (omega (arith, c.loop-n-test.false, c.requires.exact.counted))

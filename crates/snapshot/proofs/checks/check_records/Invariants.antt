@@ -11,7 +11,7 @@ use Rattle.snapshot.proofs.CheckLaws.{CheckedTo, checked-none, checked-all, refu
 use Rattle.snapshot.proofs.checks.check_records.Given as goal
 
 abbrev pub invariant-loop-n : goal.invariant-loop-n
-invariant-loop-n l = CheckedTo l.any_flags l.bytes l.prims l.at l.path_bytes l.has_root l.n
+invariant-loop-n l = CheckedTo l.bytes l.prims l.at l.path_bytes l.has_root l.n
 
 abbrev pub decreases-loop-n : goal.decreases-loop-n
 decreases-loop-n l = l.count - l.n

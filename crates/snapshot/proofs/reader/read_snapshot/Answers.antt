@@ -6,7 +6,7 @@ use Rattle.model.specs.Graph.{empty_graph}
 use Rattle.model.specs.Answers.{unit_refusal}
 use Rattle.model.specs.Calls.{read_into}
 use Rattle.snapshot.specs.SnapshotReading.{Exact}
-use Rattle.snapshot.proofs.ReaderLaws.{exact_read, not-exact, read-by-rule, refused-read, filled-read}
+use Rattle.snapshot.proofs.ReaderLaws.{exact_read, not-exact, refused-read, filled-read}
 use Rattle.snapshot.proofs.reader.read_snapshot.Goals as goal
 
 pub returns-in_default : goal.returns-in_default
@@ -27,8 +27,7 @@ fill-requires c =
     let exact : Exact c.args.bytes.now c.in-Number.count =
     exact_read c.args.bytes.now _ (sym c.check_lengths.ensures ∙ c.in-Number.is) in
     let passed : (read_into c.args.bytes.now empty_graph).refused ≡ 0 =
-    sym (read-by-rule c.args.bytes.now)
-    ∙ sym c.check_records-checked.ensures.refused ∙ ap unit_refusal c.in_default-checked.is in
+    sym c.check_records-checked.ensures.refused ∙ ap unit_refusal c.in_default-checked.is in
     record {
       whole = c.requires;
       exact = exact;
@@ -42,6 +41,5 @@ returns c =
     let exact : Exact c.args.bytes.now c.in-Number.count =
     exact_read c.args.bytes.now _ (sym c.check_lengths.ensures ∙ c.in-Number.is) in
     let passed : (read_into c.args.bytes.now empty_graph).refused ≡ 0 =
-    sym (read-by-rule c.args.bytes.now)
-    ∙ sym c.check_records-checked.ensures.refused ∙ ap unit_refusal c.in_default-checked.is in
+    sym c.check_records-checked.ensures.refused ∙ ap unit_refusal c.in_default-checked.is in
     filled-read c.args.bytes.now c.args.arena.now _ _ exact passed c.fill.ensures
