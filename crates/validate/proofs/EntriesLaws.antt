@@ -102,18 +102,20 @@ module _ (bs : List ℕ) where
       where
         marks : (a : ℕ) (t : Bool) → eqb a (order_entry_in bs k) ≡ t → get_or (set seen (order_entry_in bs k) 1) a 0 ≡ count a (entries_in bs (suc k))
         marks a true e =
-            let same = eqb-true a (order_entry_in bs k) e in
-            rw same (get_or-set_same seen (order_entry_in bs k) 1 0 (omega (arith, to.wide))
-            ∙ omega (arith, count-more (order_entry_in bs k) k, bit-eq (order_entry_in bs k) (order_entry_in bs k) refl, to.marked (order_entry_in bs k)))
+            let own : get_or (set seen (order_entry_in bs k) 1) (order_entry_in bs k) 0 ≡ count (order_entry_in bs k) (entries_in bs (suc k)) =
+            get_or-set_same seen (order_entry_in bs k) 1 0 (omega (arith, to.wide))
+            ∙ omega (arith, count-more (order_entry_in bs k) k, bit-eq (order_entry_in bs k) (order_entry_in bs k) refl, to.marked (order_entry_in bs k)) in
+            subst (λ (x : ℕ). get_or (set seen (order_entry_in bs k) 1) x 0 ≡ count x (entries_in bs (suc k))) (sym (eqb-true a (order_entry_in bs k) e)) own
         marks a false e =
             get_or-set_other seen (order_entry_in bs k) a 1 0 (eqb-false a (order_entry_in bs k) e)
             ∙ omega (arith, count-more a k, ap bit e, to.marked a)
 
         first : (a : ℕ) (t : Bool) → eqb a (order_entry_in bs k) ≡ t → count a (entries_in bs (suc k)) ≤ 1
         first a true e =
-            let same = eqb-true a (order_entry_in bs k) e in
             let here = bit-eq (order_entry_in bs k) (order_entry_in bs k) refl in
-            rw same (omega (arith, count-more (order_entry_in bs k) k, here, to.marked (order_entry_in bs k)))
+            let own : count (order_entry_in bs k) (entries_in bs (suc k)) ≤ 1 =
+            omega (arith, count-more (order_entry_in bs k) k, here, to.marked (order_entry_in bs k)) in
+            subst (λ (x : ℕ). count x (entries_in bs (suc k)) ≤ 1) (sym (eqb-true a (order_entry_in bs k) e)) own
         first a false e = omega (arith, count-more a k, ap bit e, to.once a)
 
     -- ---- All entries: were a node not among them, they and it would be more nodes than there are
@@ -135,7 +137,9 @@ module _ (bs : List ℕ) where
             absurd (omega (arith, tabulate-length (order_entry_in bs) 0 (count_in bs)))
           where
             at_most : (b : ℕ) (t : Bool) → eqb b a ≡ t → count a (entries_in bs (count_in bs)) ≡ 0 → count b (a ∷ entries_in bs (count_in bs)) ≤ 1
-            at_most b true q missing = rw (eqb-true b a q) (omega (arith, bit-eq a a refl))
+            at_most b true q missing =
+                let own : count a (a ∷ entries_in bs (count_in bs)) ≤ 1 = omega (arith, bit-eq a a refl) in
+                subst (λ (x : ℕ). count x (a ∷ entries_in bs (count_in bs)) ≤ 1) (sym (eqb-true b a q)) own
             at_most b false q missing = omega (arith, ap bit q, rw same at (to.once b))
 
 -- ---- Only an order that is marked has entries
