@@ -2,13 +2,11 @@
 -- node n on decide question 7. The measure is how many are left. Assumes nothing.
 use mathlib.Core.Path.{◌≡◌, sym, ap, ◌∙◌}
 use mathlib.Core.List.{List}
-use Prim.Native.Nat.{ℕ, ◌+◌, ◌-◌, ◌*◌, ◌≤◌}
+use Prim.Native.Nat.{ℕ, ◌+◌}
 use native.Mathlib.Omega.{arith}
 use lib.ListN.{length}
-use Rattle.model.specs.Arena.{decode, node_in}
+use Rattle.model.specs.Arena.{node_in}
 use Rattle.model.specs.ArenaCalls.{ValidNode}
-use Rattle.model.specs.Calls.{paths_fit}
-use Rattle.model.specs.Deepening.{deepen}
 use Rattle.model.specs.Path.{separator, append_name}
 use Rattle.arena.proofs.HeldArenas.{held}
 use Rattle.arena.proofs.ReadNodes.{has-path}

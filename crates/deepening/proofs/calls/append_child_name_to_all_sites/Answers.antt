@@ -1,6 +1,5 @@
 -- `append_child_name_to_all_sites` meets its contract: where no question refuses, the name is
 -- appended. Assumes nothing.
-use borrow.Author.Rules.{rules}
 use mathlib.Core.Path.{◌≡◌}
 use Rattle.model.specs.Refusals.{refusal}
 use Rattle.deepening.proofs.ChildNameLaws.{asked, can-deepen, deepen-refused, deepen-done}

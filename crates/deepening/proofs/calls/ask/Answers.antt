@@ -1,10 +1,8 @@
 -- `ask` meets its contract: where questions 1 to 3 pass, each test is one of those left, in the
 -- order of their numbers. Assumes nothing.
-use borrow.Author.Rules.{rules}
 use mathlib.Core.Path.{◌≡◌, sym, ◌∙◌}
 use mathlib.Core.Bool.{true}
 use Prim.Native.Nat.{◌<◌}
-use borrow.Author.Tests.{not-true, not-false}
 use Rattle.model.specs.Arena.{count_in}
 use Rattle.model.specs.ArenaCalls.{ValidArena}
 use Rattle.model.specs.Path.{well_formed}
@@ -17,14 +15,14 @@ returns-then-not-is_well_formed c =
     let has-node : let bs = c.args.arena.now in ValidArena bs × (0 < count_in bs) =
     some-node _ (sym (rw c.in-Done.is at c.ask_node_zero-asked.ensures)) in
     let there = has-node in
-    refused-no-path _ _ there.0 there.1 (sym c.is_well_formed.ensures ∙ not-true _ c.if-not-is_well_formed.true-raw)
+    refused-no-path _ _ there.0 there.1 (sym c.is_well_formed.ensures ∙ c.if-not-is_well_formed.true)
 
 pub returns-then-name-eq0 : goal.returns-then-name-eq0
 returns-then-name-eq0 c =
     let has-node : let bs = c.args.arena.now in ValidArena bs × (0 < count_in bs) =
     some-node _ (sym (rw c.in-Done.is at c.ask_node_zero-asked.ensures)) in
     let right : well_formed c.args.child.now ≡ true =
-    sym c.is_well_formed.ensures ∙ not-false _ c.if-not-is_well_formed.false-raw in
+    sym c.is_well_formed.ensures ∙ c.if-not-is_well_formed.false in
     let there = has-node in
     refused-no-name _ _ there.0 there.1 right _ c.last_name-name.ensures c.if-name-eq0.true
 
@@ -39,20 +37,20 @@ returns-then-not-paths_fit c =
     let has-node : let bs = c.args.arena.now in ValidArena bs × (0 < count_in bs) =
     some-node _ (sym (rw c.in-Done.is at c.ask_node_zero-asked.ensures)) in
     let right : well_formed c.args.child.now ≡ true =
-    sym c.is_well_formed.ensures ∙ not-false _ c.if-not-is_well_formed.false-raw in
+    sym c.is_well_formed.ensures ∙ c.if-not-is_well_formed.false in
     let there = has-node in
     refused-no-room _ _ there.0 there.1 right _ c.last_name-name.ensures c.if-name-eq0.false
-    (sym c.paths_fit.ensures ∙ not-true _ c.if-not-paths_fit.true-raw)
+    (sym c.paths_fit.ensures ∙ c.if-not-paths_fit.true)
 
 pub returns-else-not-paths_fit : goal.returns-else-not-paths_fit
 returns-else-not-paths_fit c =
     let has-node : let bs = c.args.arena.now in ValidArena bs × (0 < count_in bs) =
     some-node _ (sym (rw c.in-Done.is at c.ask_node_zero-asked.ensures)) in
     let right : well_formed c.args.child.now ≡ true =
-    sym c.is_well_formed.ensures ∙ not-false _ c.if-not-is_well_formed.false-raw in
+    sym c.is_well_formed.ensures ∙ c.if-not-is_well_formed.false in
     let there = has-node in
     refused_none _ _ there.0 there.1 right _ c.last_name-name.ensures c.if-name-eq0.false
-    (sym c.paths_fit.ensures ∙ not-false _ c.if-not-paths_fit.false-raw)
+    (sym c.paths_fit.ensures ∙ c.if-not-paths_fit.false)
 
 pub returns-in-Refused : goal.returns-in-Refused
 returns-in-Refused c =

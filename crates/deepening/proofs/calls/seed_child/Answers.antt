@@ -1,6 +1,5 @@
 -- `seed_child` meets its contract: question 1 of the arena that is filled, and where no question of
 -- the other refuses, it is filled. Assumes nothing.
-use borrow.Author.Rules.{rules}
 use mathlib.Core.Path.{◌≡◌}
 use Rattle.model.specs.Refusals.{refusal}
 use Rattle.deepening.proofs.ChildNameLaws.{asked, can-deepen, seed-not-arena, seed-refused, seed-done}

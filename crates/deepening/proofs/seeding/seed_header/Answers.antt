@@ -1,6 +1,5 @@
 -- `seeding::seed_header` meets its contract: three stores one after the other. Assumes nothing.
 use mathlib.Core.Path.{ap, ◌∙◌}
-use borrow.Author.Rules.{rules}
 use lib.Dec.{eqb}
 use Rattle.model.specs.Arena.{local_root_in}
 use Rattle.arena.specs.Header.{marks_stored, local_root_stored}

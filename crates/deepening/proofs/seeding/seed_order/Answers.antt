@@ -1,11 +1,11 @@
 -- `seeding::seed_order` meets its contract. The invariant of its loop is `Storing`, the measure how
 -- many entries are left. Assumes nothing.
 use mathlib.Core.Path.{ap, ◌∙◌}
-use Prim.Native.Nat.{ℕ, ◌-◌}
+use Prim.Native.Nat.{ℕ}
 use native.Mathlib.Omega.{arith}
 use Rattle.model.specs.Arena.{order_entry_in}
 use Rattle.arena.specs.Slot.{order_entry_stored}
-use Rattle.arena.proofs.StoredEntries.{Storing, storing-start, storing-step, storing-end}
+use Rattle.arena.proofs.StoredEntries.{storing-start, storing-step, storing-end}
 use Rattle.deepening.proofs.seeding.seed_order.Goals as goal
 
 pub loop-n-init : goal.loop-n-init

@@ -1,11 +1,8 @@
 -- `seeding::seed_order` meets its contract. The invariant of its loop is `Storing`, the measure how
 -- many entries are left. Assumes nothing.
-use mathlib.Core.Path.{ap, ◌∙◌}
-use Prim.Native.Nat.{ℕ, ◌-◌}
-use native.Mathlib.Omega.{arith}
+use Prim.Native.Nat.{◌-◌}
 use Rattle.model.specs.Arena.{order_entry_in}
-use Rattle.arena.specs.Slot.{order_entry_stored}
-use Rattle.arena.proofs.StoredEntries.{Storing, storing-start, storing-step, storing-end}
+use Rattle.arena.proofs.StoredEntries.{Storing}
 use Rattle.deepening.proofs.seeding.seed_order.Given as goal
 
 abbrev pub invariant-loop-n : goal.invariant-loop-n

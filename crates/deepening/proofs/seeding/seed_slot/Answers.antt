@@ -1,7 +1,6 @@
 -- `seeding::seed_slot` meets its contract: the links are those of the other arena, and the record
 -- that is stored is the deepened node's. Assumes nothing.
 use mathlib.Core.Path.{ap, ◌∙◌}
-use borrow.Author.Rules.{rules}
 use Rattle.model.specs.Arena.{node_in}
 use Rattle.model.specs.Deepening.{deepened}
 use Rattle.deepening.specs.Deepened.{site_stored}

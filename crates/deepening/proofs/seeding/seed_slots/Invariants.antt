@@ -1,10 +1,9 @@
 -- `seeding::seed_slots` meets its contract. The invariant of its loop: the slots of the first n
 -- nodes are stored. The measure is how many are left. Assumes nothing.
-use mathlib.Core.Path.{◌≡◌, refl, ap, ◌∙◌}
-use Prim.Native.Nat.{ℕ, suc, ◌+◌, ◌-◌, ◌≤◌}
-use native.Mathlib.Omega.{arith}
+use mathlib.Core.Path.{◌≡◌}
+use Prim.Native.Nat.{◌-◌, ◌≤◌}
 use lib.ListN.{length}
-use Rattle.deepening.specs.Deepened.{slot_seeded, slots_seeded}
+use Rattle.deepening.specs.Deepened.{slots_seeded}
 use Rattle.deepening.proofs.seeding.seed_slots.Given as goal
 
 abbrev pub invariant-loop-n : goal.invariant-loop-n

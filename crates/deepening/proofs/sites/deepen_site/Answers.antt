@@ -1,7 +1,6 @@
 -- `sites::deepen_site` meets its contract: the record that is stored is the deepened node's.
 -- Assumes nothing.
 use mathlib.Core.Path.{◌∙◌}
-use borrow.Author.Rules.{rules}
 use Rattle.deepening.proofs.DeepenedSites.{front_length, front-counted, record-joined}
 use Rattle.deepening.proofs.sites.deepen_site.Goals as goal
 

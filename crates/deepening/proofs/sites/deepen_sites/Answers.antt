@@ -2,9 +2,8 @@
 -- nodes are stored. The measure is how many are left. Assumes nothing.
 use mathlib.Core.Path.{◌≡◌, refl, sym, ap, subst, ◌∙◌}
 use mathlib.Core.List.{List}
-use Prim.Native.Nat.{ℕ, ◌-◌, ◌≤◌}
+use Prim.Native.Nat.{ℕ}
 use native.Mathlib.Omega.{arith}
-use lib.ListN.{length}
 use Rattle.model.specs.Arena.{node_in}
 use Rattle.model.specs.Deepening.{deepened}
 use Rattle.deepening.specs.Deepened.{CanJoin, site_stored, sites_deepened}
