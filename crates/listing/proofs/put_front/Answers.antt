@@ -1,6 +1,5 @@
 -- `put_front` meets its contract: the three parts, one after the other, are the front of a line.
 -- Assumes nothing.
-use borrow.Author.Rules.{rules}
 use mathlib.Core.Path.{ap}
 use mathlib.Core.List.{◌∷◌, ◌++◌}
 use Prim.Native.Nat.{ℕ}

@@ -1,6 +1,5 @@
 -- `put_head` meets its contract: the three parts, one after the other, are the first line. Assumes
 -- nothing.
-use borrow.Author.Rules.{rules}
 use native.Mathlib.Omega.{arith}
 use Rattle.listing.specs.Texts.{head_line}
 use Rattle.listing.proofs.DecimalLaws.{number_short}

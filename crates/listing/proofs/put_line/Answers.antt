@@ -1,6 +1,5 @@
 -- `put_line` meets its contract: the fields that are read are the node's, and the front and the
 -- rest are its line. Assumes nothing.
-use borrow.Author.Rules.{rules}
 use mathlib.Core.List.{[], ◌∷◌}
 use native.Mathlib.Omega.{arith}
 use lib.ListN.{length-append}

@@ -1,10 +1,9 @@
 -- `put_lines` meets its contract. The loop's invariant is `Listed`: the lines of the first i
 -- entries are put, and end at `at`. The measure is how many entries are left. Assumes nothing.
-use Prim.Native.Nat.{◌-◌, ◌<◌}
-use borrow.Author.Rules.{rules}
+use Prim.Native.Nat.{◌<◌}
 use native.Mathlib.Omega.{arith}
 use Rattle.model.specs.Arena.{count_in}
-use Rattle.listing.proofs.ListingLines.{entry-slot, entry-readable, Listed, listed-none, listed_more, listed-all, listed-short, listed-length, line-fits}
+use Rattle.listing.proofs.ListingLines.{entry-slot, entry-readable, listed-none, listed_more, listed-all, listed-short, listed-length, line-fits}
 use Rattle.listing.proofs.put_lines.Goals as goal
 
 pub loop-i-init : goal.loop-i-init

@@ -1,6 +1,5 @@
 -- `put_listing` meets its contract: the head and the lines are the listing. Assumes nothing.
 use mathlib.Core.Path.{◌∙◌}
-use borrow.Author.Rules.{rules}
 use native.Mathlib.Omega.{arith}
 use Rattle.listing.proofs.ListingLines.{head-short, listing-put}
 use Rattle.listing.proofs.put_listing.Goals as goal
@@ -11,4 +10,4 @@ put_lines-requires c =
 
 pub returns : goal.returns
 returns c =
-    let put = c.put_lines.ensures in record { put = listing-put _ _ c.requires _ _ _ _ _ c.count-count.ensures c.put_head-start.ensures put.0 put.1; upper_bound = put.1 }
+    let put = c.put_lines.ensures in record { put = listing-put _ _ c.requires _ _ _ _ _ c.count-count.ensures c.put_head-start.ensures put.put put.upper_bound; upper_bound = put.upper_bound }

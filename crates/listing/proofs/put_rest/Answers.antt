@@ -1,6 +1,5 @@
 -- `put_rest` meets its contract: the three parts, one after the other, are the end of a line.
 -- Assumes nothing.
-use borrow.Author.Rules.{rules}
 use native.Mathlib.Omega.{arith}
 use Rattle.listing.proofs.PutLaws.{put-thrice}
 use Rattle.listing.proofs.put_rest.Goals as goal

@@ -1,7 +1,6 @@
 -- `write_listing` meets its contract: question 1 of the buffer, where questions 1 to 3 of the arena
 -- pass, question 10, and then the text. Assumes nothing.
 use mathlib.Core.Path.{◌≡◌, sym, ◌∙◌}
-use borrow.Author.Rules.{rules}
 use Prim.Native.Nat.{◌<◌}
 use lib.ListN.{length}
 use Rattle.model.specs.Arena.{arena_bytes, count_in}
