@@ -1,6 +1,6 @@
 /* The strength graph of one prim index, for a viewer: a snapshot is read into an arena, and its nodes are compared and ordered.
  *
- * Link with target/staticlib/libc_api.a, which `rt staticlib c_api` writes. The functions are proved (crates/c_api). They need nothing of the bytes and
+ * Link with target/staticlib/libc_api.a, which `tools/build c_api` writes. The functions are proved (crates/c_api_c). They need nothing of the bytes and
  * numbers that they are given. A slice is a pointer and a length: the pointer is not null and valid for so many bytes, and two slices of one call do
  * not overlap. Nothing is written but through a pointer that is not const.
  */

@@ -1,4 +1,4 @@
-//! `wellFormed`, `primCount`, `holdsGraph` and `readSnapshot` as crates/model/specs defines them, line by line, and as slow
+//! `well_formed`, `prim_count`, `holds_graph` and `read_snapshot` as crates/model/specs defines them, line by line, and as slow
 //! as that is.
 
 const INVALID: u64 = 4_294_967_295;
