@@ -37,7 +37,7 @@ def main():
             if line.startswith("#"):
                 is_former = "former" in line
             for name in [] if is_code or is_former else re.findall(r"`([^`]+)`", line):
-                if re.search(r"\.\.|\btarget/|\bout/|(^|/)[A-Z]+(/|$)|^\w+\.rs$", name) and "." in name:
+                if re.search(r"\.\.|\btarget/|\bout/|(^|/)[A-Z]{2,}(/|$)|^\w+\.rs$", name):
                     continue
                 if PATH.fullmatch(name):
                     is_there = "/" + name.strip("/") in ends or any(end.startswith("/" + name.strip("/") + ".") for end in ends)
