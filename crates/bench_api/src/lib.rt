@@ -17,7 +17,7 @@ ghost use Rattle.model.specs.Calls.{append_child_name};
 ghost use Rattle.model.specs.Graph.{empty_graph};
 ghost use Rattle.model.specs.Path.{count_prims};
 ghost use Rattle.model.specs.Strength.{view_of, compare_node_strength};
-ghost use Rattle.c_api.specs.Carried.{carried_answer, WroteCarried, ClearedCarried};
+ghost use Rattle.c_api.specs.Carried.{carried_answer, WroteCarried};
 ghost use Rattle.deepening.specs.ChildNames.{seed_from};
 ghost use Rattle.erasing.specs.Erasures.{erase_in};
 ghost use Rattle.bench_api.specs.Numbers.{count_number, graph_number, order_number, reference_desc, SnapshotCarried};
@@ -107,14 +107,6 @@ pub extern "C" fn bench_read_snapshot(arena: &mut [u8], bytes: &[u8]) -> u64
         arena.old result arena.new }
 {
     c_api::carry_number(prim_graph::read_snapshot(arena, bytes))
-}
-
-// `clear_unknown_flags`.
-#[unsafe(no_mangle)]
-pub extern "C" fn bench_clear_unknown_flags(snapshot: &mut [u8]) -> u64
-    ensures { ClearedCarried snapshot.old result snapshot.new }
-{
-    c_api::carry_number(prim_graph::clear_unknown_flags(snapshot))
 }
 
 // `write_snapshot`.

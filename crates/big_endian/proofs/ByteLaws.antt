@@ -99,3 +99,8 @@ part-stored at src s h =
       append-nil (src ++ drop (length src) (drop at s)),
       drop-drop (length src) at s,
     )
+
+-- what a callee that puts src over the whole part from `at` on makes of the whole
+pub part_copied : (at n : ℕ) (src new s : List ℕ) → new ≡ src → n ≡ length src → put_mid at n s new ≡ stored at src s
+unfolding stored
+part_copied at n src new s e f = rw (e, f, drop-drop (length src) at s)

@@ -4,9 +4,7 @@
 use Rattle.std.specs.Prelude.{◌≡◌, List, ℕ, ◌+◌, ◌*◌}
 use Rattle.model.specs.Answers.{number_refusal, number_value, ordering_refusal, ordering_value, bool_refusal, bool_value, unit_refusal, node_option, node_number}
 use Rattle.model.specs.Refusals.{refusal_number, Question, refusal}
-use Rattle.model.specs.Graph.{empty_graph}
-use Rattle.model.specs.Calls.{Outcome, read_formerly}
-use Rattle.model.specs.Clearing.{snapshot_after}
+use Rattle.model.specs.Calls.{Outcome}
 use Rattle.model.specs.ArenaCalls.{arena_after, value_unless}
 use Rattle.model.specs.declared.NumberResult.{NumberResult}
 use Rattle.model.specs.declared.NodeResult.{NodeResult}
@@ -45,8 +43,3 @@ carried_answer questions answer = carried (refusal questions) (value_unless (ref
 pub record WroteCarried (o : Outcome) (before : List ℕ) (r : ℕ) (after : List ℕ) : Type 0 where
   pub number : r ≡ carried o.refused o.value
   pub arena : after ≡ arena_after o before
-
--- the number and the bytes after unknown flags were cleared in a snapshot
-pub record ClearedCarried (before : List ℕ) (r : ℕ) (after : List ℕ) : Type 0 where
-  pub number : r ≡ carried (read_formerly before empty_graph).refused (read_formerly before empty_graph).value
-  pub bytes : after ≡ snapshot_after before

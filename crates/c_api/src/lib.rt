@@ -13,7 +13,7 @@ ghost use Rattle.model.specs.ArenaCalls.{on_arena, into_arena, ask_arena};
 ghost use Rattle.model.specs.Calls.{finalize_strength_order, read_into, compares_nodes, compares_siblings, reads_entry};
 ghost use Rattle.model.specs.Graph.{empty_graph};
 ghost use Rattle.model.specs.Strength.{view_of, compare_node_strength, compare_sibling_node_strength};
-ghost use Rattle.c_api.specs.Carried.{carried_answer, WroteCarried, ClearedCarried};
+ghost use Rattle.c_api.specs.Carried.{carried_answer, WroteCarried};
 ghost use Rattle.c_api.specs.CarriedOrders.{OrderCarried};
 
 pub use carried::{carry_finish, carry_node, carry_number, carry_order, carry_refusal, carry_test};
@@ -26,16 +26,6 @@ pub extern "C" fn cadgweri_read_snapshot(arena: &mut [u8], bytes: &[u8]) -> u64
         arena.old result arena.new }
 {
     crate::carried::carry_number(prim_graph::read_snapshot(arena, bytes))
-}
-
-// Clears the unknown flags, from 16 on, in every record of a snapshot, in place, and changes no
-// other byte. The value is how many nodes it has. Refused 12, then 4 to 7; the snapshot is then as
-// it was.
-#[unsafe(no_mangle)]
-pub extern "C" fn cadgweri_clear_unknown_flags(snapshot: &mut [u8]) -> u64
-    ensures { ClearedCarried snapshot.old result snapshot.new }
-{
-    crate::carried::carry_number(prim_graph::clear_unknown_flags(snapshot))
 }
 
 // The value is how many nodes the graph has. Refused 1 or 2.

@@ -57,6 +57,7 @@ module _ (g : Graph) (x : Node) (ok : Encodable g) (fit : NumbersFit x) where
 numbers-root : (stack layer : ℕ) (path : List ℕ) → stack < 256 ^ 4 → layer < 256 ^ 4 → Bytes path → well_formed path ≡ true
     → NumbersFit (root_node stack layer path)
 numbers-root stack layer path s l bytes e = record {
+  flags = omega arith;
   stack = s;
   layer = l;
   depth = prims-fit path ((well-formed-decides path).0 e).2;
@@ -96,6 +97,7 @@ module _ (d : NodeDesc) (fit : NumbersFit d.fields) (deep : DepthFits d.depth) (
 
   numbers-added : well_formed d.fields.path ≡ true → NumbersFit (added_node g d)
   numbers-added e = record {
+    flags = fit.flags;
     stack = fit.stack;
     layer = fit.layer;
     depth = depth-fits d.depth deep e;

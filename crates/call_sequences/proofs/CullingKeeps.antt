@@ -3,9 +3,11 @@
 use mathlib.Core.Path.{◌≡◌, refl}
 use mathlib.Core.Bool.{Bool, true, false, cond}
 use mathlib.Core.List.{List, [], ◌∷◌}
-use Prim.Native.Nat.{ℕ, zero, suc, ◌-◌}
+use Prim.Native.Nat.{ℕ, zero, suc, ◌+◌, ◌-◌, ◌/◌, ◌%◌, ◌<◌}
+use native.Mathlib.Omega.{arith}
 use lib.ListN.{set}
-use Rattle.model.specs.Node.{Node}
+use borrow.Author.Tests.{eqb-false}
+use Rattle.model.specs.Node.{culled_flag, Node, is_culled}
 use Rattle.model.specs.Graph.{Graph, size, node_at, has_local_root}
 use Rattle.model.specs.Culling.{can_cull, culled, cull_one, cull_down, cull_subtrees_without_opinions}
 use Rattle.model.specs.Calls.{has_node_zero, cull}
@@ -28,6 +30,7 @@ numbers-set (y ∷ ns) (suc i) x old new (suc n) = numbers-set ns i x (λ k. old
 
 numbers-culled : (x : Node) → NumbersFit x → NumbersFit (culled x)
 numbers-culled x fit = record {
+  flags = flags (is_culled x) refl;
   stack = fit.stack;
   layer = fit.layer;
   depth = fit.depth;
@@ -36,6 +39,10 @@ numbers-culled x fit = record {
   spec_from = fit.spec_from;
   path_bytes = fit.path_bytes;
 }
+  where
+    flags : (t : Bool) → is_culled x ≡ t → cond t x.flags (x.flags + culled_flag) < 256
+    flags true e = fit.flags
+    flags false e = omega (arith, fit.flags, eqb-false (x.flags / 2 % 2) 1 e)
 
 numbers-cull-down : (children : List (List ℕ)) (n : ℕ) (ns : List Node) → Numbers ns → Numbers (cull_down children n ns)
 numbers-cull-down children zero ns old = old

@@ -41,6 +41,7 @@ appended-bytes path name h k =
 
 numbers-deepened : (name : List ℕ) (x : Node) → Bytes name → NumbersFit x → NumbersFit (deepened name x)
 numbers-deepened name x h fit = record {
+  flags = fit.flags;
   stack = fit.stack;
   layer = fit.layer;
   depth = fit.depth;

@@ -36,6 +36,7 @@ erased-once kept n order each = record {
 
 numbers-renumbered : (kept : ℕ → Bool) (n : ℕ) (x : Node) → NumbersFit x → NumbersFit (renumbered kept n x)
 numbers-renumbered kept n x fit = record {
+  flags = fit.flags;
   stack = fit.stack;
   layer = fit.layer;
   depth = fit.depth;

@@ -33,8 +33,8 @@ use Rattle.call_sequences.proofs.SettingKeeps.{marking-keeps, first-spec-keeps, 
 -- ---- The numbers that a call is given
 
 -- u32 for stack and layer, u16 for a depth and a position, bytes for a path; of a node to be added
--- what `NumbersFit` says. Arc, flags, links and has-specs are judged by the questions, and so are
--- every byte of an erase set and the flags that are marked.
+-- what `NumbersFit` says. Arc, links and has-specs are judged by the questions, and so are every
+-- byte of an erase set and the flags that are marked.
 abbrev pub CallFits : Call → Type 0
 CallFits (starting stack layer path) = (stack < 256 ^ 4) × (layer < 256 ^ 4) × Bytes path
 CallFits (adding d) = NumbersFit d.fields × DepthFits d.depth

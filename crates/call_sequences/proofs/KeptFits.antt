@@ -28,6 +28,7 @@ Numbers ns = (n : ℕ) → NumbersFit (node_at ns n)
 
 pub fit-numbers : (ns : List Node) → NodesFit ns → Numbers ns
 fit-numbers [] fit n = record {
+  flags = omega arith;
   stack = omega arith;
   layer = omega arith;
   depth = omega arith;
@@ -39,6 +40,7 @@ fit-numbers [] fit n = record {
 fit-numbers (x ∷ ns) fit zero =
     let here : FieldsFit x = fit.0 in
     record {
+      flags = here.flags;
       stack = here.stack;
       layer = here.layer;
       depth = here.depth;
@@ -70,7 +72,7 @@ legal-fits g legal numbers = fit_all g.nodes fits
         let path = (well-formed-decides (node_at g.nodes n).path).0 node.path in
         record {
           arc = omega (arith, node.arc);
-          flags = omega (arith, node.known-flags);
+          flags = given.flags;
           stack = given.stack;
           layer = given.layer;
           parent = (links n h).0;

@@ -67,6 +67,7 @@ graph_steps (c ∷ cs) g = graph_steps cs (graph_step c g)
 desc-fits : (d : NodeDesc) → DescFits d → (path : Slice) → CallFits (calls.adding (desc_of d path.bytes))
 desc-fits d fits path = (
   record {
+    flags = fits.flags;
     stack = fits.stack;
     layer = fits.layer;
     depth = omega arith;

@@ -1,6 +1,5 @@
-// The lines of the command `calls` that write a graph: make.rt has those that make one, and the one
-// that clears unknown flags in a snapshot, change.rt those that order, cull, erase and deepen a
-// graph, setting.rt those that set fields of one node. Each
+// The lines of the command `calls` that write a graph: make.rt has those that make one, change.rt
+// those that order, cull, erase and deepen it, setting.rt those that set fields of one node. Each
 // function is handed a line that has its name and its number of words, makes the call, puts the
 // answer, without a newline, after the first `used` bytes of `out`, and answers how many are then
 // used. None has a `requires`.

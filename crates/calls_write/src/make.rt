@@ -1,9 +1,7 @@
-// The lines that make graphs, and the one that clears unknown flags in a snapshot.
+// The lines that make graphs.
 use calls_text::{
-    Answered, Bytes, Number, bad_line, front, is_call, put_bytes, put_numbered, put_refusal,
-    read_bytes, read_number, word,
+    Answered, Bytes, Number, bad_line, front, is_call, put_numbered, read_bytes, read_number, word,
 };
-use model::NumberResult;
 
 // The answer to a line that makes a graph.
 pub fn answer(line: &[u8], arena: &mut [u8], out: &mut [u8], used: usize) -> Answered {
@@ -15,9 +13,6 @@ pub fn answer(line: &[u8], arena: &mut [u8], out: &mut [u8], used: usize) -> Ans
     }
     if is_call(line, b"read", 2) {
         return Answered::Used(read_line(line, arena, out, used));
-    }
-    if is_call(line, b"clear", 2) {
-        return Answered::Used(clear_line(line, out, used));
     }
     Answered::Unknown
 }
@@ -56,26 +51,4 @@ fn read_line(line: &[u8], arena: &mut [u8], out: &mut [u8], used: usize) -> usiz
     };
     let answer = prim_graph::read_snapshot(arena, front(&snapshot, length));
     put_numbered(out, used, answer)
-}
-
-// Clears the unknown flags of a snapshot, and puts it.
-fn put_cleared(snapshot: &mut [u8], out: &mut [u8], used: usize) -> usize {
-    let cleared = prim_graph::clear_unknown_flags(snapshot);
-    match cleared {
-        NumberResult::Number(_) => put_bytes(out, used, snapshot),
-        NumberResult::Refused(refusal) => put_refusal(out, used, refusal),
-    }
-}
-
-// `clear HEX`: the snapshot with its unknown flags cleared.
-fn clear_line(line: &[u8], out: &mut [u8], used: usize) -> usize {
-    let mut snapshot = io::large_buffer();
-    let bytes = read_bytes(word(line, 1), &mut snapshot);
-    let Bytes::Length(length) = bytes else {
-        return bad_line(out, used);
-    };
-    if snapshot.len() < length {
-        return bad_line(out, used);
-    }
-    put_cleared(&mut snapshot[..length], out, used)
 }

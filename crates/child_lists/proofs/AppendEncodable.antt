@@ -27,6 +27,7 @@ use Rattle.arena.proofs.HeldEncodable.{held-encodable}
 
 -- what the questions leave open: each other number fits its width, and the path is of bytes
 pub record NumbersFit (x : Node) : Type 0 where
+  pub flags : x.flags < 256
   pub stack : x.stack < 256 ^ 4
   pub layer : x.layer < 256 ^ 4
   pub depth : x.depth < 256 ^ 2
@@ -41,7 +42,7 @@ accepted-addable g x accepted = read-addable g x (none-refused-accepted (record_
 pub accepted-fits : (g : Graph) (x : Node) → NumbersFit x → refusal (record_questions g x) ≡ 0 → FieldsFit x
 accepted-fits g x numbers accepted = record {
   arc = omega (arith, node.arc);
-  flags = omega (arith, node.known-flags);
+  flags = numbers.flags;
   stack = numbers.stack;
   layer = numbers.layer;
   parent = (links (size g) refl).0;

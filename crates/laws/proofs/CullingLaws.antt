@@ -16,7 +16,7 @@ use Rattle.model.specs.Node.{root_arc, inherit_arc, culled_flag, Node, no_node, 
 use Rattle.model.specs.Graph.{Graph, size, node_at, children_of, depth_below_introduction, path_at_introduction, has_local_root}
 use Rattle.model.specs.Strength.{View, view, is_authored, origin_root_node}
 use Rattle.model.specs.Culling.{introducer, keeps_inherit, can_cull, culled, cull_one, cull_down, cull_subtrees_without_opinions}
-use Rattle.laws.proofs.FlagLaws.{other-bit, with-flag-known}
+use Rattle.laws.proofs.FlagLaws.{other-bit}
 use Rattle.laws.proofs.SeenLaws.{SeenAlike, node-set, depth-below-kept, path-at-introduction-kept, local-stack-kept, view-kept}
 
 -- ---- One node
@@ -26,7 +26,6 @@ pub record OnlyCulled (x y : Node) : Type 0 where
   pub arc : y.arc ≡ x.arc
   -- each bit but CULLED's, 2 ^ 1
   pub flags : (i : ℕ) → (i ≡ 1 → ⊥) → has_flag (2 ^ i) y.flags ≡ has_flag (2 ^ i) x.flags
-  pub known : x.flags < 16 → y.flags < 16
   pub stack : y.stack ≡ x.stack
   pub layer : y.layer ≡ x.layer
   pub parent : y.parent ≡ x.parent
@@ -45,12 +44,11 @@ culled-again x e = rw e
 
 -- other flags alone
 flags-alone : (x : Node) (f : ℕ) → let y = changed f x.parent x.origin x.path x in
-    ((i : ℕ) → (i ≡ 1 → ⊥) → has_flag (2 ^ i) f ≡ has_flag (2 ^ i) x.flags) → (x.flags < 16 → f < 16)
-    → (is_culled x ≡ true → y ≡ x) → (x.arc ≡ root_arc → y ≡ x) → OnlyCulled x y
-flags-alone x f flags known culled-stays root-stays = record {
+    ((i : ℕ) → (i ≡ 1 → ⊥) → has_flag (2 ^ i) f ≡ has_flag (2 ^ i) x.flags) → (is_culled x ≡ true → y ≡ x) → (x.arc ≡ root_arc → y ≡ x)
+    → OnlyCulled x y
+flags-alone x f flags culled-stays root-stays = record {
   arc = refl;
   flags = flags;
-  known = known;
   stack = refl;
   layer = refl;
   parent = refl;
@@ -66,9 +64,7 @@ flags-alone x f flags known culled-stays root-stays = record {
 }
 
 culled-only : (x : Node) → (x.arc ≡ root_arc → is_culled x ≡ true) → OnlyCulled x (culled x)
-culled-only x root =
-    flags-alone x _ (λ i h. go i h (is_culled x) refl) (with-flag-known 1 x.flags (omega arith)) (culled-again x)
-    (λ e. culled-again x (root e))
+culled-only x root = flags-alone x _ (λ i h. go i h (is_culled x) refl) (culled-again x) (λ e. culled-again x (root e))
   where
     go : (i : ℕ) → (i ≡ 1 → ⊥) → (b : Bool) → is_culled x ≡ b
         → has_flag (2 ^ i) (cond b x.flags (x.flags + culled_flag)) ≡ has_flag (2 ^ i) x.flags
@@ -76,13 +72,12 @@ culled-only x root =
     go i h false e = other-bit 1 i x.flags h e
 
 unchanged : (x : Node) → OnlyCulled x x
-unchanged x = flags-alone x x.flags (λ i h. refl) (λ h. h) (λ e. refl) (λ e. refl)
+unchanged x = flags-alone x x.flags (λ i h. refl) (λ e. refl) (λ e. refl)
 
 then-only-culled : (x y z : Node) → OnlyCulled x y → OnlyCulled y z → OnlyCulled x z
 then-only-culled x y z p q = record {
   arc = q.arc ∙ p.arc;
   flags = λ i h. q.flags i h ∙ p.flags i h;
-  known = λ h. q.known (p.known h);
   stack = q.stack ∙ p.stack;
   layer = q.layer ∙ p.layer;
   parent = q.parent ∙ p.parent;

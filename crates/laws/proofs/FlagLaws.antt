@@ -1,14 +1,13 @@
 -- Flags as bits: setting a bit that is clear leaves every other as it was (`other-bit`), and so
--- does a flag that is given to a node (`given-keeps`); a known flag more leaves flags known
--- (`with-flag-known`, `given-known`). Assumes nothing.
+-- does a flag that is given to a node (`given-keeps`). Assumes nothing.
 use mathlib.Core.Path.{◌≡◌, refl, sym, ap, ◌∙◌}
 use mathlib.Core.Bool.{Bool, true, false, cond}
-use Prim.Native.Nat.{ℕ, zero, suc, ◌+◌, ◌*◌, ◌/◌, ◌%◌, ◌^◌, ◌<◌}
+use Prim.Native.Nat.{ℕ, zero, suc, ◌+◌, ◌*◌, ◌/◌, ◌%◌, ◌^◌}
 use native.Mathlib.Nat.{div-div-eq-div-mul}
 use native.Mathlib.Omega.{arith}
 use lib.Dec.{eqb}
 use borrow.Author.Tests.{eqb-false}
-use Rattle.model.specs.Node.{has_flag, with_flag}
+use Rattle.model.specs.Node.{has_flag}
 use Rattle.model.specs.Setting.{with_given}
 
 -- a higher bit is a bit of the half
@@ -37,30 +36,3 @@ given-keeps k i given f h = go (has_flag (2 ^ k) given) (has_flag (2 ^ k) f) ref
     go false c e = refl
     go true true e = refl
     go true false e = other-bit k i f h e
-
--- ---- Known flags
-
--- bit k of w bits that is clear can be set in w bits
-bit-fits : (w k f : ℕ) → k < w → f < 2 ^ w → has_flag (2 ^ k) f ≡ false → f + 2 ^ k < 2 ^ w
-bit-fits zero k f l h e = absurd (omega arith)
-bit-fits (suc w) zero f l h e =
-    let even : f / 1 % 2 ≡ 0 = omega (arith, eqb-false (f / 1 % 2) 1 e) in
-    let double : 2 ^ suc w ≡ 2 * 2 ^ w = omega arith in
-    omega arith
-bit-fits (suc w) (suc k) f l h e =
-    let half = bit-fits w k (f / 2) (omega arith) (omega arith) (sym (half-bit k f) ∙ e) in
-    omega arith
-
-pub with-flag-known : (k f : ℕ) → k < 4 → f < 16 → with_flag (2 ^ k) f < 16
-with-flag-known k f l h = go (has_flag (2 ^ k) f) refl
-  where
-    go : (b : Bool) → has_flag (2 ^ k) f ≡ b → cond b f (f + 2 ^ k) < 16
-    go true e = h
-    go false e = bit-fits 4 k f l h e
-
-pub given-known : (k given f : ℕ) → k < 4 → f < 16 → with_given (2 ^ k) given f < 16
-given-known k given f l h = go (has_flag (2 ^ k) given)
-  where
-    go : (b : Bool) → cond b (with_flag (2 ^ k) f) f < 16
-    go true = with-flag-known k f l h
-    go false = h

@@ -140,17 +140,17 @@ module _ {n : ℕ} {next : ℕ → ℕ} (falls : Falls n next) where
       rw (ne_eqb (suc m) 0 (omega arith), e, fold-fuel stop last more (next (suc m)) m (next (suc m)) (omega arith) (omega arith) (omega arith))
 
   pub follow-step : (stop : ℕ → Bool) (m : ℕ) → 0 < m → m < n → stop m ≡ false → follow stop next m ≡ follow stop next (next m)
-  follow-step stop m h p e = rw (follow-folds stop next m m, follow-folds stop next (next m) (next m)) (fold_step stop _ _ m h p e)
+  follow-step stop m h p e = rw (follow-folds stop next m m, follow-folds stop next (next m) (next m)) (fold_step stop (λ c. c) (λ c x. x) m h p e)
 
   pub steps-step : (stop : ℕ → Bool) (m : ℕ) → 0 < m → m < n → stop m ≡ false → steps stop next m ≡ suc (steps stop next (next m))
-  steps-step stop m h p e = rw (steps-fold stop next m m, steps-fold stop next (next m) (next m)) (fold_step stop _ _ m h p e)
+  steps-step stop m h p e = rw (steps-fold stop next m m, steps-fold stop next (next m) (next m)) (fold_step stop (λ c. 0) (λ c x. suc x) m h p e)
 
   pub left_step : (stop : ℕ → Bool) (m : ℕ) → 0 < m → m < n → stop m ≡ false
       → left_up_to stop next m m ≡ later_or m (left_up_to stop next (next m) (next m))
-  left_step stop m h p e = rw (left-folds stop next m m, left-folds stop next (next m) (next m)) (fold_step stop _ _ m h p e)
+  left_step stop m h p e = rw (left-folds stop next m m, left-folds stop next (next m) (next m)) (fold_step stop (λ c. invalid) later_or m h p e)
 
   pub chain-step : (m : ℕ) → 0 < m → m < n → chain next m ≡ chain next (next m) ++ (m ∷ [])
-  chain-step m h p = rw (chain-folds next m m, chain-folds next (next m) (next m)) (fold_step (λ c. false) _ _ m h p refl)
+  chain-step m h p = rw (chain-folds next m m, chain-folds next (next m) (next m)) (fold_step (λ c. false) (λ c. c ∷ []) (λ c x. x ++ (c ∷ [])) m h p refl)
 
 -- a walk stops where `stop` says, and at node 0
 module _ (stop : ℕ → Bool) (next : ℕ → ℕ) where

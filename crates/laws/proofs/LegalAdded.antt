@@ -16,7 +16,7 @@ use Rattle.model.specs.Path.{well_formed, prim_count}
 use Rattle.model.specs.Node.{invalid, root_arc, Node, is_inert, is_culled}
 use Rattle.model.specs.Graph.{Graph, empty_graph, size, node_at, with_node, is_shallow, is_local_root, has_local_root}
 use Rattle.model.specs.Strength.{view}
-use Rattle.model.specs.Refusals.{Question, ask, most_nodes, most_path_bytes, path_bytes, has_room, arc_allowed, flags_known, fields_allowed, added_kind, culled_allowed, root_record, record_questions, refusal}
+use Rattle.model.specs.Refusals.{Question, ask, most_nodes, most_path_bytes, path_bytes, has_room, arc_allowed, added_kind, root_record, record_questions, refusal}
 use Rattle.model.specs.Snapshot.{read_snapshot}
 use Rattle.model.specs.Calls.{Outcome, has_node_zero, NodeDesc, root_node, init_root, given_or, added_node, given_below, add_child, read_if, read_on, read_or12, read_into}
 use Rattle.laws.proofs.PathGrammar.{well-formed-length}
@@ -174,9 +174,6 @@ arc-allowed g x e = (leb-true x.arc 6 parts.0, root)
         let both = (and-eq-true_iff (eqb x.parent 0) _).0 (parts.1 (ne_eqb (size g) 0 (λ z. omega arith)) (eq-eqb x.arc root_arc r)) in
         (eqb-true x.parent 0 both.0, not-true _ both.1)
 
-fields-allowed : (x : Node) → fields_allowed x ≡ true → (x.flags < 16) × (x.has_specs ≤ 1)
-fields-allowed x e = let both = (and-eq-true_iff (flags_known x) _).0 e in (ltb-true _ _ both.0, leb-true _ _ both.1)
-
 has_room_lem : (g : Graph) (x : Node) → has_room g x ≡ true → (size g < most_nodes) × (path_bytes g.nodes + length x.path ≤ most_path_bytes)
 has_room_lem g x e = let both = (and-eq-true_iff (ltb (size g) most_nodes) _).0 e in (ltb-true _ _ both.0, leb-true _ _ both.1)
 
@@ -197,7 +194,7 @@ starting-keeps-legal stack layer path g legal =
       first = λ e. record { arc = refl; inert = refl; no-parent = refl; no_origin = refl };
       parent-lower = λ h. absurd (omega arith);
       origin-lower = λ h. absurd (omega arith);
-      record-legal = record { path = well; arc = omega arith; known-flags = omega arith; has-specs = omega arith; root-unculled = λ e. refl };
+      record-legal = record { path = well; arc = omega arith; has-specs = omega arith; root-unculled = λ e. refl };
       local-root = λ h. absurd (omega arith);
       node-fits = omega arith;
       path-fits = omega (arith, no-path-bytes g.nodes no_Node, well-formed-length path well);
@@ -228,8 +225,7 @@ adding-keeps-legal d g legal =
     addable some-node links well kind room =
         let below = (and-eq-true_iff (given_below (size g) d.parent) _).0 links in
         let parent : x.parent < size g = link-below (size g) d.parent 0 below.0 some-node in
-        let parts = three-parts (arc_allowed g x) (not (is_culled x)) (fields_allowed x) kind in
-        let fields = fields-allowed x parts.2 in
+        let parts = three-parts (arc_allowed g x) (not (is_culled x)) (leb x.has_specs 1) kind in
         record {
           first = λ e. absurd (omega arith);
           parent-lower = λ h. parent;
@@ -237,8 +233,7 @@ adding-keeps-legal d g legal =
           record-legal = record {
             path = well;
             arc = (arc-allowed g x parts.0).0;
-            known-flags = fields.0;
-            has-specs = fields.1;
+            has-specs = leb-true x.has_specs 1 parts.2;
             root-unculled = λ e. not-true (is_culled x) parts.1;
           };
           local-root = (arc-allowed g x parts.0).1;
@@ -268,8 +263,7 @@ read-addable g x a = record {
   record-legal = record {
     path = a 5;
     arc = (arc-allowed g x parts.0).0;
-    known-flags = (fields-allowed x parts.2).0;
-    has-specs = (fields-allowed x parts.2).1;
+    has-specs = leb-true x.has_specs 1 parts.2;
     root-unculled = λ e. rw (eq-eqb x.arc root_arc e) at (not-true (eqb x.arc root_arc && is_culled x) parts.1);
   };
   local-root = (arc-allowed g x parts.0).1;
@@ -277,8 +271,8 @@ read-addable g x a = record {
   path-fits = (has_room_lem g x (a 7)).1;
 }
   where
-    parts : (arc_allowed g x ≡ true) × (culled_allowed x ≡ true) × (fields_allowed x ≡ true)
-    parts = three-parts (arc_allowed g x) (culled_allowed x) (fields_allowed x) (a 6)
+    parts : (arc_allowed g x ≡ true) × (not (eqb x.arc root_arc && is_culled x) ≡ true) × (leb x.has_specs 1 ≡ true)
+    parts = three-parts (arc_allowed g x) (not (eqb x.arc root_arc && is_culled x)) (leb x.has_specs 1) (a 6)
 
     lower : 0 < size g → (ltb x.parent (size g) ≡ true) × (ltb x.origin (size g) ≡ true)
     lower h = (and-eq-true_iff (ltb x.parent (size g)) _).0 (rw (ne_eqb (size g) 0 (λ z. omega arith)) at (a 4))
@@ -290,12 +284,12 @@ read-addable g x a = record {
 abbrev pub LegalOrRefused : Graph → Outcome → Type 0
 LegalOrRefused old o = Legal o.graph ⊎ ((0 < o.refused) × (o.graph ≡ old))
 
-read-on-legal : (old g : Graph) (xs : List Node) → Legal g → LegalOrRefused old (read_on record_questions old g xs)
+read-on-legal : (old g : Graph) (xs : List Node) → Legal g → LegalOrRefused old (read_on old g xs)
 read-on-legal old g [] legal = inl legal
 read-on-legal old g (x ∷ xs) legal = go (refusal (record_questions g x)) refl (read-on-legal old (with_node g x) xs)
   where
-    go : (r : ℕ) → refusal (record_questions g x) ≡ r → (Legal (with_node g x) → LegalOrRefused old (read_on record_questions old (with_node g x) xs))
-        → LegalOrRefused old (read_if r (read_on record_questions old (with_node g x) xs) old)
+    go : (r : ℕ) → refusal (record_questions g x) ≡ r → (Legal (with_node g x) → LegalOrRefused old (read_on old (with_node g x) xs))
+        → LegalOrRefused old (read_if r (read_on old (with_node g x) xs) old)
     go zero e rest = rest (node-more-keeps-legal g x legal (read-addable g x (none-refused-accepted (record_questions g x) refl e)))
     go (suc r) e rest = inr (omega arith, refl)
 
@@ -303,6 +297,6 @@ pub reading-legal-or-refused : (bytes : List ℕ) (old : Graph) → LegalOrRefus
 unfolding read_into
 reading-legal-or-refused bytes old = go (read_snapshot bytes)
   where
-    go : (found : Option (List Node)) → LegalOrRefused old (read_or12 record_questions found old)
+    go : (found : Option (List Node)) → LegalOrRefused old (read_or12 found old)
     go none = inr (omega arith, refl)
     go (some xs) = read-on-legal old empty_graph xs empty-legal

@@ -96,7 +96,6 @@ pub record OnlySet (g h : Graph) : Type 0 where
   pub finalized : h.finalized ≡ g.finalized
   pub shallow : h.shallow ≡ g.shallow
   pub inert : 0 < size g → is_inert (node_at h.nodes 0) ≡ true
-  pub flags : (n : ℕ) → n < size g → (node_at h.nodes n).flags < 16
   pub specs : (n : ℕ) → n < size g → (node_at h.nodes n).has_specs ≤ 1
   pub root-unculled : (n : ℕ) → n < size g → (node_at g.nodes n).arc ≡ root_arc → is_culled (node_at h.nodes n) ≡ false
 
@@ -123,7 +122,6 @@ module _ (g h : Graph) (legal : Legal g) (only : OnlySet g h) where
       record {
         path = rw same.path x.path;
         arc = rw same.arc x.arc;
-        known-flags = only.flags n l;
         has-specs = only.specs n l;
         root-unculled = λ e. only.root-unculled n l (sym same.arc ∙ e);
       }
@@ -165,7 +163,6 @@ culling-only-sets g legal = record {
   finalized = refl;
   shallow = refl;
   inert = λ some-node. let root = legal.node-0 some-node in rw (((culling-only-culls g).node 0).root-stays root.arc) root.inert;
-  flags = λ n l. ((culling-only-culls g).node n).known (legal.node n l).known-flags;
   specs = λ n l. rw ((culling-only-culls g).node n).has-specs (legal.node n l).has-specs;
   root-unculled = λ n l e. rw (((culling-only-culls g).node n).root-stays e) ((legal.node n l).root-unculled e);
 }
@@ -211,7 +208,6 @@ module _ (name : List ℕ) (is_name : Name name) (g : Graph) (legal : Legal g) (
       rw same record {
         path = append-well-formed path name (well-formed-may-end path x.path) is_name (rw same at short);
         arc = x.arc;
-        known-flags = x.known-flags;
         has-specs = x.has-specs;
         root-unculled = x.root-unculled;
       }

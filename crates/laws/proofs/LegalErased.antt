@@ -153,7 +153,7 @@ module _ (kept : ℕ → Bool) (g : Graph) (legal : Legal g) (s : Spares g kept)
     links = legal-erased kept g s legal.links;
     node-0 = λ h. node-0-erased some-node;
     node = each-erased LegalNode (λ n h. let x = legal.node n h in
-        record { path = x.path; arc = x.arc; known-flags = x.known-flags; has-specs = x.has-specs; root-unculled = x.root-unculled });
+        record { path = x.path; arc = x.arc; has-specs = x.has-specs; root-unculled = x.root-unculled });
     local-root-under-0 = under-0-erased;
     one-local-root = one-local-root-erased;
     few-nodes = omega (arith, size-erased kept g, new-number-no-larger kept (size g), legal.few-nodes);

@@ -28,12 +28,10 @@ pub record RootRecord (x : Node) : Type 0 where
   pub no-parent : x.parent ≡ invalid
   pub no_origin : x.origin ≡ invalid
 
--- what questions 5 and 6 ask of a record by itself: "CULLED is allowed unless the arc is Root", and
--- no unknown flag is
+-- what questions 5 and 6 ask of a record by itself: "CULLED is allowed unless the arc is Root"
 pub record LegalNode (x : Node) : Type 0 where
   pub path : well_formed x.path ≡ true
   pub arc : x.arc ≤ 6
-  pub known-flags : x.flags < 16
   pub has-specs : x.has_specs ≤ 1
   pub root-unculled : x.arc ≡ root_arc → is_culled x ≡ false
 

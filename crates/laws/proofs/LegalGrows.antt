@@ -46,9 +46,7 @@ module _ (g : Graph) (x : Node) (new : Addable g x) where
           rw (eq-eqb x.parent 0 only.0, only.1)
 
   kind-passes : read_kind g x ≡ true
-  kind-passes =
-      rw (arc-passes, go (eqb x.arc root_arc) refl, lt-ltb x.flags 16 new.record-legal.known-flags)
-      (le-leb x.has_specs 1 new.record-legal.has-specs)
+  kind-passes = rw arc-passes (rw (go (eqb x.arc root_arc) refl) (le-leb x.has_specs 1 new.record-legal.has-specs))
     where
       go : (r : Bool) → eqb x.arc root_arc ≡ r → not (r && is_culled x) ≡ true
       go false q = refl

@@ -14,7 +14,7 @@ use Rattle.model.specs.Graph.{Graph, size, node_at}
 use Rattle.model.specs.Setting.{with_site, with_given, with_flags, marked, may_mark, with_first_spec, restricted_at, with_record}
 use Rattle.model.specs.Refusals.{Question, ask}
 use Rattle.model.specs.Calls.{has_node_zero, sets, mark, set_first_spec, set_has_specs, set_restriction_depth}
-use Rattle.laws.proofs.FlagLaws.{given-keeps, given-known}
+use Rattle.laws.proofs.FlagLaws.{given-keeps}
 use Rattle.laws.proofs.SeenLaws.{SameSeen, seen-itself, node-set}
 use Rattle.laws.proofs.LegalGraphs.{Legal}
 use Rattle.laws.proofs.LegalAlike.{OnlySet, only-set-legal}
@@ -45,9 +45,6 @@ module _ (given f : ℕ) where
       go true = rw e e
       go false = e
 
-  known-stay : f < 16 → with_flags given f < 16
-  known-stay h = given-known 2 given culled (omega arith) (given-known 1 given inert (omega arith) (given-known 0 given f (omega arith) h))
-
   unculled-stays : has_flag culled_flag given ≡ false → has_flag culled_flag (with_flags given f) ≡ has_flag culled_flag f
   unculled-stays e = given-keeps 2 1 given culled (λ e. omega arith) ∙ rw e (given-keeps 0 1 given f (λ e. omega arith))
 
@@ -58,7 +55,6 @@ pub record Settable (g : Graph) (n : ℕ) (x : Node) : Type 0 where
   pub below : n < size g
   pub seen : SameSeen (node_at g.nodes n) x
   pub inert : is_inert (node_at g.nodes n) ≡ true → is_inert x ≡ true
-  pub flags : x.flags < 16
   pub specs : x.has_specs ≤ 1
   pub root-unculled : (node_at g.nodes n).arc ≡ root_arc → is_culled x ≡ false
 
@@ -77,7 +73,6 @@ record-only-set g n x legal new = record {
   inert = λ some-node.
       let old = (legal.node-0 some-node).inert in
       node-set g.nodes n 0 x (λ y. is_inert y ≡ true) (λ e. new.inert (rw (← e) old)) old;
-  flags = λ m l. node-set g.nodes n m x (λ y. y.flags < 16) (λ e. new.flags) (legal.node m l).known-flags;
   specs = λ m l. node-set g.nodes n m x (λ y. y.has_specs ≤ 1) (λ e. new.specs) (legal.node m l).has-specs;
   root-unculled = λ m l r.
       node-set g.nodes n m x (λ y. is_culled y ≡ false) (λ e. new.root-unculled (rw (← e) r)) ((legal.node m l).root-unculled r);
@@ -100,7 +95,6 @@ site-settable g n restriction spec_from has_specs legal l small = record {
   below = l;
   seen = record { arc = refl; special = refl; stack = refl; parent = refl; origin = refl; depth = refl; sibling = refl; path = refl };
   inert = λ e. e;
-  flags = (legal.node n l).known-flags;
   specs = small;
   root-unculled = (legal.node n l).root-unculled;
 }
@@ -128,7 +122,6 @@ marking-keeps-legal n flags g =
         path = refl;
       };
       inert = inert-stays flags x.flags;
-      flags = known-stay flags x.flags (legal.node n l).known-flags;
       specs = (legal.node n l).has-specs;
       root-unculled = λ root.
           let clear = not-true (eqb x.arc root_arc && has_flag culled_flag flags) ((and-eq-true_iff (ltb flags 8) _).0 may).1 in

@@ -43,7 +43,6 @@ pub mod BigEndianLaws
 pub mod StoredLaws
 pub mod SnapshotLaws
 pub mod SnapshotReadLaws
-pub mod ClearingLaws
 pub mod SnapshotLawExamples
 pub mod LegalGraphs
 pub mod RankLaws

@@ -138,7 +138,7 @@ NodesFit (x ∷ xs) = FieldsFit x × NodesFit xs
 
 -- one record written in front
 module _ (x : Node) (h : FieldsFit x) (n : ℕ) (rest : List ℕ) where
-  pub length-written : field 0 2 (record_bytes x ++ rest) ≡ length (record_body x)
+  length-written : field 0 2 (record_bytes x ++ rest) ≡ length (record_body x)
   length-written = value-big-endian 2 (length (record_body x)) (omega (arith, record-range x h))
 
   fits-written : fits_record (record_bytes x ++ rest) ≡ true

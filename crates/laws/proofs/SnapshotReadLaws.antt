@@ -18,7 +18,7 @@ use Rattle.model.specs.Path.{well_formed}
 use Rattle.model.specs.Node.{Node, no_node}
 use Rattle.model.specs.Graph.{Graph, empty_graph, size, node_at, children_of, is_shallow, with_node}
 use Rattle.model.specs.Snapshot.{write_snapshot, read_snapshot}
-use Rattle.model.specs.Refusals.{Question, ask, refusal, has_room, read_kind, links_allowed, record_questions}
+use Rattle.model.specs.Refusals.{ask, refusal, has_room, read_kind, links_allowed, record_questions}
 use Rattle.model.specs.Calls.{Outcome, unchanged, read_if, read_on, read_or12, read_into}
 use Rattle.laws.proofs.BigEndianLaws.{Bytes}
 use Rattle.laws.proofs.SnapshotLaws.{NodesFit, written-reads-back, read-is-written}
@@ -207,7 +207,7 @@ pub record RecordPasses (g : Graph) (x : Node) : Type 0 where
   pub kind : read_kind g x ≡ true
   pub room : has_room g x ≡ true
 
-pub all_pass : (a b c d : Bool) → refusal (ask 4 a ∷ ask 5 b ∷ ask 6 c ∷ ask 7 d ∷ []) ≡ 0
+all_pass : (a b c d : Bool) → refusal (ask 4 a ∷ ask 5 b ∷ ask 6 c ∷ ask 7 d ∷ []) ≡ 0
     → (a ≡ true) × (b ≡ true) × (c ≡ true) × (d ≡ true)
 all_pass true true true true e = (refl, refl, refl, refl)
 all_pass true true true false e = absurd (omega arith)
@@ -222,13 +222,10 @@ record-passes g x e =
 
 -- ---- Reading
 
--- each record, put to the graph that those before it were added to, passes the rule's questions
-abbrev pub PassesFrom : (Graph → Node → List Question) → Graph → List Node → Type 0
-PassesFrom rule g [] = Unit {0}
-PassesFrom rule g (x ∷ xs) = (refusal (rule g x) ≡ 0) × PassesFrom rule (with_node g x) xs
-
+-- each record, put to the graph that those before it were added to, passes its questions
 abbrev pub GrowsFrom : Graph → List Node → Type 0
-GrowsFrom g xs = PassesFrom record_questions g xs
+GrowsFrom g [] = Unit {0}
+GrowsFrom g (x ∷ xs) = (refusal (record_questions g x) ≡ 0) × GrowsFrom (with_node g x) xs
 
 abbrev pub Grows : List Node → Type 0
 Grows xs = GrowsFrom empty_graph xs
@@ -265,77 +262,63 @@ grows-size xs h = omega (arith, grows-size-from empty_graph xs h (omega arith))
 pub grows-fresh : (xs : List Node) → Grows xs → Fresh (built xs)
 grows-fresh xs h = built-fresh xs (λ c l u. (grows-lower xs h c l u).0)
 
--- the records are read to the end exactly if they pass
-read-on-passes : (rule : Graph → Node → List Question) (old g : Graph) (xs : List Node) → PassesFrom rule g xs
-    → read_on rule old g xs ≡ accepted (foldl with_node g xs)
-read-on-passes rule old g [] h = refl
-read-on-passes rule old g (x ∷ xs) h = rw h.0 (read-on-passes rule old (with_node g x) xs h.1)
+-- the records are read to the end exactly if they grow
+read-on-grows : (old g : Graph) (xs : List Node) → GrowsFrom g xs → read_on old g xs ≡ accepted (foldl with_node g xs)
+read-on-grows old g [] h = refl
+read-on-grows old g (x ∷ xs) h = rw h.0 (read-on-grows old (with_node g x) xs h.1)
 
 if-accepted : (r : ℕ) (rest : Outcome) (old : Graph) → (read_if r rest old).refused ≡ 0 → (r ≡ 0) × (rest.refused ≡ 0)
 if-accepted zero rest old e = (refl, e)
 if-accepted (suc r) rest old e = absurd (omega arith)
 
-read-on-accepted : (rule : Graph → Node → List Question) (old g : Graph) (xs : List Node) → (read_on rule old g xs).refused ≡ 0
-    → PassesFrom rule g xs
-read-on-accepted rule old g [] e = tt
-read-on-accepted rule old g (x ∷ xs) e =
-    let passed = if-accepted (refusal (rule g x)) (read_on rule old (with_node g x) xs) old e in
-    (passed.0, read-on-accepted rule old (with_node g x) xs passed.1)
+read-on-accepted : (old g : Graph) (xs : List Node) → (read_on old g xs).refused ≡ 0 → GrowsFrom g xs
+read-on-accepted old g [] e = tt
+read-on-accepted old g (x ∷ xs) e =
+    let passed = if-accepted (refusal (record_questions g x)) (read_on old (with_node g x) xs) old e in
+    (passed.0, read-on-accepted old (with_node g x) xs passed.1)
 
 if-refused : (r : ℕ) (rest : Outcome) (old : Graph) → (rest.refused ≢ 0 → rest ≡ unchanged rest.refused old)
     → (read_if r rest old).refused ≢ 0 → read_if r rest old ≡ unchanged (read_if r rest old).refused old
 if-refused zero rest old f h = f h
 if-refused (suc r) rest old f h = refl
 
-module _ (rule : Graph → Node → List Question) (old : Graph) where
-  read-on-refused : (g : Graph) (xs : List Node) → (read_on rule old g xs).refused ≢ 0
-      → read_on rule old g xs ≡ unchanged (read_on rule old g xs).refused old
-  read-on-refused g [] h = absurd (h refl)
-  read-on-refused g (x ∷ xs) h =
-      if-refused (refusal (rule g x)) (read_on rule old (with_node g x) xs) old (read-on-refused (with_node g x) xs) h
+read-on-refused : (old g : Graph) (xs : List Node) → (read_on old g xs).refused ≢ 0 → read_on old g xs ≡ unchanged (read_on old g xs).refused old
+read-on-refused old g [] h = absurd (h refl)
+read-on-refused old g (x ∷ xs) h =
+    if-refused (refusal (record_questions g x)) (read_on old (with_node g x) xs) old (read-on-refused old (with_node g x) xs) h
 
-  pub or12-refused : (o : Option (List Node)) → (read_or12 rule o old).refused ≢ 0
-      → read_or12 rule o old ≡ unchanged (read_or12 rule o old).refused old
-  or12-refused none h = refl
-  or12-refused (some xs) h = read-on-refused empty_graph xs h
+or12-refused : (o : Option (List Node)) (old : Graph) → (read_or12 o old).refused ≢ 0 → read_or12 o old ≡ unchanged (read_or12 o old).refused old
+or12-refused none old h = refl
+or12-refused (some xs) old h = read-on-refused old empty_graph xs h
 
 -- "the first no is the answer, with value 0 and every lent byte unchanged"
 pub refused-read-keeps : (bytes : List ℕ) (old : Graph) → (read_into bytes old).refused ≢ 0
     → read_into bytes old ≡ unchanged (read_into bytes old).refused old
 unfolding read_into
-refused-read-keeps bytes old h = or12-refused record_questions old (read_snapshot bytes) h
+refused-read-keeps bytes old h = or12-refused (read_snapshot bytes) old h
 
--- records that pass the rule are read
-pub or12-passes : (rule : Graph → Node → List Question) (bytes : List ℕ) (old : Graph) (xs : List Node) → read_snapshot bytes ≡ some xs
-    → PassesFrom rule empty_graph xs → read_or12 rule (read_snapshot bytes) old ≡ accepted (built xs)
-or12-passes rule bytes old xs e h = rw (e, read_or12) (read-on-passes rule old empty_graph xs h)
-
+-- records that grow are read
 pub grown-read : (bytes : List ℕ) (old : Graph) (xs : List Node) → read_snapshot bytes ≡ some xs → Grows xs
     → read_into bytes old ≡ accepted (built xs)
 unfolding read_into
-grown-read bytes old xs e h = or12-passes record_questions bytes old xs e h
+grown-read bytes old xs e h = rw (e, read_or12) (read-on-grows old empty_graph xs h)
 
 -- and there is no other way to be accepted
-pub record AcceptedRead (rule : Graph → Node → List Question) (bytes : List ℕ) (outcome : Outcome) : Type 0 where
+pub record AcceptedRead (bytes : List ℕ) (old : Graph) : Type 0 where
   pub nodes : List Node
   pub read : read_snapshot bytes ≡ some nodes
-  pub grow : PassesFrom rule empty_graph nodes
-  pub answer : outcome ≡ accepted (built nodes)
+  pub grow : Grows nodes
+  pub answer : read_into bytes old ≡ accepted (built nodes)
 
-pub or12-accepted : (rule : Graph → Node → List Question) (bytes : List ℕ) (old : Graph)
-    → (read_or12 rule (read_snapshot bytes) old).refused ≡ 0 → AcceptedRead rule bytes (read_or12 rule (read_snapshot bytes) old)
-or12-accepted rule bytes old z = go (read_snapshot bytes) refl z
+pub accepted-read : (bytes : List ℕ) (old : Graph) → (read_into bytes old).refused ≡ 0 → AcceptedRead bytes old
+unfolding read_into
+accepted-read bytes old z = go (read_snapshot bytes) refl z
   where
-    go : (o : Option (List Node)) → read_snapshot bytes ≡ o → (read_or12 rule o old).refused ≡ 0
-        → AcceptedRead rule bytes (read_or12 rule (read_snapshot bytes) old)
+    go : (o : Option (List Node)) → read_snapshot bytes ≡ o → (read_or12 o old).refused ≡ 0 → AcceptedRead bytes old
     go none e y = absurd (omega arith)
     go (some xs) e y =
-        let grow = read-on-accepted rule old empty_graph xs y in
-        record { nodes = xs; read = e; grow = grow; answer = or12-passes rule bytes old xs e grow }
-
-pub accepted-read : (bytes : List ℕ) (old : Graph) → (read_into bytes old).refused ≡ 0 → AcceptedRead record_questions bytes (read_into bytes old)
-unfolding read_into
-accepted-read bytes old z = or12-accepted record_questions bytes old z
+        let grow = read-on-accepted old empty_graph xs y in
+        record { nodes = xs; read = e; grow = grow; answer = grown-read bytes old xs e grow }
 
 module _ (bytes : List ℕ) (old : Graph) (z : (read_into bytes old).refused ≡ 0) where
   pub accepted-read-fresh : Fresh (read_into bytes old).graph

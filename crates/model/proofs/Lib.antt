@@ -7,6 +7,5 @@ pub mod Examples
 pub mod RankExamples
 pub mod HierarchyExamples
 pub mod SnapshotExamples
-pub mod ClearingExamples
 pub mod CallExamples
 pub mod SettingExamples

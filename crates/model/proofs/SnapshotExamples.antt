@@ -26,7 +26,7 @@ empty-read old = refl
 abbrev pub reference : Node
 reference = record {
   arc = 4;
-  flags = 15;
+  flags = 255;
   stack = 4294967295;
   layer = 16909060;
   parent = 0;
@@ -45,7 +45,7 @@ two = with_node (with_node empty_graph (root_node 0 0 (bytes "/M"))) reference
 two-written : write_snapshot two
     ≡ 0 ∷ 0 ∷ 0 ∷ 65 ∷ 1 ∷ 0 ∷ 2
     ∷ 0 ∷ 29 ∷ 0 ∷ 1 ∷ 0 ∷ 0 ∷ 0 ∷ 0 ∷ 0 ∷ 0 ∷ 0 ∷ 0 ∷ 255 ∷ 255 ∷ 255 ∷ 255 ∷ 255 ∷ 255 ∷ 255 ∷ 255 ∷ 0 ∷ 1 ∷ 0 ∷ 0 ∷ 0 ∷ 0 ∷ 0 ∷ 0 ∷ 1 ∷ 47 ∷ 77
-    ∷ 0 ∷ 29 ∷ 4 ∷ 15 ∷ 255 ∷ 255 ∷ 255 ∷ 255 ∷ 1 ∷ 2 ∷ 3 ∷ 4 ∷ 0 ∷ 0 ∷ 0 ∷ 0 ∷ 0 ∷ 0 ∷ 0 ∷ 0 ∷ 255 ∷ 255 ∷ 1 ∷ 2 ∷ 0 ∷ 1 ∷ 0 ∷ 2 ∷ 0 ∷ 47 ∷ 82 ∷ []
+    ∷ 0 ∷ 29 ∷ 4 ∷ 255 ∷ 255 ∷ 255 ∷ 255 ∷ 255 ∷ 1 ∷ 2 ∷ 3 ∷ 4 ∷ 0 ∷ 0 ∷ 0 ∷ 0 ∷ 0 ∷ 0 ∷ 0 ∷ 0 ∷ 255 ∷ 255 ∷ 1 ∷ 2 ∷ 0 ∷ 1 ∷ 0 ∷ 2 ∷ 0 ∷ 47 ∷ 82 ∷ []
 unfolding write_snapshot record_body with_node prim_count is_name_start is_word_byte is_selection_byte
 two-written = refl
 

@@ -12,7 +12,7 @@ use Rattle.model.specs.Setting.{marked, may_mark, with_first_spec, restricted_at
 use Rattle.model.specs.Erasing.{stays, can_erase, new_number, erase}
 use Rattle.model.specs.Deepening.{append_child_name_to_all_sites}
 use Rattle.model.specs.Snapshot.{read_snapshot}
-use Rattle.model.specs.Refusals.{Question, ask, refusal, most_path_bytes, path_bytes, has_room, added_kind, record_questions, former_questions}
+use Rattle.model.specs.Refusals.{Question, ask, refusal, most_path_bytes, path_bytes, has_room, added_kind, record_questions}
 
 -- ---- What a call that writes a graph comes to
 
@@ -180,21 +180,17 @@ abbrev pub read_if : ℕ → Outcome → Graph → Outcome
 read_if zero rest old = rest
 read_if (suc number) rest old = unchanged (suc number) old
 
--- the records from the first on, each put the rule's questions; `old` is what a refusal leaves
-abbrev pub read_on : (Graph → Node → List Question) → Graph → Graph → List Node → Outcome
-read_on rule old g [] = record { refused = 0; value = size g; graph = g }
-read_on rule old g (x ∷ xs) = read_if (refusal (rule g x)) (read_on rule old (with_node g x) xs) old
+-- the records from the first on, each put its questions; `old` is what a refusal leaves
+abbrev pub read_on : Graph → Graph → List Node → Outcome
+read_on old g [] = record { refused = 0; value = size g; graph = g }
+read_on old g (x ∷ xs) = read_if (refusal (record_questions g x)) (read_on old (with_node g x) xs) old
 
-abbrev pub read_or12 : (Graph → Node → List Question) → Option (List Node) → Graph → Outcome
-read_or12 rule none old = unchanged 12 old
-read_or12 rule (some xs) old = read_on rule old empty_graph xs
+abbrev pub read_or12 : Option (List Node) → Graph → Outcome
+read_or12 none old = unchanged 12 old
+read_or12 (some xs) old = read_on old empty_graph xs
 
 unfoldable pub read_into : List ℕ → Graph → Outcome
-read_into bytes old = read_or12 record_questions (read_snapshot bytes) old
-
--- document 02, W3: "reads a stored snapshot under the former rule"
-unfoldable pub read_formerly : List ℕ → Graph → Outcome
-read_formerly bytes old = read_or12 former_questions (read_snapshot bytes) old
+read_into bytes old = read_or12 (read_snapshot bytes) old
 
 -- ---- The calls that write a graph, and a list of them
 

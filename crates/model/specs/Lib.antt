@@ -16,7 +16,6 @@ pub mod Refusals
 pub mod Setting
 pub mod Answers
 pub mod Calls
-pub mod Clearing
 pub mod Arena
 pub mod Hierarchy
 pub mod ArenaCalls

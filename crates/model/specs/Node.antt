@@ -34,7 +34,8 @@ payload_arc = 5
 abbrev pub specialize_arc : ℕ
 specialize_arc = 6
 
--- "flags in 8 bits (INERT 1, CULLED 2, PROHIBITED_CHILDREN 4, HAS_SPECIALIZES 8, by our choice"
+-- "flags in 8 bits (INERT 1, CULLED 2, PROHIBITED_CHILDREN 4, HAS_SPECIALIZES 8, by our choice;
+-- higher bits are kept and given back unread)"
 abbrev pub has_flag : ℕ → ℕ → Bool
 has_flag flag flags = eqb (flags / flag % 2) 1
 
@@ -49,11 +50,6 @@ prohibited_children_flag = 4
 
 abbrev pub has_specializes_flag : ℕ
 has_specializes_flag = 8
-
--- The "flag bits 16 to 128 (decimal)" of document 02, W3, are unknown: no graph has one set
--- (question 6). These are the flags with "those four bits" cleared.
-abbrev pub known_flags : ℕ → ℕ
-known_flags flags = flags % 16
 
 -- the flags with one of them set
 abbrev pub with_flag : ℕ → ℕ → ℕ
@@ -76,8 +72,7 @@ pub record Node : Type 0 where
   pub has_specs : ℕ
   pub path : List ℕ
 
--- the node with other flags, parent, origin and path: what culling, erasing, deepening and clearing
--- unknown flags change
+-- the node with other flags, parent, origin and path: what culling, erasing and deepening change
 abbrev pub changed : ℕ → ℕ → ℕ → List ℕ → Node → Node
 changed flags parent origin path x = record {
   arc = x.arc;
@@ -93,10 +88,6 @@ changed flags parent origin path x = record {
   has_specs = x.has_specs;
   path = path;
 }
-
--- the node with its unknown flags cleared
-abbrev pub with_known_flags : Node → Node
-with_known_flags x = changed (known_flags x.flags) x.parent x.origin x.path x
 
 -- what stands where there is no node: 7 is no arc
 abbrev pub no_node : Node

@@ -64,28 +64,13 @@ arc_allowed g x =
 abbrev pub has_specs_allowed : Node → Bool
 has_specs_allowed x = leb x.has_specs 1
 
--- document 02, W3, of "flag bits 16 to 128 (decimal)": "Adding a node or reading a snapshot with any
--- of them set now fails question 6"
-abbrev pub flags_known : Node → Bool
-flags_known x = ltb x.flags 16
-
-abbrev pub fields_allowed : Node → Bool
-fields_allowed x = flags_known x && has_specs_allowed x
-
 -- "CULLED may not be added"
 abbrev pub added_kind : Graph → Node → Bool
-added_kind g x = arc_allowed g x && (not (is_culled x) && fields_allowed x)
+added_kind g x = arc_allowed g x && (not (is_culled x) && has_specs_allowed x)
 
 -- in a snapshot "CULLED is allowed unless the arc is Root (6)"
-abbrev pub culled_allowed : Node → Bool
-culled_allowed x = not (eqb x.arc root_arc && is_culled x)
-
 abbrev pub read_kind : Graph → Node → Bool
-read_kind g x = arc_allowed g x && (culled_allowed x && fields_allowed x)
-
--- "the former rule", W3's name for what was asked before it: unknown flags are not asked about
-abbrev pub former_kind : Graph → Node → Bool
-former_kind g x = arc_allowed g x && (culled_allowed x && has_specs_allowed x)
+read_kind g x = arc_allowed g x && (not (eqb x.arc root_arc && is_culled x) && has_specs_allowed x)
 
 -- ---- A record of a snapshot, put to a graph that holds the records before it
 
@@ -97,13 +82,7 @@ root_record x = eqb x.arc root_arc && (is_inert x && (eqb x.parent invalid && eq
 abbrev pub links_allowed : Graph → Node → Bool
 links_allowed g x = cond (eqb (size g) 0) (root_record x) (ltb x.parent (size g) && ltb x.origin (size g))
 
--- "Asked before 4 to 7 in a snapshot; those go record by record": by a rule for question 6
-abbrev pub questions_by : (Graph → Node → Bool) → Graph → Node → List Question
-questions_by kind g x =
-    ask 4 (links_allowed g x) ∷ ask 5 (well_formed x.path) ∷ ask 6 (kind g x) ∷ ask 7 (has_room g x) ∷ []
-
+-- "Asked before 4 to 7 in a snapshot; those go record by record"
 abbrev pub record_questions : Graph → Node → List Question
-record_questions g x = questions_by read_kind g x
-
-abbrev pub former_questions : Graph → Node → List Question
-former_questions g x = questions_by former_kind g x
+record_questions g x =
+    ask 4 (links_allowed g x) ∷ ask 5 (well_formed x.path) ∷ ask 6 (read_kind g x) ∷ ask 7 (has_room g x) ∷ []

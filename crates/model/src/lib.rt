@@ -2,6 +2,7 @@
 // its number, Answers.antt each answer its refusal and its value, Path.antt says what the answers
 // about a path are.
 #![tactic(auto)]
+
 ghost use Rattle.std.specs.Prelude.{◌≡◌, not, eqb};
 ghost use Rattle.model.specs.Answers.{ordering_number, node_option, node_number};
 ghost use Rattle.model.specs.Node.{invalid, optional};

@@ -6,14 +6,14 @@ use mathlib.Core.Option.{some}
 use mathlib.Core.List.{List, [], ◌∷◌}
 use Prim.Native.Nat.{ℕ, ◌+◌, ◌≤◌, ◌<◌}
 use native.Mathlib.Omega.{arith}
-use lib.Dec.{eqb}
+use lib.Dec.{eqb, leb}
 use lib.ListN.{length}
 use borrow.Author.Tests.{eq-eqb, ne_eqb, lt-ltb, ltb-true, le-leb}
 use Rattle.model.specs.Path.{well_formed, prim_count}
 use Rattle.model.specs.Node as model
 use Rattle.model.specs.Node.{root_arc, is_culled}
 use Rattle.model.specs.Graph.{Graph, size, with_node}
-use Rattle.model.specs.Refusals.{refusal_number, Question, ask, refusal, path_bytes, arc_allowed, fields_allowed, links_allowed, record_questions}
+use Rattle.model.specs.Refusals.{refusal_number, Question, ask, refusal, path_bytes, arc_allowed, links_allowed, record_questions}
 use Rattle.model.specs.Calls as calls
 use Rattle.model.specs.Answers.{node_option, number_option}
 use Rattle.model.specs.Calls.{decided, has_node_zero, init_root, given_or, prims_over, given_below, default_depth, added_node, root_node, add_child}
@@ -64,16 +64,16 @@ module _ (g : Graph) (d : calls.NodeDesc) (some-node : 0 < size g) where
   add-accepted e =
       let passes = none-refused-accepted (add_questions g d) refl e in
       let links : links_allowed g x ≡ true = rw (ne_eqb (size g) 0 (λ z. omega arith)) (links-asked g d some-node ∙ passes 4) in
-      rw (links, passes 5, added-read (arc_allowed g x) (is_culled x) (fields_allowed x) (passes 6), passes 7)
+      rw (links, passes 5, added-read (arc_allowed g x) (is_culled x) (leb x.has_specs 1) (passes 6), passes 7)
     where
-      added-read : (arcs culled fields : Bool) → (arcs && (not culled && fields)) ≡ true → (arcs && (not (eqb x.arc root_arc && culled) && fields)) ≡ true
-      added-read true true fields k = absurd (let z : ◌≡◌ {A = ℕ} 0 1 = cc in omega arith)
-      added-read true false fields k = go (eqb x.arc root_arc)
+      added-read : (arcs culled specs : Bool) → (arcs && (not culled && specs)) ≡ true → (arcs && (not (eqb x.arc root_arc && culled) && specs)) ≡ true
+      added-read true true specs k = absurd (let z : ◌≡◌ {A = ℕ} 0 1 = cc in omega arith)
+      added-read true false specs k = go (eqb x.arc root_arc)
         where
-          go : (a : Bool) → (not (a && false) && fields) ≡ true
+          go : (a : Bool) → (not (a && false) && specs) ≡ true
           go true = k
           go false = k
-      added-read false culled fields k = k
+      added-read false culled specs k = k
 
 -- ---- The record of a node that is added
 

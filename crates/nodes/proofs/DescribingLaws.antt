@@ -87,9 +87,9 @@ module _ (g : Graph) (d : calls.NodeDesc) (some-node : 0 < size g) where
       go (some n) none = same (ltb n (size g))
       go (some n) (some k) = refl
 
-  pub add-questions : refusal (questions_at (before_next g false false) (numbers_of x) x.path) ≡ refusal (add_questions g d)
+  pub add-questions : refusal (questions_at (before_next g false) (numbers_of x) x.path) ≡ refusal (add_questions g d)
   add-questions =
-      let links : links_at (before_next g false false) (numbers_of x) ≡ (given_below (size g) d.parent && given_below (size g) d.origin) =
+      let links : links_at (before_next g false) (numbers_of x) ≡ (given_below (size g) d.parent && given_below (size g) d.origin) =
       rw (ne_eqb (size g) 0 (λ z. omega arith)) links-asked in
       ap (λ (t : Bool). refusal (ask 4 t ∷ ask 5 (well_formed x.path) ∷ ask 6 (added_kind g x) ∷ ask 7 (has_room g x) ∷ [])) links
 
@@ -102,7 +102,7 @@ module _ (bs : List ℕ) (o : ValidArena bs) (desc : NodeDesc) (path : List ℕ)
 
   -- what comes before a node that is added
   abbrev added : ℕ → ℕ → Bool → Before
-  added count sum root = record { count = count; path_bytes = sum; has_root = root; culled_allowed = false; any_flags = false }
+  added count sum root = record { count = count; path_bytes = sum; has_root = root; culled_allowed = false }
 
   -- its numbers, with the parent and the origin that are put in
   abbrev numbers : ℕ → ℕ → RecordNumbers
@@ -117,7 +117,7 @@ module _ (bs : List ℕ) (o : ValidArena bs) (desc : NodeDesc) (path : List ℕ)
       let counted : count ≡ size g = count-is ∙ sym (sizes bs o) in
       let rooted : root ≡ has_local_root g.nodes = root_is ∙ has-root bs o some-node in
       let from : origin ≡ (added_node g d).origin = origin-is ∙ ap (given_or d.origin) parent_is in
-      let same : questions_at (added count sum root) (numbers parent origin) path ≡ questions_at (before_next g false false) (numbers_of (added_node g d)) path =
+      let same : questions_at (added count sum root) (numbers parent origin) path ≡ questions_at (before_next g false) (numbers_of (added_node g d)) path =
       λ i. questions_at (added (counted i) (sum_is_lem i) (rooted i)) (numbers (parent_is i) (from i)) path in
       record {
         refused = checked.refused ∙ ap refusal same ∙ add-questions g d (omega (arith, sizes bs o));

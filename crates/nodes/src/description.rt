@@ -74,7 +74,6 @@ pub fn check_desc(arena: &[u8], count: u32, desc: NodeDesc, path: &[u8]) -> Chec
         path_bytes: path_bytes(arena, count),
         has_root: arena::local_root(arena) != 0,
         culled_allowed: false,
-        any_flags: false,
     };
     let above = desc.parent;
     let from = desc.origin;

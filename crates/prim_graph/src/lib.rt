@@ -21,7 +21,7 @@ pub use nodes::calls::{
 pub use nodes::paths::{intro_path, path, path_at_introduction};
 pub use nodes::setting::{mark, set_first_spec, set_has_specs, set_restriction_depth};
 pub use ordering::calls::{finalize_strength_order, order_entry, strength_order};
-pub use snapshot::calls::{clear_unknown_flags, read_snapshot, write_snapshot};
+pub use snapshot::calls::{read_snapshot, write_snapshot};
 pub use strength::calls::{
     HierarchyRead, compare_node_strength, compare_sibling_node_strength,
     get_propagated_specializes_node, is_ancestor_of, is_propagated_specializes, same_site,

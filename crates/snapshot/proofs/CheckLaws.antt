@@ -3,7 +3,7 @@
 -- `has_root` and `prims` are those of that graph. Start, step and end. Assumes nothing.
 use mathlib.Core.Path.{◌≡◌, refl, sym, ap, ◌∙◌}
 use mathlib.Core.Logic.{◌⊎◌, inl, inr}
-use mathlib.Core.Bool.{Bool, true, false, ◌&&◌, ◌||◌, and-eq-true_iff}
+use mathlib.Core.Bool.{Bool, false, ◌&&◌, ◌||◌, and-eq-true_iff}
 use mathlib.Core.Option.{Option}
 use mathlib.Core.List.{List, [], ◌∷◌, ◌++◌, foldl}
 use Prim.Native.Nat.{ℕ, zero, suc, ◌+◌, ◌-◌, ◌≤◌, ◌<◌}
@@ -15,26 +15,26 @@ use lib.ListN.{length, take, drop, get_or, set, length-drop, length-set, get_or-
 use lib.Seq.{take_all, take-suc, drop-cons, drop-length, length-take-le, get_or-append_seam, get_or-set_same, get_or-set_other}
 use borrow.Author.Tests.{ltb-true, leb-true}
 use Rattle.model.specs.Lists.{any_below}
-use Rattle.model.specs.Path.{well_formed, prim_count}
+use Rattle.model.specs.Path.{prim_count}
 use Rattle.model.specs.Node.{root_arc, Node, no_node}
 use Rattle.model.specs.Graph.{Graph, empty_graph, node_at, with_node, is_local_root, has_local_root}
 use Rattle.model.specs.Snapshot.{field, read_record}
-use Rattle.model.specs.Refusals.{refusal_number, refusal, most_nodes, most_path_bytes, path_bytes, has_room, former_kind, links_allowed}
-use Rattle.model.specs.Calls.{Outcome, read_if, read_on, read_or12}
+use Rattle.model.specs.Refusals.{refusal_number, refusal, most_nodes, most_path_bytes, path_bytes, record_questions}
+use Rattle.model.specs.Calls.{Outcome, read_if, read_on, read_or12, read_into}
 use Rattle.model.specs.declared.Refusal.{Refusal}
 use Rattle.model.specs.declared.UnitResult.TheVariants.{Done, Refused as FinishRefused}
 use Rattle.laws.proofs.PathLemmas.{length-snoc}
 use Rattle.laws.proofs.ListLaws.{any-below-cong}
-use Rattle.laws.proofs.SnapshotReadLaws.{built, built-nodes, all_pass, record-passes}
+use Rattle.laws.proofs.SnapshotReadLaws.{built, built-nodes, record-passes}
 use Rattle.laws.proofs.LegalAdded.{path-bytes-append}
 use Rattle.laws.proofs.ArenaCallLaws.{refusal-some}
 use Rattle.validate.specs.declared.record.Checked.{Checked}
 use Rattle.validate.specs.declared.record.Checked.TheVariants.{Accepted, Refused}
 use Rattle.validate.specs.declared.record.Before.{Before}
 use Rattle.validate.specs.declared.record.RecordNumbers.{RecordNumbers}
-use Rattle.validate.specs.RecordCheck.{numbers_of, before_next, questions_at, checked_refusal, checked_prims, RecordChecked}
-use Rattle.validate.proofs.RecordCheckLaws.{questions-at, former-questions-at}
-use Rattle.snapshot.specs.SnapshotReading.{nodes_read, Exact, rule_of, read_by, before_read, questions_of, RecordsChecked}
+use Rattle.validate.specs.RecordCheck.{questions_at, checked_refusal, checked_prims, RecordChecked}
+use Rattle.validate.proofs.RecordCheckLaws.{questions-at}
+use Rattle.snapshot.specs.SnapshotReading.{nodes_read, Exact, before_read, questions_of, RecordsChecked}
 use Rattle.snapshot.proofs.SnapshotRecords.{record_part, Reached, reached-none, node-lent, piece-long, reached-more}
 
 -- ---- The graph of the first records
@@ -48,20 +48,12 @@ built-more g (x ∷ xs) (suc n) h = built-more (with_node g x) xs n (omega arith
 pub built-sized : (xs : List Node) (n : ℕ) → n ≤ length xs → length (built (take n xs)).nodes ≡ n
 built-sized xs n h = ap length (built-nodes (take n xs)) ∙ length-take-le n xs h
 
-rule-at : (any : Bool) (g : Graph) (x : Node) → rule_of any g x ≡ questions_at (before_next g true any) (numbers_of x) x.path
-rule-at true g x = former-questions-at g x
-rule-at false g x = questions-at g x
-
-rule-room : (any : Bool) (g : Graph) (x : Node) → refusal (rule_of any g x) ≡ 0 → has_room g x ≡ true
-rule-room true g x e = (all_pass (links_allowed g x) (well_formed x.path) (former_kind g x) (has_room g x) e).3
-rule-room false g x e = (record-passes g x e).room
-
-questions-here : (any : Bool) (xs : List Node) (n : ℕ) (x : Node) → n ≤ length xs
-    → rule_of any (built (take n xs)) x ≡ questions_of (before_read any n (path_bytes (take n xs)) (has_local_root (take n xs))) x
-questions-here any xs n x h =
-    rule-at any (built (take n xs)) x
-    ∙ ap (λ (ns : List Node). questions_of (before_read any (length ns) (path_bytes ns) (has_local_root ns)) x) (built-nodes (take n xs))
-    ∙ ap (λ (k : ℕ). questions_of (before_read any k (path_bytes (take n xs)) (has_local_root (take n xs))) x) (length-take-le n xs h)
+questions-here : (xs : List Node) (n : ℕ) (x : Node) → n ≤ length xs
+    → record_questions (built (take n xs)) x ≡ questions_of (before_read n (path_bytes (take n xs)) (has_local_root (take n xs))) x
+questions-here xs n x h =
+    questions-at (built (take n xs)) x
+    ∙ ap (λ (ns : List Node). questions_of (before_read (length ns) (path_bytes ns) (has_local_root ns)) x) (built-nodes (take n xs))
+    ∙ ap (λ (k : ℕ). questions_of (before_read k (path_bytes (take n xs)) (has_local_root (take n xs))) x) (length-take-le n xs h)
 
 paths-more : (xs : List Node) (n : ℕ) → n < length xs → path_bytes (take (suc n) xs) ≡ path_bytes (take n xs) + length (node_at xs n).path
 paths-more xs n h =
@@ -112,20 +104,20 @@ arc-read s = refl
 
 -- ---- The loop's state
 
-pub record CheckedTo (any : Bool) (bytes prims : List ℕ) (at paths : ℕ) (root : Bool) (n : ℕ) : Type 0 where
+pub record CheckedTo (bytes prims : List ℕ) (at paths : ℕ) (root : Bool) (n : ℕ) : Type 0 where
   pub reached : Reached bytes at n
-  pub same : (read_on (rule_of any) empty_graph (built (take n (nodes_read bytes))) (drop n (nodes_read bytes))).refused ≡ (read_by any bytes).refused
+  pub same : (read_on empty_graph (built (take n (nodes_read bytes))) (drop n (nodes_read bytes))).refused ≡ (read_into bytes empty_graph).refused
   pub path_bytes : paths ≡ path_bytes (take n (nodes_read bytes))
   pub few_bytes : paths ≤ most_path_bytes
   pub has-root : root ≡ has_local_root (take n (nodes_read bytes))
   pub named : (k : ℕ) → k < n → get_or prims k 0 ≡ prim_count (node_at (nodes_read bytes) k).path
   pub whole : length prims ≡ 1024
 
-pub checked-none : (any : Bool) (bytes prims : List ℕ) (count : ℕ) → Exact bytes count → length prims ≡ 1024
-    → CheckedTo any bytes prims 7 0 false 0
-checked-none any bytes prims count exact whole = record {
+pub checked-none : (bytes prims : List ℕ) (count : ℕ) → Exact bytes count → length prims ≡ 1024 → CheckedTo bytes prims 7 0 false 0
+unfolding read_into
+checked-none bytes prims count exact whole = record {
   reached = reached-none bytes count exact;
-  same = ap (λ (o : Option (List Node)). (read_or12 (rule_of any) o empty_graph).refused) (sym exact.read);
+  same = ap (λ (o : Option (List Node)). (read_or12 o empty_graph).refused) (sym exact.read);
   path_bytes = refl;
   few_bytes = omega arith;
   has-root = refl;
@@ -133,7 +125,7 @@ checked-none any bytes prims count exact whole = record {
   whole = whole;
 }
 
-module _ (any : Bool) (bytes prims : List ℕ) (at paths : ℕ) (root : Bool) (n : ℕ) (to : CheckedTo any bytes prims at paths root n) where
+module _ (bytes prims : List ℕ) (at paths : ℕ) (root : Bool) (n : ℕ) (to : CheckedTo bytes prims at paths root n) where
   abbrev nodes : List Node
   nodes = nodes_read bytes
 
@@ -141,12 +133,12 @@ module _ (any : Bool) (bytes prims : List ℕ) (at paths : ℕ) (root : Bool) (n
   graph = built (take n nodes)
 
   -- the end
-  pub checked-all : length nodes ≤ n → RecordsChecked any bytes Done prims
+  pub checked-all : length nodes ≤ n → RecordsChecked bytes Done prims
   checked-all end =
       let all : n ≡ length nodes = omega (arith, to.reached.few) in
       let none_left : drop n nodes ≡ [] = ap (λ (k : ℕ). drop k nodes) all ∙ drop-length nodes in
       record {
-        refused = sym (ap (λ (xs : List Node). (read_on (rule_of any) empty_graph graph xs).refused) none_left) ∙ to.same;
+        refused = sym (ap (λ (xs : List Node). (read_on empty_graph graph xs).refused) none_left) ∙ to.same;
         named = λ e k h. to.named k (omega arith);
       }
 
@@ -158,30 +150,30 @@ module _ (any : Bool) (bytes prims : List ℕ) (at paths : ℕ) (root : Bool) (n
     node : read_record piece ≡ x
     node = node-lent bytes at n to.reached h piece e
 
-    questions : questions_of (before_read any n paths root) (read_record piece) ≡ rule_of any graph x
+    questions : questions_of (before_read n paths root) (read_record piece) ≡ record_questions graph x
     questions =
-        (λ i. questions_of (before_read any n (to.path_bytes i) (to.has-root i)) (node i)) ∙ sym (questions-here any nodes n x (omega arith))
+        (λ i. questions_of (before_read n (to.path_bytes i) (to.has-root i)) (node i)) ∙ sym (questions-here nodes n x (omega arith))
 
-    next : read_on (rule_of any) empty_graph graph (drop n nodes)
-        ≡ read_if (refusal (rule_of any graph x)) (read_on (rule_of any) empty_graph (with_node graph x) (drop (suc n) nodes)) empty_graph
-    next = ap (read_on (rule_of any) empty_graph graph) (drop-cons nodes n no_node h)
+    next : read_on empty_graph graph (drop n nodes)
+        ≡ read_if (refusal (record_questions graph x)) (read_on empty_graph (with_node graph x) (drop (suc n) nodes)) empty_graph
+    next = ap (read_on empty_graph graph) (drop-cons nodes n no_node h)
 
-    module _ (r : Checked) (checked : RecordChecked (questions_of (before_read any n paths root) (read_record piece)) (read_record piece).path r) where
-      refused : checked_refusal r ≡ refusal (rule_of any graph x)
+    module _ (r : Checked) (checked : RecordChecked (questions_of (before_read n paths root) (read_record piece)) (read_record piece).path r) where
+      refused : checked_refusal r ≡ refusal (record_questions graph x)
       refused = checked.refused ∙ ap refusal questions
 
-      pub refused-here : (q : Refusal) → r ≡ Refused q → RecordsChecked any bytes (FinishRefused q) prims
+      pub refused-here : (q : Refusal) → r ≡ Refused q → RecordsChecked bytes (FinishRefused q) prims
       refused-here q s =
-          let number : refusal_number q ≡ refusal (rule_of any graph x) = ap checked_refusal (sym s) ∙ refused in
+          let number : refusal_number q ≡ refusal (record_questions graph x) = ap checked_refusal (sym s) ∙ refused in
           record {
             refused =
-                number ∙ sym (if-refused (refusal (rule_of any graph x)) _ empty_graph (λ z. refusal-some q (number ∙ z)))
+                number ∙ sym (if-refused (refusal (record_questions graph x)) _ empty_graph (λ z. refusal-some q (number ∙ z)))
                 ∙ sym (ap (λ (o : Outcome). o.refused) next) ∙ to.same;
             named = λ z. absurd (refusal-some q z);
           }
 
       module _ (p : ℕ) (s : r ≡ Accepted p) where
-        accepted : refusal (rule_of any graph x) ≡ 0
+        accepted : refusal (record_questions graph x) ≡ 0
         accepted = sym refused ∙ ap checked_refusal s
 
         named_here : p ≡ prim_count x.path
@@ -193,7 +185,7 @@ module _ (any : Bool) (bytes prims : List ℕ) (at paths : ℕ) (root : Bool) (n
 
         capacity : (length graph.nodes < most_nodes) × (path_bytes graph.nodes + length x.path ≤ most_path_bytes)
         capacity =
-            let both = (and-eq-true_iff _ _).0 (rule-room any graph x accepted) in
+            let both = (and-eq-true_iff _ _).0 (record-passes graph x accepted).room in
             (ltb-true _ _ both.0, leb-true _ _ both.1)
 
         pub fits-prims : n < 1024
@@ -202,14 +194,14 @@ module _ (any : Bool) (bytes prims : List ℕ) (at paths : ℕ) (root : Bool) (n
         paths-fit : paths + (length piece - 27) ≤ most_path_bytes
         paths-fit = omega (arith, to.path_bytes, ap path_bytes (built-nodes (take n nodes)), path-long, capacity.1)
 
-        pub checked-more : CheckedTo any bytes (set prims n p) (at + (2 + length piece)) (paths + (length piece - 27))
+        pub checked-more : CheckedTo bytes (set prims n p) (at + (2 + length piece)) (paths + (length piece - 27))
             ((ltb 0 n && eqb (get_or piece 0 0) 0) || root) (n + 1)
         checked-more = record {
           reached = reached-more bytes at n to.reached h piece e;
           same =
-              ap (λ (k : ℕ). (read_on (rule_of any) empty_graph (built (take k nodes)) (drop k nodes)).refused) (add-one n)
-              ∙ ap (λ (g : Graph). (read_on (rule_of any) empty_graph g (drop (suc n) nodes)).refused) (built-more empty_graph nodes n h)
-              ∙ sym (ap (λ (k : ℕ). (read_if k (read_on (rule_of any) empty_graph (with_node graph x) (drop (suc n) nodes)) empty_graph).refused) accepted)
+              ap (λ (k : ℕ). (read_on empty_graph (built (take k nodes)) (drop k nodes)).refused) (add-one n)
+              ∙ ap (λ (g : Graph). (read_on empty_graph g (drop (suc n) nodes)).refused) (built-more empty_graph nodes n h)
+              ∙ sym (ap (λ (k : ℕ). (read_if k (read_on empty_graph (with_node graph x) (drop (suc n) nodes)) empty_graph).refused) accepted)
               ∙ sym (ap (λ (o : Outcome). o.refused) next) ∙ to.same;
           path_bytes = omega (arith, to.path_bytes, path-long, paths-more nodes n h, ap (λ (k : ℕ). path_bytes (take k nodes)) (add-one n));
           few_bytes = paths-fit;

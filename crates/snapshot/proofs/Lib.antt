@@ -5,8 +5,6 @@ pub mod CheckLaws
 -- Filling an arena, and the reader.
 mod SnapshotFill
 mod ReaderLaws
--- Clearing unknown flags.
-mod ClearLaws
 -- What is written reads back; the writer.
 pub mod ReadBack
 mod WriterLaws

@@ -1,7 +1,6 @@
 -- What the reader's proof cites: what each pass answers, as what reading comes to. Refused by any
 -- of them, the arena keeps its bytes. Assumes nothing.
 use mathlib.Core.Path.{◌≡◌, refl, sym, ap, ◌∙◌}
-use mathlib.Core.Bool.{false}
 use mathlib.Core.Option.{Option, none, some}
 use mathlib.Core.List.{List}
 use Prim.Native.Nat.{ℕ}
@@ -10,7 +9,6 @@ use lib.ListN.{length}
 use Rattle.model.specs.Node.{Node}
 use Rattle.model.specs.Graph.{empty_graph}
 use Rattle.model.specs.Snapshot.{read_snapshot}
-use Rattle.model.specs.Refusals.{record_questions}
 use Rattle.model.specs.Calls.{Outcome, read_or12, read_into}
 use Rattle.model.specs.Arena.{encode}
 use Rattle.model.specs.ArenaCalls.{Wrote}
@@ -20,7 +18,7 @@ use Rattle.model.specs.declared.NumberResult.TheVariants.{Number, Refused}
 use Rattle.model.specs.declared.UnitResult.TheVariants.{Refused as FinishRefused}
 use Rattle.laws.proofs.SnapshotReadLaws.{built-nodes, refused-read-keeps}
 use Rattle.laws.proofs.ArenaCallLaws.{refusal-some, wrote-refused, wrote-number}
-use Rattle.snapshot.specs.SnapshotReading.{counted_as, nodes_or, nodes_read, Exact, read_by, RecordsChecked}
+use Rattle.snapshot.specs.SnapshotReading.{counted_as, nodes_or, nodes_read, Exact, RecordsChecked}
 use Rattle.snapshot.proofs.SnapshotFill.{graph-read}
 
 -- ---- Question 12
@@ -42,23 +40,17 @@ pub not-exact : (bytes arena : List ℕ) (r : Refusal) → counted_as (read_snap
 unfolding read_into
 not-exact bytes arena r e = go (read_snapshot bytes) e
   where
-    go : (o : Option (List Node)) → counted_as o ≡ Refused r → Wrote (read_or12 record_questions o empty_graph) arena (Refused Snapshot) arena
+    go : (o : Option (List Node)) → counted_as o ≡ Refused r → Wrote (read_or12 o empty_graph) arena (Refused Snapshot) arena
     go none q = record { refused = refl; value = refl; arena = refl }
     go (some xs) q = let z : ◌≡◌ {A = ℕ} 0 1 = cc in absurd (omega arith)
 
 -- ---- Questions 4 to 7
 
--- where not any flag is allowed, the rule is the reader's
-pub read-by-rule : (bytes : List ℕ) → (read_by false bytes).refused ≡ (read_into bytes empty_graph).refused
-unfolding read_into
-read-by-rule bytes = refl
-
-pub refused-read : (bytes prims arena : List ℕ) (r : Refusal) → RecordsChecked false bytes (FinishRefused r) prims
+pub refused-read : (bytes prims arena : List ℕ) (r : Refusal) → RecordsChecked bytes (FinishRefused r) prims
     → Wrote (read_into bytes empty_graph) arena (Refused r) arena
 refused-read bytes prims arena r checked =
-    let refused = checked.refused ∙ read-by-rule bytes in
-    wrote-refused arena (read_into bytes empty_graph) r refused
-    (ap (λ (o : Outcome). o.value) (refused-read-keeps bytes empty_graph (λ z. refusal-some r (refused ∙ z))))
+    wrote-refused arena (read_into bytes empty_graph) r checked.refused
+    (ap (λ (o : Outcome). o.value) (refused-read-keeps bytes empty_graph (λ z. refusal-some r (checked.refused ∙ z))))
 
 -- ---- None
 

@@ -59,22 +59,16 @@ pub record Reached (bytes : List ℕ) (at n : ℕ) : Type 0 where
   pub within : at ≤ length bytes
   pub rest : read_records (length (nodes_read bytes) - n) (drop at bytes) ≡ some (drop n (nodes_read bytes))
 
-module _ (bytes : List ℕ) (count : ℕ) (exact : Exact bytes count) where
-  front : Front bytes
-  front = front_read bytes (nodes_read bytes) exact.read
-
-  all_read : read_records (field 5 2 bytes) (drop 7 bytes) ≡ some (nodes_read bytes)
-  all_read = sym (front-right bytes front) ∙ exact.read
-
-  pub front-counts : length (nodes_read bytes) - 0 ≡ field 5 2 bytes
-  front-counts = omega (arith, records-counted (field 5 2 bytes) (drop 7 bytes) (nodes_read bytes) all_read)
-
-  pub reached-none : Reached bytes 7 0
-  reached-none = record {
-    few = omega arith;
-    within = front.header;
-    rest = ap (λ (k : ℕ). read_records k (drop 7 bytes)) front-counts ∙ all_read;
-  }
+pub reached-none : (bytes : List ℕ) (count : ℕ) → Exact bytes count → Reached bytes 7 0
+reached-none bytes count exact =
+    let front = front_read bytes (nodes_read bytes) exact.read in
+    let all : read_records (field 5 2 bytes) (drop 7 bytes) ≡ some (nodes_read bytes) = sym (front-right bytes front) ∙ exact.read in
+    let number : length (nodes_read bytes) - 0 ≡ field 5 2 bytes = omega (arith, records-counted (field 5 2 bytes) (drop 7 bytes) (nodes_read bytes) all) in
+    record {
+      few = omega arith;
+      within = front.header;
+      rest = ap (λ (k : ℕ). read_records k (drop 7 bytes)) number ∙ all;
+    }
 
 module _ (bytes : List ℕ) (at n : ℕ) (reached : Reached bytes at n) (h : n < length (nodes_read bytes)) where
   abbrev node : Node
@@ -90,7 +84,7 @@ module _ (bytes : List ℕ) (at n : ℕ) (reached : Reached bytes at n) (h : n <
   pub record-here : RecordAt bytes at
   record-here = fits-at at bytes reached.within here.0
 
-  pub part-long : length (record_part at bytes) ≡ field at 2 bytes
+  part-long : length (record_part at bytes) ≡ field at 2 bytes
   part-long = length-take-le (field at 2 bytes) (drop (at + 2) bytes) (rw length-drop (omega (arith, record-here.within)))
 
   node-here : node ≡ read_record (record_part at bytes)

@@ -1,16 +1,15 @@
 -- What the passes of the reader promise each other: a field or that it is missing; question 12 over
--- all of the bytes; the nodes of bytes that pass it; and the questions of the records, by the rule
--- or by the former one. What reading comes to in the end is model/specs/Calls.antt's `read_into`, or
--- `read_formerly`.
-use Rattle.std.specs.Prelude.{◌≡◌, Bool, true, false, cond, List, [], ℕ, ◌+◌, ◌≤◌, ◌<◌, leb, length, drop, get_or}
+-- all of the bytes; the nodes of bytes that pass it; and the questions of the records. What reading
+-- comes to in the end is model/specs/Calls.antt's `read_into`.
+use Rattle.std.specs.Prelude.{◌≡◌, Bool, true, cond, List, [], ℕ, ◌+◌, ◌≤◌, ◌<◌, leb, length, drop, get_or}
 use Rattle.std.proofs.Math.Option.{Option, none, some}
 use Rattle.model.specs.Path.{prim_count}
 use Rattle.model.specs.Node.{Node}
-use Rattle.model.specs.Graph.{Graph, empty_graph, node_at}
+use Rattle.model.specs.Graph.{empty_graph, node_at}
 use Rattle.model.specs.Snapshot.{field, fits_record, read_snapshot}
-use Rattle.model.specs.Refusals.{Question, record_questions, former_questions}
+use Rattle.model.specs.Refusals.{Question}
 use Rattle.model.specs.Answers.{unit_refusal}
-use Rattle.model.specs.Calls.{Outcome, read_or12}
+use Rattle.model.specs.Calls.{read_into}
 use Rattle.model.specs.declared.UnitResult.{UnitResult}
 use Rattle.model.specs.declared.NumberResult.{NumberResult}
 use Rattle.model.specs.declared.NumberResult.TheVariants.{Number, Refused}
@@ -74,24 +73,9 @@ pub record RecordAt (bytes : List ℕ) (at : ℕ) : Type 0 where
 
 -- ---- Questions 4 to 7
 
--- the questions of a record: the former rule's where any flag is allowed
-abbrev pub rule_of : Bool → Graph → Node → List Question
-rule_of true = former_questions
-rule_of false = record_questions
-
--- what reading by that rule comes to
-abbrev pub read_by : Bool → List ℕ → Outcome
-read_by any bytes = read_or12 (rule_of any) (read_snapshot bytes) empty_graph
-
 -- n nodes before a record, which may be culled
-abbrev pub before_read : Bool → ℕ → ℕ → Bool → Before
-before_read any n path_bytes has_root = record {
-  count = n;
-  path_bytes = path_bytes;
-  has_root = has_root;
-  culled_allowed = true;
-  any_flags = any;
-}
+abbrev pub before_read : ℕ → ℕ → Bool → Before
+before_read n path_bytes has_root = record { count = n; path_bytes = path_bytes; has_root = has_root; culled_allowed = true }
 
 -- put to a node
 abbrev pub questions_of : Before → Node → List Question
@@ -102,6 +86,6 @@ abbrev pub Named : List Node → List ℕ → Type 0
 Named xs prims = (k : ℕ) → k < length xs → get_or prims k 0 ≡ prim_count (node_at xs k).path
 
 -- the refusal of reading the bytes, or none and the prim counts
-pub record RecordsChecked (any : Bool) (bytes : List ℕ) (r : UnitResult) (prims : List ℕ) : Type 0 where
-  pub refused : unit_refusal r ≡ (read_by any bytes).refused
+pub record RecordsChecked (bytes : List ℕ) (r : UnitResult) (prims : List ℕ) : Type 0 where
+  pub refused : unit_refusal r ≡ (read_into bytes empty_graph).refused
   pub named : unit_refusal r ≡ 0 → Named (nodes_read bytes) prims

@@ -1,13 +1,8 @@
--- What writing a snapshot answers and leaves of the buffer that it is written to, and what clearing
--- the unknown flags of one answers and leaves of it.
+-- What writing a snapshot answers and leaves of the buffer that it is written to.
 use Rattle.std.specs.Prelude.{◌≡◌, ◌&&◌, cond, List, [], ◌∷◌, ℕ, eqb, length}
 use Rattle.model.specs.Bytes.{stored}
 use Rattle.model.specs.Snapshot.{write_snapshot}
-use Rattle.model.specs.Graph.{empty_graph}
 use Rattle.model.specs.Refusals.{Question, ask, refusal}
-use Rattle.model.specs.Answers.{number_refusal, number_value}
-use Rattle.model.specs.Calls.{read_formerly}
-use Rattle.model.specs.Clearing.{snapshot_after}
 use Rattle.model.specs.Arena.{decode, holds_graph}
 use Rattle.model.specs.ArenaCalls.{is_arena, Answered}
 use Rattle.model.specs.declared.NumberResult.{NumberResult}
@@ -21,10 +16,3 @@ write_questions arena out = ask 1 (is_arena arena && eqb (length out) 65536) ∷
 pub record SnapshotWritten (arena out : List ℕ) (r : NumberResult) (after : List ℕ) : Type 0 where
   pub answer : Answered (write_questions arena out) (length (write_snapshot (decode arena))) r
   pub bytes : after ≡ cond (eqb (refusal (write_questions arena out)) 0) (stored 0 (write_snapshot (decode arena)) out) out
-
--- how many nodes it has, and its bytes with the unknown flags cleared; refused by the former rule,
--- all of them stay
-pub record FlagsCleared (before : List ℕ) (r : NumberResult) (after : List ℕ) : Type 0 where
-  pub refused : number_refusal r ≡ (read_formerly before empty_graph).refused
-  pub value : number_value r ≡ (read_formerly before empty_graph).value
-  pub bytes : after ≡ snapshot_after before

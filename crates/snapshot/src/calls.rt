@@ -1,12 +1,12 @@
 // The calls that take or give a snapshot. None has a `requires`: each puts its questions, the size
 // of each buffer first, and is refused by the first whose answer is no; then every lent byte is as
 // it was.
-// specs/Snapshots.antt says what writing and clearing answer and leave; reading is `read_into` of
+// specs/Snapshots.antt says what writing answers and leaves; reading is `read_into` of
 // model/specs/Calls.antt.
 ghost use Rattle.model.specs.ArenaCalls.{into_arena, Wrote};
 ghost use Rattle.model.specs.Calls.{read_into};
 ghost use Rattle.model.specs.Graph.{empty_graph};
-ghost use Rattle.snapshot.specs.Snapshots.{SnapshotWritten, FlagsCleared};
+ghost use Rattle.snapshot.specs.Snapshots.{SnapshotWritten};
 
 use model::{NumberResult, Refusal, UnitResult};
 
@@ -35,13 +35,4 @@ pub fn write_snapshot(arena: &[u8], out: &mut [u8]) -> NumberResult
         UnitResult::Done => NumberResult::Number(crate::writer::write_snapshot(arena, out)),
         UnitResult::Refused(refusal) => NumberResult::Refused(refusal),
     }
-}
-
-// Clears the unknown flags, from 16 on, in every record of a snapshot, in place, and answers how
-// many nodes it has. No other byte changes. It is read under the former rule, which did not ask
-// about them: refused 12, then 4 to 7 record by record.
-pub fn clear_unknown_flags(snapshot: &mut [u8]) -> NumberResult
-    ensures { FlagsCleared snapshot.old result snapshot.new }
-{
-    crate::clearing::clear_unknown_flags(snapshot)
 }

@@ -107,12 +107,11 @@ fn check_one(kinds: &[u8], pairs: &[u64], body: &[u8], before: Before) -> Checke
     )
 }
 
-// Questions 4 to 7, record by record: the first no, or the prim count of each path in `prims`. Where
-// any flag is allowed, it is the former rule's.
-pub fn check_records(bytes: &[u8], count: u32, any_flags: bool, prims: &mut [u8]) -> UnitResult
+// Questions 4 to 7, record by record: the first no, or the prim count of each path in `prims`.
+pub fn check_records(bytes: &[u8], count: u32, prims: &mut [u8]) -> UnitResult
     requires exact { Exact bytes.now count }
     requires prims_len { length prims.old ≡ 1024 }
-    ensures { RecordsChecked any_flags bytes.now result prims.new }
+    ensures { RecordsChecked bytes.now result prims.new }
 {
     let kinds = path::rows::kinds();
     let pairs = path::rows::pairs();
@@ -127,7 +126,6 @@ pub fn check_records(bytes: &[u8], count: u32, any_flags: bool, prims: &mut [u8]
             path_bytes: path_bytes,
             has_root: has_root,
             culled_allowed: true,
-            any_flags: any_flags,
         };
         let checked = check_one(&kinds, &pairs, record, before);
         match checked {

@@ -1,14 +1,12 @@
-// Snapshots: reading one into an arena, writing the graph of an arena as one, and clearing unknown
-// flags in one. reader.rt asks everything (checks.rt) before anything is written, then fills the
-// arena (fill.rt); both read a record in one way (record.rt, field by field by fields.rt).
-// writer.rt writes; clearing.rt clears, asking by checks.rt too; calls.rt has the calls. What a
-// snapshot is stands in model/specs/Snapshot.antt; proofs/ReadBack.antt says that what is written
-// reads back.
+// Snapshots: reading one into an arena and writing the graph of an arena as one. reader.rt asks
+// everything (checks.rt) before anything is written, then fills the arena (fill.rt); both read a
+// record in one way (record.rt, field by field by fields.rt). writer.rt writes; calls.rt has the
+// calls. What a snapshot is stands in model/specs/Snapshot.antt; proofs/ReadBack.antt says that
+// what is written reads back.
 #![tactic(auto)]
 
 pub mod calls;
 mod checks;
-mod clearing;
 mod fields;
 mod fill;
 mod reader;

@@ -18,7 +18,7 @@ pub fn read_snapshot(arena: &mut [u8], bytes: &[u8]) -> NumberResult
         return NumberResult::Refused(Refusal::Snapshot);
     };
     let mut prims = [0u8; 1024];
-    let checked = crate::checks::check_records(bytes, count, false, &mut prims);
+    let checked = crate::checks::check_records(bytes, count, &mut prims);
     if let UnitResult::Refused(refusal) = checked {
         return NumberResult::Refused(refusal);
     }

@@ -4,7 +4,7 @@
 -- Assumes nothing.
 use mathlib.Core.Path.{◌≡◌, refl, sym, ap, subst, ◌∙◌}
 use mathlib.Core.Logic.{◌⊎◌, inl, inr, ◌↔◌}
-use mathlib.Core.Bool.{true, false, not, and-eq-true_iff}
+use mathlib.Core.Bool.{true, not, and-eq-true_iff}
 use mathlib.Core.List.{List, [], ◌∷◌, ◌++◌}
 use Prim.Native.Nat.{ℕ, zero, suc, ◌+◌, ◌-◌, ◌≤◌, ◌<◌}
 use native.Mathlib.Nat.{add-zero, zero-add, eq-or-lt_of_le}
@@ -121,6 +121,6 @@ module _ (bs : List ℕ) (whole : length bs ≡ arena_bytes) where
       let held : path_bytes (grown (node_in bs) k).nodes ≡ path_bytes_below bs k = ap path_bytes nodes ∙ bytes-tabulated k (omega arith) before in
       questions-at (grown (node_in bs) k) (node_in bs k)
       ∙ (λ i. questions_at
-      (record { count = sized i; path_bytes = held i; has_root = root-grown bs k before i; culled_allowed = true; any_flags = false })
+      (record { count = sized i; path_bytes = held i; has_root = root-grown bs k before i; culled_allowed = true })
       (record { arc = same.arc i; flags = same.flags i; parent = same.parent i; origin = same.origin i; has_specs = same.has_specs i })
       (node_in bs k).path)

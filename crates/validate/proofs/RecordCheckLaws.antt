@@ -1,5 +1,5 @@
 -- The questions that this crate puts are those of model/specs/Refusals.antt, put to a graph and a
--- node (`questions-at`, `former-questions-at`); and what the check may answer where they fail and where they pass. Assumes
+-- node (`questions-at`); and what the check may answer where they fail and where they pass. Assumes
 -- nothing.
 use mathlib.Core.Path.{◌≡◌, refl, sym}
 use mathlib.Core.Bool.{Bool, true, false, cond}
@@ -10,7 +10,7 @@ use Rattle.model.specs.Path.{well_formed, prim_count, count_prims}
 use Rattle.model.specs.declared.PrimCount.TheVariants.{Names, Malformed}
 use Rattle.model.specs.Node.{Node}
 use Rattle.model.specs.Graph.{Graph}
-use Rattle.model.specs.Refusals.{refusal_number, Question, ask, refusal, record_questions, former_questions}
+use Rattle.model.specs.Refusals.{refusal_number, Question, ask, refusal, record_questions}
 use Rattle.model.specs.declared.Refusal.{Refusal}
 use Rattle.model.specs.declared.Refusal.TheVariants.{Node as NodeNumber, Path, Kind, Capacity}
 use Rattle.laws.proofs.PathLaws.{prim-count-half}
@@ -19,11 +19,8 @@ use Rattle.path.proofs.ReadingLaws.{counted-well-formed}
 use Rattle.validate.specs.declared.record.Checked.TheVariants.{Accepted, Refused}
 use Rattle.validate.specs.RecordCheck.{numbers_of, before_next, questions_at, RecordChecked}
 
-pub questions-at : (g : Graph) (x : Node) → record_questions g x ≡ questions_at (before_next g true false) (numbers_of x) x.path
+pub questions-at : (g : Graph) (x : Node) → record_questions g x ≡ questions_at (before_next g true) (numbers_of x) x.path
 questions-at g x = refl
-
-pub former-questions-at : (g : Graph) (x : Node) → former_questions g x ≡ questions_at (before_next g true true) (numbers_of x) x.path
-former-questions-at g x = refl
 
 -- ---- A path that is counted
 

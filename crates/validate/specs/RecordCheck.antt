@@ -1,8 +1,7 @@
 -- The questions that a record is put (document 01's 4 to 7; model/specs/Refusals.antt's
 -- `record_questions` and those of `add_child`), by what they read of the graph before it: how many
 -- nodes it has, how many path bytes, and whether it has a local root; and by whether a culled node
--- is allowed, and any flag. And what the check answers. proofs/RecordCheckLaws.antt ties them to a
--- graph.
+-- is allowed. And what the check answers. proofs/RecordCheckLaws.antt ties them to a graph.
 use Rattle.std.specs.Prelude.{◌≡◌, Bool, not, ◌||◌, ◌&&◌, cond, List, [], ◌∷◌, ℕ, ◌+◌, eqb, ltb, leb, length}
 use Rattle.model.specs.Path.{well_formed, prim_count}
 use Rattle.model.specs.Node.{invalid, root_arc, Node, has_flag, inert_flag, culled_flag}
@@ -17,14 +16,13 @@ use Rattle.validate.specs.declared.record.Checked.TheVariants.{Accepted, Refused
 abbrev pub numbers_of : Node → RecordNumbers
 numbers_of x = record { arc = x.arc; flags = x.flags; parent = x.parent; origin = x.origin; has_specs = x.has_specs }
 
--- a graph before a node, whether it may be culled, and whether it may have any flag
-abbrev pub before_next : Graph → Bool → Bool → Before
-before_next g culled any = record {
+-- a graph before a node, and whether it may be culled
+abbrev pub before_next : Graph → Bool → Before
+before_next g culled = record {
   count = size g;
   path_bytes = path_bytes g.nodes;
   has_root = has_local_root g.nodes;
   culled_allowed = culled;
-  any_flags = any;
 }
 
 -- ---- The questions
@@ -46,12 +44,8 @@ arc_at b x = leb x.arc 6 && (not (eqb x.arc root_arc) || root_place_at b x)
 abbrev pub culled_at : Before → RecordNumbers → Bool
 culled_at b x = cond b.culled_allowed (not (eqb x.arc root_arc && has_flag culled_flag x.flags)) (not (has_flag culled_flag x.flags))
 
--- unknown flags, unless any is allowed, and has-specs
-abbrev pub fields_at : Before → RecordNumbers → Bool
-fields_at b x = (b.any_flags || ltb x.flags 16) && leb x.has_specs 1
-
 abbrev pub kind_at : Before → RecordNumbers → Bool
-kind_at b x = arc_at b x && (culled_at b x && fields_at b x)
+kind_at b x = arc_at b x && (culled_at b x && leb x.has_specs 1)
 
 -- what is left of it for arc Root
 abbrev pub root_kind_at : Before → RecordNumbers → Bool

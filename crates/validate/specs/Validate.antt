@@ -3,7 +3,7 @@
 -- (crates/child_lists) and its order. proofs/HoldsTests.antt shows that together they are
 -- model/specs/Arena.antt's `holds_graph`. A record is read by its fields, and put to what the
 -- records before it come to: how many bytes of paths, and which local root.
-use Rattle.std.specs.Prelude.{Bool, true, false, not, ◌||◌, ◌&&◌, cond, List, ℕ, zero, suc, ◌+◌, ◌-◌, eqb, ltb, leb}
+use Rattle.std.specs.Prelude.{Bool, true, not, ◌||◌, ◌&&◌, cond, List, ℕ, zero, suc, ◌+◌, ◌-◌, eqb, ltb, leb}
 use Rattle.model.specs.Lists.{count, all_below}
 use Rattle.model.specs.Path.{prim_count}
 use Rattle.model.specs.Node.{root_arc}
@@ -38,13 +38,7 @@ root_below bs (suc n) = root_with n (arc_in bs n) (root_below bs n)
 -- n records with so many bytes of paths and this local root, 0 for none; a node of an arena may be
 -- culled
 abbrev pub before_in : ℕ → ℕ → ℕ → Before
-before_in n path_bytes root = record {
-  count = n;
-  path_bytes = path_bytes;
-  has_root = not (eqb root 0);
-  culled_allowed = true;
-  any_flags = false;
-}
+before_in n path_bytes root = record { count = n; path_bytes = path_bytes; has_root = not (eqb root 0); culled_allowed = true }
 
 -- the numbers of node n that its questions read
 abbrev pub numbers_in : List ℕ → ℕ → RecordNumbers

@@ -153,7 +153,6 @@ fn records_valid(arena: &[u8], count: u32) -> bool
             path_bytes: path_bytes,
             has_root: root != 0,
             culled_allowed: true,
-            any_flags: false,
         };
         if !record_valid(&kinds, &pairs, arena, before, length) {
             return false;

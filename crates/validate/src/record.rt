@@ -6,7 +6,7 @@
 ghost use Rattle.std.specs.Prelude.{◌≡◌, ◌≤◌};
 ghost use Rattle.model.specs.Path.{count_prims};
 ghost use Rattle.model.specs.Node.{has_flag, with_flag, inert_flag, culled_flag};
-ghost use Rattle.validate.specs.RecordCheck.{root_at, links_at, fields_at, root_kind_at, kind_at};
+ghost use Rattle.validate.specs.RecordCheck.{root_at, links_at, root_kind_at, kind_at};
 ghost use Rattle.validate.specs.RecordCheck.{room_at, questions_at, RecordChecked};
 
 use model::{PrimCount, Refusal};
@@ -21,15 +21,14 @@ pub struct RecordNumbers {
     pub has_specs: u8,
 }
 
-// What comes before a record, whether CULLED may be set in it, as it may be read but not added, and
-// whether any flag may: the former rule, under which unknown flags are cleared.
+// What comes before a record, and whether CULLED may be set in it: a culled node may be read but
+// not added.
 #[derive(Clone, Copy)]
 pub struct Before {
     pub count: u32,
     pub path_bytes: usize,
     pub has_root: bool,
     pub culled_allowed: bool,
-    pub any_flags: bool,
 }
 
 // What the check of a record answers: the prim count of its path, or the refusal.
@@ -108,27 +107,14 @@ fn root_allowed(before: Before, numbers: RecordNumbers) -> bool
     !before.has_root
 }
 
-// Has-specs is 0 or 1, and no unknown flag is set unless any may be.
-fn fields_allowed(before: Before, numbers: RecordNumbers) -> bool
-    ensures { result ≡ fields_at before numbers }
-{
-    if numbers.has_specs > 1 {
-        return false;
-    }
-    if numbers.flags > 15 {
-        return before.any_flags;
-    }
-    true
-}
-
-// Question 6: arc, flags and has-specs.
+// Question 6: arc, has-specs and CULLED.
 pub fn kind_allowed(before: Before, numbers: RecordNumbers) -> bool
     ensures { result ≡ kind_at before numbers }
 {
     if numbers.arc > arena::arcs::SPECIALIZE {
         return false;
     }
-    if !fields_allowed(before, numbers) {
+    if numbers.has_specs > 1 {
         return false;
     }
     if numbers.arc == arena::arcs::ROOT {

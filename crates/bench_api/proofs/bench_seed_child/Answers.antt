@@ -1,0 +1,9 @@
+-- `bench_seed_child` meets its contract. Assumes nothing.
+use borrow.Author.Rules.{rules}
+use Rattle.c_api.proofs.FinishLaws.{finishes-carried}
+use Rattle.bench_api.proofs.ReadLaws.{seed-value}
+use Rattle.bench_api.proofs.bench_seed_child.Goals as goal
+
+pub returns : goal.returns
+returns c =
+    finishes-carried (seed-value _ _ _) c.carry_finish.ensures c.seed_child.ensures

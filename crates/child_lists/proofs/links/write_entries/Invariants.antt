@@ -1,0 +1,23 @@
+-- `write_entries` meets its contract. The invariant of its loop: storing the entries from n on
+-- leaves what storing all leaves. The measure is how many are left. Assumes nothing.
+use mathlib.Core.Path.{◌≡◌, sym, ap, ◌∙◌}
+use mathlib.Core.List.{List}
+use Prim.Native.Nat.{ℕ, ◌-◌, ◌≤◌}
+use native.Mathlib.Omega.{arith}
+use lib.ListN.{length, get_or}
+use lib.Seq.{slice, length-take-le, get_or-take}
+use borrow.Author.Rules.{rules}
+use Rattle.model.specs.Arena.{tabulate, order_stored}
+use Rattle.arena.proofs.StoredEntries.{Storing, storing-start, storing-step, storing-end}
+use Rattle.arena.proofs.TabulateLaws.{tabulate-same}
+use Rattle.child_lists.proofs.links.write_entries.Given as goal
+
+-- the entries, by place
+abbrev pub entry_of : List ℕ → ℕ → ℕ
+entry_of order n = get_or order n 0
+
+abbrev pub invariant-loop-n : goal.invariant-loop-n
+invariant-loop-n l = Storing (entry_of l.order) l.initial.arena l.count l.arena l.n
+
+abbrev pub decreases-loop-n : goal.decreases-loop-n
+decreases-loop-n l = l.count - l.n

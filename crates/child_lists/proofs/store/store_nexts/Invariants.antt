@@ -1,0 +1,18 @@
+-- `storing::store_nexts` meets its contract. The invariant of its loop: the siblings after the
+-- children from `at` on are stored, and `head` is the first of these. The measure is how many are
+-- before `at`. Assumes nothing.
+use mathlib.Core.Path.{◌≡◌, ap, ◌∙◌}
+use Prim.Native.Nat.{ℕ, ◌-◌, ◌≤◌}
+use native.Mathlib.Omega.{arith}
+use borrow.Author.Rules.{rules}
+use lib.Seq.{slice}
+use Rattle.model.specs.Arena.{first_of}
+use Rattle.child_lists.specs.Links.{nexts_stored}
+use Rattle.child_lists.proofs.StoringLaws.{StoringNexts, nexts-start, nexts-step}
+use Rattle.child_lists.proofs.store.store_nexts.Given as goal
+
+abbrev pub invariant-loop-at : goal.invariant-loop-at
+invariant-loop-at l = (l.start ≤ l.at) × StoringNexts l.sorted l.initial.arena l.end l.at l.head l.arena
+
+abbrev pub decreases-loop-at : goal.decreases-loop-at
+decreases-loop-at l = l.at - l.start

@@ -1,0 +1,9 @@
+-- `put` meets its contract. Assumes nothing.
+use borrow.Author.Rules.{rules}
+use mathlib.Core.Path.{refl}
+use Rattle.line_table.proofs.TableCells.{store}
+use Rattle.line_table.proofs.cells.put.Goals as goal
+
+pub returns : goal.returns
+returns c =
+    store c.requires.below _ c.requires.column refl c.requires.value.same c.requires.filled

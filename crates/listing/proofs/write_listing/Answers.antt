@@ -1,0 +1,49 @@
+-- `write_listing` meets its contract: question 1 of the buffer, where questions 1 to 3 of the arena
+-- pass, question 10, and then the text. Assumes nothing.
+use mathlib.Core.Path.{◌≡◌, sym, ◌∙◌}
+use borrow.Author.Rules.{rules}
+use Prim.Native.Nat.{◌<◌}
+use lib.ListN.{length}
+use Rattle.model.specs.Arena.{arena_bytes, count_in}
+use Rattle.model.specs.ArenaCalls.{ValidArena}
+use Rattle.validate.proofs.AskingLaws.{some-node}
+use Rattle.listing.proofs.CallLaws.{not-buffer, refused-first, not-ordered, written}
+use Rattle.listing.proofs.write_listing.Goals as goal
+
+pub returns-then-out-ne-ARENA_BYTES : goal.returns-then-out-ne-ARENA_BYTES
+returns-then-out-ne-ARENA_BYTES c =
+    not-buffer _ _ c.if-out-ne-ARENA_BYTES.true
+
+pub ordered-requires : goal.ordered-requires
+ordered-requires c =
+    let has-node : let bs = c.args.arena.now in ValidArena bs × (0 < count_in bs) =
+    some-node _ (sym (rw c.in-Done.is at c.ask_node_zero-asked.ensures)) in
+    has-node.0.whole
+
+pub returns-then-ordered-ne1 : goal.returns-then-ordered-ne1
+returns-then-ordered-ne1 c =
+    let has-node : let bs = c.args.arena.now in ValidArena bs × (0 < count_in bs) =
+    some-node _ (sym (rw c.in-Done.is at c.ask_node_zero-asked.ensures)) in
+    let large : length c.args.out.now ≡ arena_bytes =
+    c.if-out-ne-ARENA_BYTES.false in
+    not-ordered _ _ large has-node.0 has-node.1 (λ e. c.if-ordered-ne1.true (c.ordered.ensures ∙ e))
+
+pub put_listing-requires : goal.put_listing-requires
+put_listing-requires c =
+    let has-node : let bs = c.args.arena.now in ValidArena bs × (0 < count_in bs) =
+    some-node _ (sym (rw c.in-Done.is at c.ask_node_zero-asked.ensures)) in
+    let large : length c.args.out.now ≡ arena_bytes =
+    c.if-out-ne-ARENA_BYTES.false in
+    record { opened = has-node.0; ordered = sym c.ordered.ensures ∙ c.if-ordered-ne1.false; large = large }
+
+pub returns-else-ordered-ne1 : goal.returns-else-ordered-ne1
+returns-else-ordered-ne1 c =
+    let has-node : let bs = c.args.arena.now in ValidArena bs × (0 < count_in bs) =
+    some-node _ (sym (rw c.in-Done.is at c.ask_node_zero-asked.ensures)) in
+    let large : length c.args.out.now ≡ arena_bytes =
+    c.if-out-ne-ARENA_BYTES.false in
+    written _ _ large has-node.0 has-node.1 (sym c.ordered.ensures ∙ c.if-ordered-ne1.false) _ _ c.put_listing.ensures.put
+
+pub returns-in-Refused : goal.returns-in-Refused
+returns-in-Refused c =
+    refused-first _ _ c.if-out-ne-ARENA_BYTES.false c.in-Refused.refusal (rw c.in-Refused.is at c.ask_node_zero-asked.ensures)

@@ -1,0 +1,84 @@
+-- `add_child` meets its contract: the questions in their order, and then the node. Assumes nothing.
+use borrow.Author.Rules.{rules}
+use mathlib.Core.Path.{◌≡◌, refl, sym, ap, ◌∙◌}
+use Prim.Native.Nat.{◌<◌}
+use native.Mathlib.Omega.{arith}
+use Rattle.model.specs.Path.{prim_count}
+use Rattle.model.specs.Refusals.{refusal}
+use Rattle.model.specs.Node as model
+use Rattle.model.specs.Graph.{with_node}
+use Rattle.arena.specs.declared.Node.{Node}
+use Rattle.arena.specs.Slot.{node_of}
+use Rattle.model.specs.Arena.{count_in, decode, encode}
+use Rattle.model.specs.ArenaCalls.{ValidArena}
+use Rattle.validate.proofs.AskingLaws.{some-node}
+use Rattle.nodes.specs.Describing.{desc_of, add_questions}
+use Rattle.nodes.proofs.AddingLaws.{parent-slot, can-add, short-path, added-node, add-refused-first, add-refused, add_done}
+use Rattle.nodes.proofs.calls.add_child.Goals as goal
+
+pub count-count-requires : goal.count-count-requires
+count-count-requires c =
+    let has-node : let bs = c.args.arena.now in ValidArena bs × (0 < count_in bs) =
+    some-node _ (sym (rw c.in-Done.is at c.ask_node_zero-asked.ensures)) in
+    has-node.0.whole
+
+pub check_desc-checked-requires : goal.check_desc-checked-requires
+check_desc-checked-requires c =
+    let has-node : let bs = c.args.arena.now in ValidArena bs × (0 < count_in bs) =
+    some-node _ (sym (rw c.in-Done.is at c.ask_node_zero-asked.ensures)) in
+    let there = has-node in
+    (there.0, c.count-count.ensures, omega (arith, there.1, c.count-count.ensures))
+
+pub added_record-node-requires : goal.added_record-node-requires
+added_record-node-requires c =
+    let has-node : let bs = c.args.arena.now in ValidArena bs × (0 < count_in bs) =
+    some-node _ (sym (rw c.in-Done.is at c.ask_node_zero-asked.ensures)) in
+    let passes : refusal (add_questions (decode c.args.arena.now) (desc_of c.args.desc c.args.path.now)) ≡ 0 =
+    sym (rw c.in-Accepted.is at c.check_desc-checked.ensures.refused) in
+    let there = has-node in (
+      there.0,
+      (
+        parent-slot c.args.arena.now there.0 c.args.desc c.args.path.now there.1 passes,
+        short-path c.args.arena.now there.0 c.args.desc c.args.path.now there.1 passes,
+      ),
+    )
+
+pub append_node-requires : goal.append_node-requires
+append_node-requires c =
+    let has-node : let bs = c.args.arena.now in ValidArena bs × (0 < count_in bs) =
+    some-node _ (sym (rw c.in-Done.is at c.ask_node_zero-asked.ensures)) in
+    let passes : refusal (add_questions (decode c.args.arena.now) (desc_of c.args.desc c.args.path.now)) ≡ 0 =
+    sym (rw c.in-Accepted.is at c.check_desc-checked.ensures.refused) in
+    let named : c.in-Accepted.prims ≡ prim_count c.args.path.now =
+    (rw c.in-Accepted.is at c.check_desc-checked.ensures.prims) refl in
+    let there = has-node in
+    rw c.added_record-node.ensures
+    (can-add c.args.arena.now there.0 c.args.desc c.args.path.now there.1 _ _ passes named
+    c.count-count.ensures)
+
+pub returns-in-Accepted : goal.returns-in-Accepted
+returns-in-Accepted c =
+    let has-node : let bs = c.args.arena.now in ValidArena bs × (0 < count_in bs) =
+    some-node _ (sym (rw c.in-Done.is at c.ask_node_zero-asked.ensures)) in
+    let passes : refusal (add_questions (decode c.args.arena.now) (desc_of c.args.desc c.args.path.now)) ≡ 0 =
+    sym (rw c.in-Accepted.is at c.check_desc-checked.ensures.refused) in
+    let named : c.in-Accepted.prims ≡ prim_count c.args.path.now =
+    (rw c.in-Accepted.is at c.check_desc-checked.ensures.prims) refl in
+    let bs = c.args.arena.now in
+    let there = has-node in
+    let node = ap (λ (r : Node). node_of r c.args.path.now) c.added_record-node.ensures
+    ∙ added-node bs there.0 c.args.desc c.args.path.now there.1 c.in-Accepted.prims passes named in
+    add_done bs (desc_of c.args.desc c.args.path.now) there.0 there.1 _ _ passes c.count-count.ensures
+    (c.append_node.ensures ∙ ap (λ (y : model.Node). encode (with_node (decode bs) y) bs) node)
+
+pub returns-in-Refused-checked : goal.returns-in-Refused-checked
+returns-in-Refused-checked c =
+    let has-node : let bs = c.args.arena.now in ValidArena bs × (0 < count_in bs) =
+    some-node _ (sym (rw c.in-Done.is at c.ask_node_zero-asked.ensures)) in
+    add-refused c.args.arena.now (desc_of c.args.desc c.args.path.now) has-node.0 has-node.1 _
+    (rw c.in-Refused-checked.is at c.check_desc-checked.ensures.refused)
+
+pub returns-in-Refused : goal.returns-in-Refused
+returns-in-Refused c =
+    add-refused-first c.args.arena.now (desc_of c.args.desc c.args.path.now) c.in-Refused.refusal
+    (rw c.in-Refused.is at c.ask_node_zero-asked.ensures)

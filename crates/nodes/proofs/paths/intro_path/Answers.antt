@@ -1,0 +1,84 @@
+-- `intro_path` meets its contract: `/` of node 0, else the front part of the parent's path. Assumes
+-- nothing.
+use borrow.Author.Rules.{rules}
+use mathlib.Core.Path.{◌≡◌, sym, ◌∙◌}
+use lib.ListN.{length}
+use Rattle.model.specs.Refusals.{refusal}
+use Rattle.model.specs.Calls.{reads_node}
+use Rattle.model.specs.Arena.{decode}
+use Rattle.model.specs.ArenaCalls.{ValidNode, ask_path}
+use native.Mathlib.Omega.{arith}
+use Rattle.laws.proofs.ArenaCallLaws.{put_refused, put-done}
+use Rattle.arena.proofs.ReadNodes.{has-path}
+use Rattle.view.proofs.ViewLaws.{readable-parent}
+use Rattle.nodes.proofs.PathCalls.{path-asked, short-intro, root-introduced, introduced}
+use Rattle.nodes.proofs.paths.intro_path.Goals as goal
+
+pub put-requires : goal.put-requires
+put-requires c =
+    let asked : refusal (ask_path c.args.arena.now c.args.buffer.now (reads_node (decode c.args.arena.now) c.args.n)) ≡ 0 =
+    sym (rw c.in-Done.is at c.ask-asked.ensures) in
+    let there : ValidNode c.args.arena.now c.args.n × (length c.args.buffer.now ≡ 255) =
+    path-asked c.args.arena.now c.args.buffer.now c.args.n asked in
+    (omega arith, there.1)
+
+pub returns-then-n-eq0 : goal.returns-then-n-eq0
+returns-then-n-eq0 c =
+    let asked : refusal (ask_path c.args.arena.now c.args.buffer.now (reads_node (decode c.args.arena.now) c.args.n)) ≡ 0 =
+    sym (rw c.in-Done.is at c.ask-asked.ensures) in
+    put-done _ _ _ _ _ _ asked (root-introduced _ _ c.if-n-eq0.true) c.put.ensures.result_value
+    c.put.ensures.buffer_after
+
+pub depth_below-depth-requires : goal.depth_below-depth-requires
+depth_below-depth-requires c =
+    let asked : refusal (ask_path c.args.arena.now c.args.buffer.now (reads_node (decode c.args.arena.now) c.args.n)) ≡ 0 =
+    sym (rw c.in-Done.is at c.ask-asked.ensures) in
+    let there : ValidNode c.args.arena.now c.args.n × (length c.args.buffer.now ≡ 255) =
+    path-asked c.args.arena.now c.args.buffer.now c.args.n asked in
+    there.0
+
+pub parent-parent-requires : goal.parent-parent-requires
+parent-parent-requires c =
+    let asked : refusal (ask_path c.args.arena.now c.args.buffer.now (reads_node (decode c.args.arena.now) c.args.n)) ≡ 0 =
+    sym (rw c.in-Done.is at c.ask-asked.ensures) in
+    let there : ValidNode c.args.arena.now c.args.n × (length c.args.buffer.now ≡ 255) =
+    path-asked c.args.arena.now c.args.buffer.now c.args.n asked in
+    there.0
+
+pub path-requires : goal.path-requires
+path-requires c =
+    let asked : refusal (ask_path c.args.arena.now c.args.buffer.now (reads_node (decode c.args.arena.now) c.args.n)) ≡ 0 =
+    sym (rw c.in-Done.is at c.ask-asked.ensures) in
+    let there : ValidNode c.args.arena.now c.args.n × (length c.args.buffer.now ≡ 255) =
+    path-asked c.args.arena.now c.args.buffer.now c.args.n asked in
+    let parent-there : ValidNode c.args.arena.now c.parent-parent.result =
+    rw c.parent-parent.ensures (readable-parent _ _ there.0 (omega (arith, c.if-n-eq0.false))) in
+    has-path _ _ parent-there
+
+pub put-requires-in-Done : goal.put-requires-in-Done
+put-requires-in-Done c =
+    let asked : refusal (ask_path c.args.arena.now c.args.buffer.now (reads_node (decode c.args.arena.now) c.args.n)) ≡ 0 =
+    sym (rw c.in-Done.is at c.ask-asked.ensures) in
+    let there : ValidNode c.args.arena.now c.args.n × (length c.args.buffer.now ≡ 255) =
+    path-asked c.args.arena.now c.args.buffer.now c.args.n asked in
+    let parent-there : ValidNode c.args.arena.now c.parent-parent.result =
+    rw c.parent-parent.ensures (readable-parent _ _ there.0 (omega (arith, c.if-n-eq0.false))) in (
+      rw (c.path_at_intro_depth.ensures, c.path.ensures) (short-intro _ _ parent-there _),
+      there.1,
+    )
+
+pub returns-else-n-eq0 : goal.returns-else-n-eq0
+returns-else-n-eq0 c =
+    let asked : refusal (ask_path c.args.arena.now c.args.buffer.now (reads_node (decode c.args.arena.now) c.args.n)) ≡ 0 =
+    sym (rw c.in-Done.is at c.ask-asked.ensures) in
+    let there : ValidNode c.args.arena.now c.args.n × (length c.args.buffer.now ≡ 255) =
+    path-asked c.args.arena.now c.args.buffer.now c.args.n asked in
+    put-done _ _ _ _ _ _ asked
+    (c.path_at_intro_depth.ensures
+    ∙ introduced _ _ there.0 c.if-n-eq0.false _ _ _ c.depth_below-depth.ensures.0
+    c.parent-parent.ensures c.path.ensures)
+    c.put-in-Done.ensures.result_value c.put-in-Done.ensures.buffer_after
+
+pub returns-in-Refused : goal.returns-in-Refused
+returns-in-Refused c =
+    put_refused _ _ _ c.in-Refused.refusal (rw c.in-Refused.is at c.ask-asked.ensures)

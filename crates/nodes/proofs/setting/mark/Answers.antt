@@ -1,0 +1,58 @@
+-- `mark` meets its contract: where questions 1 to 4 and 6 pass, the flags joined are stored.
+-- Assumes nothing.
+use mathlib.Core.Path.{◌≡◌, sym, ap, ◌∙◌}
+use borrow.Author.Rules.{rules}
+use borrow.Author.Tests.{not-true, not-false}
+use Rattle.model.specs.Setting.{with_flags, may_mark}
+use Rattle.model.specs.ArenaCalls.{ValidNode}
+use Rattle.laws.proofs.BigEndianLaws.{Bytes}
+use Rattle.laws.proofs.StoredLaws.{bytes-by-place}
+use Rattle.arena.specs.Slot.{arc_in}
+use Rattle.arena.proofs.ReadNodes.{readable, has-slot}
+use Rattle.nodes.proofs.SettingLaws.{mark-refused-first, mark-refused, mark-done}
+use Rattle.nodes.proofs.setting.mark.Goals as goal
+
+pub arc-requires : goal.arc-requires
+arc-requires c =
+    let valid : ValidNode c.args.arena.now c.args.n =
+    readable _ _ (sym (rw c.in-Done.is at c.ask_node-asked.ensures)) in
+    has-slot _ _ valid
+
+pub returns-then-not-may_mark : goal.returns-then-not-may_mark
+returns-then-not-may_mark c =
+    let valid : ValidNode c.args.arena.now c.args.n =
+    readable _ _ (sym (rw c.in-Done.is at c.ask_node-asked.ensures)) in
+    let may : may_mark c.args.flags (arc_in c.args.arena.now c.args.n) ≡ c.may_mark.result =
+    sym (c.may_mark.ensures ∙ ap (may_mark c.args.flags) c.arc.ensures) in
+    mark-refused _ _ _ valid (may ∙ not-true _ c.if-not-may_mark.true-raw)
+
+pub flags-requires : goal.flags-requires
+flags-requires c =
+    let valid : ValidNode c.args.arena.now c.args.n =
+    readable _ _ (sym (rw c.in-Done.is at c.ask_node-asked.ensures)) in
+    has-slot _ _ valid
+
+pub write_flags-requires : goal.write_flags-requires
+write_flags-requires c =
+    let valid : ValidNode c.args.arena.now c.args.n =
+    readable _ _ (sym (rw c.in-Done.is at c.ask_node-asked.ensures)) in
+    has-slot _ _ valid
+
+pub returns-else-not-may_mark : goal.returns-else-not-may_mark
+returns-else-not-may_mark c =
+    let bytes : Bytes c.args.arena.now =
+    bytes-by-place c.args.arena.now (λ k. (c.slice_known-1.given k).fits) in
+    let valid : ValidNode c.args.arena.now c.args.n =
+    readable _ _ (sym (rw c.in-Done.is at c.ask_node-asked.ensures)) in
+    let may : may_mark c.args.flags (arc_in c.args.arena.now c.args.n) ≡ c.may_mark.result =
+    sym (c.may_mark.ensures ∙ ap (may_mark c.args.flags) c.arc.ensures) in
+    let given = c.args.flags in
+    mark-done _ _ _ bytes valid
+    (may ∙ not-false _ c.if-not-may_mark.false-raw) _
+    (c.with_flags-joined.ensures ∙ ap (with_flags given) c.flags.ensures) _
+    c.write_flags.ensures
+
+pub returns-in-Refused : goal.returns-in-Refused
+returns-in-Refused c =
+    mark-refused-first _ _ _ c.in-Refused.refusal
+    (rw c.in-Refused.is at c.ask_node-asked.ensures)

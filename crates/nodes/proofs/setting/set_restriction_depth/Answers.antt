@@ -1,0 +1,30 @@
+-- `set_restriction_depth` meets its contract: where questions 1 to 4 pass, the depth is stored.
+-- Assumes nothing.
+use mathlib.Core.Path.{sym}
+use borrow.Author.Rules.{rules}
+use Rattle.model.specs.ArenaCalls.{ValidNode}
+use Rattle.laws.proofs.BigEndianLaws.{Bytes}
+use Rattle.laws.proofs.StoredLaws.{bytes-by-place}
+use Rattle.arena.proofs.ReadNodes.{readable, has-slot}
+use Rattle.nodes.proofs.SettingLaws.{restriction-refused, restriction-done}
+use Rattle.nodes.proofs.setting.set_restriction_depth.Goals as goal
+
+pub write_restriction-requires : goal.write_restriction-requires
+write_restriction-requires c =
+    let valid : ValidNode c.args.arena.now c.args.n =
+    readable _ _ (sym (rw c.in-Done.is at c.ask_node-asked.ensures)) in
+    has-slot _ _ valid
+
+pub returns-in-Done : goal.returns-in-Done
+returns-in-Done c =
+    let bytes : Bytes c.args.arena.now =
+    bytes-by-place c.args.arena.now (λ k. (c.slice_known-1.given k).fits) in
+    let valid : ValidNode c.args.arena.now c.args.n =
+    readable _ _ (sym (rw c.in-Done.is at c.ask_node-asked.ensures)) in
+    restriction-done _ _ _ bytes valid _
+    c.write_restriction.ensures
+
+pub returns-in-Refused : goal.returns-in-Refused
+returns-in-Refused c =
+    restriction-refused _ _ _ c.in-Refused.refusal
+    (rw c.in-Refused.is at c.ask_node-asked.ensures)

@@ -1,0 +1,51 @@
+-- `order_entry` meets its contract: where the place is that of a node, question 10 is left. Assumes
+-- nothing.
+use borrow.Author.Rules.{rules}
+use mathlib.Core.Path.{sym, ◌∙◌}
+use mathlib.Core.List.{[], ◌∷◌}
+use borrow.Author.Tests.{not-true, not-false}
+use Rattle.model.specs.Arena.{decode}
+use Rattle.model.specs.ArenaCalls.{ValidNode, ask_arena}
+use Rattle.model.specs.Calls.{reads_node}
+use Rattle.model.specs.Refusals.{ask}
+use Rattle.model.specs.declared.Refusal.TheVariants.{NotOrdered}
+use Rattle.laws.proofs.ArenaCallLaws.{refused-before, answered-refused, answered-number}
+use Rattle.arena.proofs.ReadNodes.{readable, has-slot}
+use Rattle.ordering.proofs.OrderEntries.{entry_read}
+use Rattle.ordering.proofs.OrderCallLaws.{entry-left}
+use Rattle.ordering.proofs.calls.order_entry.Goals as goal
+
+pub is_ordered-requires : goal.is_ordered-requires
+is_ordered-requires c =
+    let reads-it : ValidNode c.args.arena.now c.args.place =
+    readable _ _ (sym (rw c.in-Done.is at c.ask_node-asked.ensures)) in
+    reads-it.opened.whole
+
+pub returns-then-not-is_ordered : goal.returns-then-not-is_ordered
+returns-then-not-is_ordered c =
+    let reads-it : ValidNode c.args.arena.now c.args.place =
+    readable _ _ (sym (rw c.in-Done.is at c.ask_node-asked.ensures)) in
+    answered-refused _ _ NotOrdered
+    (sym (entry-left c.args.arena.now c.args.place reads-it ∙ rw (sym c.is_ordered.ensures ∙ not-true _ c.if-not-is_ordered.true-raw)))
+
+pub order_entry-requires : goal.order_entry-requires
+order_entry-requires c =
+    let reads-it : ValidNode c.args.arena.now c.args.place =
+    readable _ _ (sym (rw c.in-Done.is at c.ask_node-asked.ensures)) in
+    has-slot _ _ reads-it
+
+pub returns-else-not-is_ordered : goal.returns-else-not-is_ordered
+returns-else-not-is_ordered c =
+    let reads-it : ValidNode c.args.arena.now c.args.place =
+    readable _ _ (sym (rw c.in-Done.is at c.ask_node-asked.ensures)) in
+    let place = reads-it in
+    let marked = sym c.is_ordered.ensures ∙ not-false _ c.if-not-is_ordered.false-raw in
+    answered-number _ _ _ (entry-left c.args.arena.now c.args.place place ∙ rw marked)
+    (c.order_entry.ensures ∙ sym (entry_read c.args.arena.now marked c.args.place place.below))
+
+pub returns-in-Refused : goal.returns-in-Refused
+returns-in-Refused c =
+    let g = decode c.args.arena.now in
+    answered-refused _ _ c.in-Refused.refusal
+    (refused-before c.in-Refused.refusal (ask_arena c.args.arena.now (reads_node g c.args.place)) (ask 10 g.ordered ∷ [])
+    (rw c.in-Refused.is at c.ask_node-asked.ensures))

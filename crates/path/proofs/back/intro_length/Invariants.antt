@@ -1,0 +1,13 @@
+-- `intro_length` meets its contract. The loop's invariant: the steps left from `end` on lead where
+-- all of them lead from the whole path. The measure is the steps left. Assumes nothing.
+use mathlib.Core.Path.{◌≡◌}
+use Prim.Native.Nat.{◌≤◌}
+use lib.ListN.{length}
+use Rattle.model.specs.Path.{intro_length}
+use Rattle.path.proofs.back.intro_length.Given as goal
+
+abbrev pub invariant-loop-left : goal.invariant-loop-left
+invariant-loop-left l = (intro_length l.left l.path l.end ≡ intro_length l.depth l.path (length l.path)) × (l.end ≤ length l.path)
+
+abbrev pub decreases-loop-left : goal.decreases-loop-left
+decreases-loop-left l = l.left

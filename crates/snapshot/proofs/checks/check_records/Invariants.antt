@@ -1,0 +1,17 @@
+-- `check_records` meets its contract. The loop's invariant is `CheckedTo`: the records from here on
+-- are refused as all of them are. The measure is how many records are left. Assumes nothing.
+use mathlib.Core.Path.{sym, ◌∙◌}
+use Prim.Native.Nat.{◌-◌, ◌≤◌, ◌<◌}
+use borrow.Author.Rules.{rules}
+use native.Mathlib.Omega.{arith}
+use lib.ListN.{length}
+use Rattle.snapshot.specs.SnapshotReading.{nodes_read}
+use Rattle.snapshot.proofs.SnapshotRecords.{record-here, piece-long, reached-more}
+use Rattle.snapshot.proofs.CheckLaws.{CheckedTo, checked-none, checked-all, refused-here, fits-prims, checked-more}
+use Rattle.snapshot.proofs.checks.check_records.Given as goal
+
+abbrev pub invariant-loop-n : goal.invariant-loop-n
+invariant-loop-n l = CheckedTo l.bytes l.prims l.at l.path_bytes l.has_root l.n
+
+abbrev pub decreases-loop-n : goal.decreases-loop-n
+decreases-loop-n l = l.count - l.n

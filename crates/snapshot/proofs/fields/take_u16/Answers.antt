@@ -1,0 +1,14 @@
+-- `take_u16` meets its contract: where the bytes end before the field it is missing. Assumes
+-- nothing.
+use borrow.Author.Rules.{rules}
+use native.Mathlib.Omega.{arith}
+use Rattle.snapshot.proofs.FieldLaws.{field-there, field-missing}
+use Rattle.snapshot.proofs.fields.take_u16.Goals as goal
+
+pub returns-then-bytes-at-lt2 : goal.returns-then-bytes-at-lt2
+returns-then-bytes-at-lt2 c =
+    field-missing c.args.at 2 c.args.bytes.now (omega arith)
+
+pub returns : goal.returns
+returns c =
+    rw c.read_u16.ensures (field-there c.args.at 2 c.args.bytes.now (omega arith))

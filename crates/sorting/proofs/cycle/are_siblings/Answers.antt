@@ -1,0 +1,30 @@
+-- `are_siblings` meets its contract: the second and the third are children of the first one's
+-- parent. Assumes nothing.
+use borrow.Author.Rules.{rules}
+use native.Mathlib.Omega.{arith}
+use mathlib.Core.Path.{sym}
+use mathlib.Core.Bool.{false≢true}
+use borrow.Author.Tests.{not-false}
+use Rattle.sorting.proofs.cycle.are_siblings.Goals as goal
+
+pub returns-then-a-eq0 : goal.returns-then-a-eq0
+returns-then-a-eq0 c =
+    absurd (false≢true e)
+
+pub returns-then-count-a : goal.returns-then-count-a
+returns-then-count-a c =
+    absurd (false≢true e)
+
+pub returns-then-not-is_child : goal.returns-then-not-is_child
+returns-then-not-is_child c =
+    absurd (false≢true e)
+
+pub returns : goal.returns
+returns c =
+    let some = c.if-a-eq0.false in
+    record {
+      parent = _;
+      first = (omega arith, omega (arith, c.if-count-a.false, c.requires.1), sym c.parent-parent.ensures);
+      second = c.is_child.ensures (not-false _ c.if-not-is_child.false-raw);
+      third = c.is_child-2.ensures e;
+    }

@@ -1,0 +1,12 @@
+-- `root_valid` meets its contract. Assumes nothing.
+use borrow.Author.Rules.{rules}
+use borrow.Author.Tests.{eq-eqb, ne_eqb}
+use Rattle.validate.proofs.graph.root_valid.Goals as goal
+
+pub returns-then-count-eq0 : goal.returns-then-count-eq0
+returns-then-count-eq0 c =
+    rw (eq-eqb _ 0 c.if-count-eq0.true)
+
+pub returns : goal.returns
+returns c =
+    rw (ne_eqb _ 0 c.if-count-eq0.false, c.local_root.ensures)

@@ -1,0 +1,13 @@
+-- `arc` meets its contract: the field that is read is the view's. Assumes nothing.
+use mathlib.Core.Path.{sym, ◌∙◌}
+use Rattle.arena.proofs.ReadNodes.{has-slot}
+use Rattle.view.proofs.ViewLaws.{seen}
+use Rattle.view.proofs.fields.arc.Goals as goal
+
+pub arc-requires : goal.arc-requires
+arc-requires c =
+    has-slot _ _ c.requires
+
+pub returns : goal.returns
+returns c =
+    c.arc.ensures ∙ sym (seen _ _ c.requires).arc

@@ -1,0 +1,13 @@
+-- `depth` meets its contract: the field that is read is the view's. Assumes nothing.
+use mathlib.Core.Path.{sym, ◌∙◌}
+use Rattle.arena.proofs.ReadNodes.{has-slot}
+use Rattle.view.proofs.ViewLaws.{seen}
+use Rattle.view.proofs.fields.depth.Goals as goal
+
+pub depth-requires : goal.depth-requires
+depth-requires c =
+    has-slot _ _ c.requires
+
+pub returns : goal.returns
+returns c =
+    c.depth.ensures ∙ sym (seen _ _ c.requires).depth

@@ -1,0 +1,13 @@
+-- `origin` meets its contract: the field that is read is the view's. Assumes nothing.
+use mathlib.Core.Path.{sym, ◌∙◌}
+use Rattle.arena.proofs.ReadNodes.{has-slot}
+use Rattle.view.proofs.ViewLaws.{seen}
+use Rattle.view.proofs.fields.origin.Goals as goal
+
+pub origin-requires : goal.origin-requires
+origin-requires c =
+    has-slot _ _ c.requires
+
+pub returns : goal.returns
+returns c =
+    c.origin.ensures ∙ sym (seen _ _ c.requires).origin
