@@ -1,5 +1,4 @@
 -- `compare_sibling_node_strength` meets its contract. Assumes nothing.
-use borrow.Author.Rules.{rules}
 use mathlib.Core.Path.{sym, ap}
 use Rattle.model.specs.Answers.{ordering_number}
 use Rattle.laws.proofs.ArenaCallLaws.{answered-refused, answered-number}

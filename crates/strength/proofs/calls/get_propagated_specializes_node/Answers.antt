@@ -1,5 +1,4 @@
 -- `get_propagated_specializes_node` meets its contract. Assumes nothing.
-use borrow.Author.Rules.{rules}
 use mathlib.Core.Path.{sym, ap, ◌∙◌}
 use Rattle.model.specs.Node.{optional}
 use Rattle.model.specs.ArenaCalls.{ValidNode}

@@ -1,5 +1,4 @@
 -- `same_site` meets its contract. Assumes nothing.
-use borrow.Author.Rules.{rules}
 use mathlib.Core.Path.{sym, ap}
 use Rattle.model.specs.Lists.{bit}
 use Rattle.model.specs.ArenaCalls.{ValidNode}

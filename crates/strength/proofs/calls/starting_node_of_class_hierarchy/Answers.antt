@@ -1,5 +1,4 @@
 -- `starting_node_of_class_hierarchy` meets its contract. Assumes nothing.
-use borrow.Author.Rules.{rules}
 use mathlib.Core.Path.{sym, ap, ◌∙◌}
 use Rattle.model.specs.Node.{optional}
 use Rattle.model.specs.ArenaCalls.{ValidNode}
@@ -23,7 +22,7 @@ pub returns-in-Done : goal.returns-in-Done
 returns-in-Done c =
     let found = c.starting_node_of_class_hierarchy-found.ensures in
     one-hierarchy _ _ _ _ _ (sym (rw c.in-Done.is at c.ask_node-asked.ensures))
-    found.instance (c.of.ensures ∙ ap optional found.class_node)
+    found.instance (c.of.ensures ∙ ap optional found.class-node)
 
 pub returns-in-Refused : goal.returns-in-Refused
 returns-in-Refused c =

@@ -1,5 +1,4 @@
 -- `compare_sibling_node_strength` meets its contract: two arcs settle it. Assumes nothing.
-use borrow.Author.Rules.{rules}
 use Rattle.strength.proofs.ComparisonCycle.{at_once}
 use Rattle.strength.proofs.comparison.compare_sibling_node_strength.Goals as goal
 

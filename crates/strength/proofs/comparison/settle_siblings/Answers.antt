@@ -1,6 +1,5 @@
 -- `settle_siblings` meets its contract: two siblings are settled at once, or compared in the cycle.
 -- Assumes nothing.
-use borrow.Author.Rules.{rules}
 use Rattle.strength.proofs.ComparisonCycle.{at_once, left_open}
 use Rattle.strength.proofs.comparison.settle_siblings.Goals as goal
 

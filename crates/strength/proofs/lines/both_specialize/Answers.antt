@@ -1,5 +1,4 @@
 -- `both_specialize` meets its contract. Assumes nothing.
-use borrow.Author.Rules.{rules}
 use Rattle.strength.proofs.lines.both_specialize.Goals as goal
 
 pub returns-then-has_specializes : goal.returns-then-has_specializes

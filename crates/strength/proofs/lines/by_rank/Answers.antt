@@ -1,5 +1,4 @@
 -- `by_rank` meets its contract: ranks that differ settle it. Assumes nothing.
-use borrow.Author.Rules.{rules}
 use Rattle.strength.proofs.VerdictNumbers.{read_same, read-other, read-smaller}
 use Rattle.strength.proofs.ComparisonCycle.{ranks-settle}
 use Rattle.strength.proofs.lines.by_rank.Goals as goal

@@ -1,6 +1,5 @@
 -- `settle` meets its contract: the ranks settle it, or the plain lines may. Assumes nothing.
 use mathlib.Core.Path.{sym, ◌∙◌}
-use borrow.Author.Rules.{rules}
 use Rattle.strength.proofs.ComparisonCycle.{at_once, left_open}
 use Rattle.strength.proofs.lines.settle.Goals as goal
 

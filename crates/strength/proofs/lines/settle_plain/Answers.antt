@@ -1,6 +1,5 @@
 -- `settle_plain` meets its contract: the plain lines settle it, or ask of one node twice. Assumes
 -- nothing.
-use borrow.Author.Rules.{rules}
 use Rattle.strength.proofs.SiblingLines.{not-both-special}
 use Rattle.strength.proofs.ComparisonCycle.{siblings-resolved, asked-itself}
 use Rattle.strength.proofs.lines.settle_plain.Goals as goal

@@ -1,5 +1,4 @@
 -- `weigh` meets its contract: one of the two lists goes on. Assumes nothing.
-use borrow.Author.Rules.{rules}
 use mathlib.Core.Path.{sym, ◌∙◌}
 use Rattle.strength.proofs.SiblingLines.{both-special, not-both-special}
 use Rattle.strength.proofs.lines.weigh.Goals as goal

@@ -1,5 +1,4 @@
 -- `weigh_plain` meets its contract: the depths differ, or the origins are asked. Assumes nothing.
-use borrow.Author.Rules.{rules}
 use Rattle.strength.proofs.VerdictNumbers.{read_same, read-other, read-smaller}
 use Rattle.strength.proofs.SiblingLines.{depths-differ, origins-then-siblings}
 use Rattle.strength.proofs.lines.weigh_plain.Goals as goal

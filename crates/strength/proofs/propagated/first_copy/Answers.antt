@@ -3,11 +3,9 @@
 use native.Mathlib.Omega.{arith}
 use mathlib.Core.Path.{◌≡◌, sym, ap, ◌∙◌}
 use Prim.Native.Nat.{ℕ}
-use Rattle.model.specs.Hierarchy.{first_in, is_copy}
-use Rattle.model.specs.Arena.{count_in, children_in}
+use Rattle.model.specs.Arena.{count_in}
 use Rattle.model.specs.ArenaCalls.{ValidNode}
 use Rattle.arena.proofs.ReadNodes.{has-slot}
-use Rattle.view.specs.View.{view_in}
 use Rattle.strength.proofs.CopyLaws.{copy_from, copy-taken, copy_passed, copies-end}
 use Rattle.strength.proofs.propagated.first_copy.Goals as goal
 

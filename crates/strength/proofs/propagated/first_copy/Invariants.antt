@@ -1,14 +1,10 @@
 -- `first_copy` meets its contract. The loop's invariant: the first copy from `child` on, of `left`
 -- nodes, is the first of the whole list. The measure is `left`. Assumes nothing.
-use native.Mathlib.Omega.{arith}
-use mathlib.Core.Path.{◌≡◌, sym, ap, ◌∙◌}
-use Prim.Native.Nat.{ℕ}
+use mathlib.Core.Path.{◌≡◌}
 use Rattle.model.specs.Hierarchy.{first_in, is_copy}
-use Rattle.model.specs.Arena.{count_in, children_in}
-use Rattle.model.specs.ArenaCalls.{ValidNode}
-use Rattle.arena.proofs.ReadNodes.{has-slot}
+use Rattle.model.specs.Arena.{children_in}
 use Rattle.view.specs.View.{view_in}
-use Rattle.strength.proofs.CopyLaws.{copy_from, copy-taken, copy_passed, copies-end}
+use Rattle.strength.proofs.CopyLaws.{copy_from}
 use Rattle.strength.proofs.propagated.first_copy.Given as goal
 
 abbrev pub invariant-loop-left : goal.invariant-loop-left

@@ -1,6 +1,5 @@
 -- `weigh_same_root` meets its contract: class depths, hops or the local line differ, or the origins
 -- are asked. Assumes nothing.
-use borrow.Author.Rules.{rules}
 use mathlib.Core.Path.{◌≡◌, sym, ◌∙◌}
 use Rattle.model.specs.Strength.{class_depth}
 use Rattle.view.specs.View.{view_in}

@@ -1,5 +1,4 @@
 -- `depth_line` meets its contract: one depth, R nested, or the larger depth. Assumes nothing.
-use borrow.Author.Rules.{rules}
 use mathlib.Core.Path.{sym, ◌∙◌}
 use Rattle.strength.proofs.VerdictNumbers.{read_same, read-smaller}
 use Rattle.strength.proofs.SpecializesLaws.{one-depth, roots-nested, not-nested, root-standing}

@@ -1,5 +1,4 @@
 -- `weigh_origins` meets its contract: one origin, one R, or both R are asked. Assumes nothing.
-use borrow.Author.Rules.{rules}
 use mathlib.Core.Path.{◌≡◌}
 use Rattle.view.specs.View.{view_in}
 use Rattle.strength.proofs.VerdictNumbers.{read_same, read-other}

@@ -1,6 +1,5 @@
 -- `weigh_specializes` meets its contract: the depth line settles, or the rest of the list goes on.
 -- Assumes nothing.
-use borrow.Author.Rules.{rules}
 use mathlib.Core.Path.{sym, ◌∙◌}
 use Rattle.strength.proofs.SpecializesLaws.{depth-less, depth-greater, depth-passed}
 use Rattle.strength.proofs.specializes.weigh_specializes.Goals as goal

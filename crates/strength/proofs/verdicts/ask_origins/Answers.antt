@@ -1,5 +1,4 @@
 -- `ask_origins` meets its contract. Assumes nothing.
-use borrow.Author.Rules.{rules}
 use Rattle.strength.proofs.VerdictLaws.{origins-then-numbers}
 use Rattle.strength.proofs.verdicts.ask_origins.Goals as goal
 

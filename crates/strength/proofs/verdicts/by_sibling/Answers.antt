@@ -1,5 +1,4 @@
 -- `by_sibling` meets its contract. Assumes nothing.
-use borrow.Author.Rules.{rules}
 use Rattle.strength.proofs.VerdictNumbers.{read-smaller}
 use Rattle.strength.proofs.verdicts.by_sibling.Goals as goal
 

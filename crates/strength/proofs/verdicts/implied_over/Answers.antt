@@ -1,5 +1,4 @@
 -- `implied_over` meets its contract. Assumes nothing.
-use borrow.Author.Rules.{rules}
 use Rattle.strength.proofs.verdicts.implied_over.Goals as goal
 
 pub returns : goal.returns
