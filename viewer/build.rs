@@ -1,10 +1,10 @@
-//! Links the static library that `rt staticlib c_api` writes.
+//! Links the static library that `tools/build c_api` writes.
 use std::path::Path;
 
 fn main() {
     let folder = Path::new(env!("CARGO_MANIFEST_DIR")).join("../target/staticlib");
     let archive = folder.join("libc_api.a");
-    assert!(archive.is_file(), "{} is missing: run `rt staticlib c_api` first", archive.display());
+    assert!(archive.is_file(), "{} is missing: run `bash tools/build c_api` first", archive.display());
     println!("cargo::rustc-link-search=native={}", folder.display());
     println!("cargo::rustc-link-lib=static=c_api");
     println!("cargo::rerun-if-changed={}", archive.display());

@@ -11,12 +11,8 @@ use crate::proved;
 const OF_ONE_GRAPH: usize = 8;
 
 /// Kinds of damage, and of a thousand damaged arenas how many at least hold no graph for such damage alone.
-const LEAST: [(&str, usize); 4] = [
-    ("child list cut short", 20),
-    ("child list into a cycle", 20),
-    ("tails of two child lists crossed", 15),
-    ("unknown flag", 20),
-];
+const LEAST: [(&str, usize); 3] =
+    [("child list cut short", 20), ("child list into a cycle", 20), ("tails of two child lists crossed", 15)];
 
 /// Compares the checks on every arena of [`EMPTY_MARKS`], on `count` damaged arenas and on whole ones between them, at
 /// most as many, and prints what was found. Answers whether they agree on all, so many are damaged, and each kind of

@@ -1,5 +1,4 @@
-//! Calls on graphs: the check of an arena, reading and writing a snapshot, clearing its unknown flags, adding node by
-//! node.
+//! Calls on graphs: the check of an arena, reading and writing a snapshot, adding node by node.
 use std::hint::black_box;
 use std::path::Path;
 use std::process::Command;
@@ -8,7 +7,6 @@ use plain::arena::holds_graph;
 use plain::layout::{ARENA_BYTES, INVALID, LOCAL_ROOT, SNAPSHOT_BYTES};
 use plain::order;
 use plain::path::prim_count;
-use plain::record::UNKNOWN_FLAGS;
 use plain::samples::graphs::{Node, grown, path_of, snapshot};
 
 use crate::{proved, time, turns};
@@ -28,8 +26,6 @@ pub fn measure() -> bool {
     SIZES.iter().for_each(|&size| read(&Graph::new(size)));
     println!("\nwriting a snapshot: nodes, copying the bytes, proved, proved / copying");
     SIZES.iter().for_each(|&size| write(&Graph::new(size)));
-    println!("\nclearing unknown flags of a snapshot: nodes, plain Rust, proved, proved / plain");
-    SIZES.iter().for_each(|&size| clear(&Graph::new(size)));
     println!("\nadding node by node: nodes, the Rust, proved, proved / the Rust");
     SIZES.iter().for_each(|&size| add(&Graph::new(size)));
     true
@@ -130,20 +126,6 @@ fn write(graph: &Graph) {
     let (copying, ours) = graph
         .time(|| graph.copy(&mut copied), || _ = black_box(proved::write_snapshot(black_box(&graph.arena), &mut out)));
     println!("{:5} {copying:9.1} {ours:9.1} {:9.2}", graph.size, ours / copying);
-}
-
-/// Every node has unknown flags at first. After one run none has, and another makes the same checks and writes.
-fn clear(graph: &Graph) {
-    let mut nodes = nodes(&graph.children);
-    nodes.iter_mut().for_each(|node| node.flags |= UNKNOWN_FLAGS);
-    let [mut plainly, mut ours] = [snapshot(&nodes), snapshot(&nodes)];
-    assert_eq!(proved::clear_unknown_flags(&mut ours), Ok(graph.size as u32));
-    assert!(ours == graph.snapshot, "the flags are cleared");
-    let (plain, proved) = graph.time(
-        || _ = black_box(plain::snapshot::clear_unknown_flags(black_box(&mut plainly))),
-        || _ = black_box(proved::clear_unknown_flags(black_box(&mut ours))),
-    );
-    println!("{:5} {plain:9.1} {proved:9.1} {:9.2}", graph.size, proved / plain);
 }
 
 fn add(graph: &Graph) {

@@ -1,7 +1,6 @@
 //! Holds the proved library to plain Rust, and measures it beside that, on the same input in one run.
 mod arenas;
 mod before;
-mod clears;
 mod culling;
 mod erasures;
 mod graphs;
@@ -21,7 +20,7 @@ use std::process::ExitCode;
 
 const USAGE: &str = "\
 usage: bench [paths]                  measure reading paths
-       bench graphs                   measure the check of an arena, snapshots, clearing them and adding
+       bench graphs                   measure the check of an arena, snapshots and adding
        bench strength                 measure comparing nodes
        bench order                    measure ordering graphs, without question 2 and with it
        bench culling                  measure culling, the erasable set and erasing
@@ -29,7 +28,6 @@ usage: bench [paths]                  measure reading paths
        bench turns WHAT SHAPE COUNT   measure one size for a while for each line of input: what OTHER is asked
        bench arenas SEED COUNT        compare the check on COUNT damaged arenas, and on whole ones
        bench snapshots SEED COUNT     compare the reading of COUNT snapshots, whole and damaged
-       bench clears SEED COUNT        compare the clearing of unknown flags in COUNT snapshots, whole and damaged
        bench orders SEED SMALL LARGE  compare the ordering of so many small graphs, and of so many large ones
        bench slowest SEED COUNT       order COUNT graphs of 1,024 nodes, and find the slowest
        bench erasures SEED COUNT      compare culling and erasing in COUNT arenas
@@ -49,7 +47,6 @@ fn main() -> ExitCode {
         ["turns", what, shape, count] => before::serve(what, shape, count),
         ["arenas", seed, count] => on_numbers(seed, count, arenas::compare),
         ["snapshots", seed, count] => on_numbers(seed, count, snapshots::compare),
-        ["clears", seed, count] => on_numbers(seed, count, clears::compare),
         ["orders", seed, small, large] => compare_orders(seed, small, large),
         ["slowest", seed, count] => on_numbers(seed, count, slowest::search),
         ["erasures", seed, count] => on_numbers(seed, count, erasures::compare),

@@ -5,7 +5,6 @@ unsafe extern "C" {
     fn bench_is_graph(arena: *const u8, length: usize) -> u32;
     fn bench_has_order(arena: *const u8, length: usize) -> u32;
     fn bench_read_snapshot(arena: *mut u8, alen: usize, bytes: *const u8, blen: usize) -> u64;
-    fn bench_clear_unknown_flags(bytes: *mut u8, length: usize) -> u64;
     fn bench_write_snapshot(arena: *const u8, alen: usize, out: *mut u8, olen: usize) -> u64;
     fn bench_init_root(arena: *mut u8, alen: usize, stack: u32, layer: u32, path: *const u8, plen: usize) -> u64;
     fn bench_add_child(arena: *mut u8, alen: usize, parent: u32, path: *const u8, plen: usize) -> u64;
@@ -66,11 +65,6 @@ pub fn has_order(arena: &[u8]) -> u32 {
 /// The count.
 pub fn read_snapshot(arena: &mut [u8], bytes: &[u8]) -> Result<u32, u32> {
     answer(unsafe { bench_read_snapshot(arena.as_mut_ptr(), arena.len(), bytes.as_ptr(), bytes.len()) })
-}
-
-/// The count, and the bytes without unknown flags.
-pub fn clear_unknown_flags(bytes: &mut [u8]) -> Result<u32, u32> {
-    answer(unsafe { bench_clear_unknown_flags(bytes.as_mut_ptr(), bytes.len()) })
 }
 
 /// The length.

@@ -78,13 +78,12 @@ fn accepted(answer: Result<u32, u32>) {
 }
 
 /// The public calls that `crates/bench_api` has, each with what is called of it on a graph.
-const CALLS: [Call<Graph>; 29] = [
+const CALLS: [Call<Graph>; 28] = [
     ("init_root", |_| accepted(proved::init_root(&mut vec![0; ARENA_BYTES], 0, 0, &path_of(MAX_BYTES)))),
     ("add_child", |graph| {
         accepted(proved::add_child(&mut graph.fewer.clone(), graph.last().parent, &graph.last().path));
     }),
     ("read_snapshot", |graph| accepted(proved::read_snapshot(&mut vec![0; ARENA_BYTES], &graph.snapshot))),
-    ("clear_unknown_flags", |graph| accepted(proved::clear_unknown_flags(&mut graph.snapshot.clone()))),
     ("write_snapshot", |graph| accepted(proved::write_snapshot(&graph.arena, &mut vec![0; SNAPSHOT_BYTES]))),
     // refused 9 where there is a cycle, which takes it deepest
     ("finalize_strength_order", |graph| {

@@ -5,7 +5,7 @@ use std::mem;
 
 use crate::judge::{self, Judge};
 use crate::line::{self, Call, OfNode, Setting};
-use crate::narrowing::{self, Rule};
+use crate::narrowing;
 use crate::pcp::layer_stack::LayerStackId;
 use crate::pcp::prim_graph::{NodeId, PrimIndexGraph};
 use crate::record::Record;
@@ -73,7 +73,6 @@ impl Calls {
             Call::Init(stack, layer, path) => self.init(stack, layer, path),
             Call::Add(record) => self.add(&record),
             Call::Read(bytes) => self.read(&bytes),
-            Call::Clear(bytes) => cleared(bytes).map(|bytes| hex(&bytes)),
             Call::Write => Ok(hex(&snapshot::encode(&self.current.records()))),
             Call::Dump => Ok(joined(self.current.records().iter().map(record_text), ";")),
             Call::Chains => Ok(self.chains()),
@@ -253,30 +252,19 @@ impl Calls {
     }
 }
 
-/// The graph of a snapshot.
+/// The graph of a snapshot. The records are added to a fresh graph in their order, so child lists come back in node
+/// order.
 pub fn graph_of(bytes: &[u8]) -> Result<Judge, Refusal> {
-    graph_by(Rule::Present, bytes)
-}
-
-/// The records are added to a fresh graph in their order, so child lists come back in node order.
-fn graph_by(rule: Rule, bytes: &[u8]) -> Result<Judge, Refusal> {
     let mut filled = Judge::default();
     for record in snapshot::decode(bytes)? {
         if filled.graph().is_empty() {
-            filled.init_from(narrowing::record_0(&record, rule)?);
+            filled.init_from(narrowing::record_0(&record)?);
         } else {
-            let (parent, desc) = narrowing::later_record(filled.graph(), &record, rule)?;
+            let (parent, desc) = narrowing::later_record(filled.graph(), &record)?;
             filled.add_child(parent, desc);
         }
     }
     Ok(filled)
-}
-
-/// A snapshot that the former rule accepts, without its unknown flags (document 02, W3).
-pub fn cleared(mut bytes: Vec<u8>) -> Result<Vec<u8>, Refusal> {
-    graph_by(Rule::Former, &bytes)?;
-    snapshot::clear_unknown_flags(&mut bytes);
-    Ok(bytes)
 }
 
 /// The answer of a call that has no value.

@@ -7,20 +7,25 @@ pub const CULLED: u8 = 2;
 pub const PROHIBITED_CHILDREN: u8 = 4;
 pub const HAS_SPECIALIZES: u8 = 8;
 
-/// The bits that mean something. The others are unknown: document 01 kept them, document 02, W3, refuses them.
-pub const KNOWN: u8 = INERT | CULLED | PROHIBITED_CHILDREN | HAS_SPECIALIZES;
+/// Each bit of the byte, from 1 to 128, and the Rust's bit for it. The upper four mean nothing and are given back as
+/// they came: the Rust names none of the bits 12 to 15, so it never reads them.
+const BITS: [NodeFlags; 8] = [
+    NodeFlags::INERT,
+    NodeFlags::CULLED,
+    NodeFlags::PROHIBITED_CHILDREN,
+    NodeFlags::HAS_SPECIALIZES,
+    NodeFlags::from_bits_retain(1 << 12),
+    NodeFlags::from_bits_retain(1 << 13),
+    NodeFlags::from_bits_retain(1 << 14),
+    NodeFlags::from_bits_retain(1 << 15),
+];
 
-/// Each known bit of the byte, from 1 to 8, and the Rust's bit for it.
-const BITS: [NodeFlags; 4] =
-    [NodeFlags::INERT, NodeFlags::CULLED, NodeFlags::PROHIBITED_CHILDREN, NodeFlags::HAS_SPECIALIZES];
-
-/// The Rust's flags of a byte. It may have unknown bits under the former rule only, and then the graph is not kept.
 pub fn from_byte(byte: u8) -> NodeFlags {
-    let set = (0..BITS.len()).filter(|bit| byte >> bit & 1 == 1);
+    let set = (0..8).filter(|bit| byte >> bit & 1 == 1);
     set.fold(NodeFlags::empty(), |flags, bit| flags | BITS[bit])
 }
 
 pub fn to_byte(flags: NodeFlags) -> u8 {
-    let set = (0..BITS.len()).filter(|&bit| flags.contains(BITS[bit]));
+    let set = (0..8).filter(|&bit| flags.contains(BITS[bit]));
     set.fold(0, |byte, bit| byte | 1 << bit)
 }

@@ -18,7 +18,6 @@ pub enum Call<'a> {
     Init(u32, u32, &'a [u8]),
     Add(Record<'a>),
     Read(Vec<u8>),
-    Clear(Vec<u8>),
     Write,
     Dump,
     Chains,
@@ -69,7 +68,7 @@ impl Call<'_> {
     /// Whether the call asks first that the current bytes hold a graph.
     pub fn asks_for_a_graph(&self) -> bool {
         use Call::*;
-        !matches!(self, Path(_) | Back(..) | Join(..) | New | Read(_) | Clear(_) | Swap | Save | Restore | Rubbish)
+        !matches!(self, Path(_) | Back(..) | Join(..) | New | Read(_) | Swap | Save | Restore | Rubbish)
     }
 }
 
@@ -91,7 +90,6 @@ pub fn parse(line: &[u8]) -> Option<Call<'_>> {
         [b"init", stack, layer, path] => Call::Init(number(stack)?, number(layer)?, path),
         [b"add", ref fields @ ..] => Call::Add(record(fields)?),
         [b"read", hex] => Call::Read(bytes(hex)?),
-        [b"clear", hex] => Call::Clear(bytes(hex)?),
         [b"write"] => Call::Write,
         [b"dump"] => Call::Dump,
         [b"chains"] => Call::Chains,

@@ -33,7 +33,6 @@ usage: oracle answer                                 answer the lines on standar
        oracle script graphs SEED COUNT               print lines on COUNT random graphs
        oracle script arenas SEED COUNT               print COUNT scripts that make graphs and look at them
        oracle script snapshots SEED COUNT            print lines that read COUNT damaged snapshots
-       oracle script clears SEED COUNT               print lines that clear the unknown flags of COUNT snapshots
        oracle script strength SEED COUNT             print lines that compare every pair of COUNT small graphs
        oracle script strength-large SEED COUNT       print lines that compare 2,000 pairs of COUNT large graphs
        oracle script arcs                            print lines that compare siblings of each pair of arcs
@@ -64,7 +63,6 @@ fn main() -> ExitCode {
         ["script", "graphs", seed, count] => print_script(scripts::graphs, seed, count),
         ["script", "arenas", seed, count] => print_script(scripts::arenas, seed, count),
         ["script", "snapshots", seed, count] => print_script(scripts::snapshots, seed, count),
-        ["script", "clears", seed, count] => print_script(scripts::clears, seed, count),
         ["script", "strength", seed, count] => print_script(scripts::strength, seed, count),
         ["script", "strength-large", seed, count] => print_script(scripts::strength_large, seed, count),
         ["script", "relations", seed, count] => print_script(scripts::relations, seed, count),

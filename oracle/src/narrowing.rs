@@ -1,13 +1,12 @@
 //! What document 01 checks before a call (its twelve questions), where the Rust takes its arguments on trust. Every
-//! refusal but 12 comes from here, and nothing else does; it is written from document 01 alone, and from document 02, W3,
-//! where it refuses unknown flags.
+//! refusal but 12 comes from here, and nothing else does; it is written from document 01 alone.
 //!
 //! A function makes the checks of its call in document 01's order and hands back what has then become an argument that
 //! the Rust can take. Check 1 cannot fail: the lines lend no buffers. Check 12 is in `snapshot.rs`.
 
 use std::cmp::Ordering;
 
-use crate::flags::{self, CULLED, INERT, KNOWN, PROHIBITED_CHILDREN};
+use crate::flags::{self, CULLED, INERT, PROHIBITED_CHILDREN};
 use crate::judge::Judge;
 use crate::line::Setting;
 use crate::pcp::LayerId;
@@ -34,7 +33,6 @@ const MISPLACED_ROOT: Refusal = Refusal::new(6, "arc Root is for one child of no
 const CULLED_ADDED: Refusal = Refusal::new(6, "CULLED may not be added; the Rust takes it");
 const ARC_FLAG_MARKED: Refusal = Refusal::new(6, "only flags 1, 2 and 4 may be marked; the Rust asserts it");
 const CULLED_ROOT: Refusal = Refusal::new(6, "CULLED may not stand on arc Root; the Rust takes it");
-const UNKNOWN_FLAGS: Refusal = Refusal::new(6, "flags 16 to 128 are unknown; the Rust takes any bits");
 const NOT_YES_OR_NO: Refusal = Refusal::new(6, "has-specs must be 0 or 1; the Rust's type has no other");
 const TOO_MANY_NODES: Refusal = Refusal::new(7, "a graph has at most 1,024 nodes; the Rust has no limit");
 const TOO_MANY_BYTES: Refusal = Refusal::new(7, "the paths have at most 32,768 bytes; the Rust has no limit");
@@ -45,15 +43,6 @@ const NOT_ORDERED: Refusal = Refusal::new(10, "the order is not current; the Rus
 const NEITHER_GOES_NOR_STAYS: Refusal = Refusal::new(11, "a byte is 0 or 1; the Rust's type has no other");
 const ROOT_GOES: Refusal = Refusal::new(11, "a Root arc would go; the Rust erases it");
 const LINK_GOES: Refusal = Refusal::new(11, "a kept node's parent or origin would go; the Rust only asserts it stays");
-
-/// Which records a snapshot may have: document 02, W3, tells its own rule from the one before it.
-#[derive(Clone, Copy, PartialEq, Eq)]
-pub enum Rule {
-    /// Check 6 refuses unknown flags.
-    Present,
-    /// It does not ask about them. All other checks are the same.
-    Former,
-}
 
 /// Check 2: there is a graph.
 pub fn is_graph(judge: &Judge) -> Result<(), Refusal> {
@@ -109,41 +98,33 @@ pub fn add(graph: &PrimIndexGraph, record: &Record) -> Result<(NodeId, NodeDesc)
     let origin = record.origin.map(|number| node(graph, number)).transpose()?;
     let path = path(record.path)?;
     CULLED_ADDED.unless(record.flags & CULLED == 0)?;
-    known_flags(record, Rule::Present)?;
     let desc = describe(graph, parent.valid().unwrap_or(graph.root()), origin, path, record)?;
     capacity(graph, &desc.path)?;
     Ok((parent, desc))
 }
 
 /// Record 0 of a snapshot, checks 4 to 7: the node it describes.
-pub fn record_0(record: &Record, rule: Rule) -> Result<NodeDesc, Refusal> {
+pub fn record_0(record: &Record) -> Result<NodeDesc, Refusal> {
     let arc_and_flags = record.arc == ArcType::Root as u8 && record.flags & INERT != 0;
     WRONG_RECORD_0.unless(arc_and_flags && record.parent.is_none() && record.origin.is_none())?;
     let path = path(record.path)?;
     CULLED_ROOT.unless(record.flags & CULLED == 0)?;
-    known_flags(record, rule)?;
     fill(ArcType::Root, None, path, record)
 }
 
 /// A later record of a snapshot, checks 4 to 7, where `graph` holds the records before it: its parent and the node.
-pub fn later_record(graph: &PrimIndexGraph, record: &Record, rule: Rule) -> Result<(NodeId, NodeDesc), Refusal> {
+pub fn later_record(graph: &PrimIndexGraph, record: &Record) -> Result<(NodeId, NodeDesc), Refusal> {
     let lower = |link: Option<u32>| link.and_then(|number| node_below_count(graph, number)).ok_or(NOT_LOWER);
     let parent = lower(record.parent)?;
     let origin = lower(record.origin)?;
     let path = path(record.path)?;
     let desc = describe(graph, parent, Some(origin), path, record)?;
     CULLED_ROOT.unless(desc.arc != ArcType::Root || record.flags & CULLED == 0)?;
-    known_flags(record, rule)?;
     capacity(graph, &desc.path)?;
     Ok((parent, desc))
 }
 
-/// Check 6 for unknown flags.
-fn known_flags(record: &Record, rule: Rule) -> Result<(), Refusal> {
-    UNKNOWN_FLAGS.unless(rule == Rule::Former || record.flags & !KNOWN == 0)
-}
-
-/// Check 6, except for flags: the node that `record` describes under `parent`.
+/// Check 6, except for CULLED: the node that `record` describes under `parent`.
 fn describe(
     graph: &PrimIndexGraph,
     parent: NodeId,

@@ -2,20 +2,17 @@
 
 mod arcs;
 mod arenas;
-mod clears;
 mod culls;
 mod erase_sets;
 mod graphs;
 mod lists;
 mod orders;
 mod paths;
-mod reading;
 mod snapshots;
 mod strength;
 
 pub use arcs::arcs;
 pub use arenas::arenas;
-pub use clears::clears;
 pub use culls::{culls, culls_large};
 pub use graphs::graphs;
 pub use lists::lists;

@@ -1,13 +1,9 @@
 //! The bytes of a snapshot: document 01's format, and its check 12. What the records say is not looked at here.
 
-use crate::flags::KNOWN;
 use crate::record::{NO_NODE, Record, node_given};
 use crate::refusal::Refusal;
 
 const VERSION: u8 = 1;
-
-/// The bytes before the first record.
-const HEADER: usize = 7;
 
 /// The bytes of a record after its length and before its path.
 const FIXED_BYTES: usize = 27;
@@ -76,15 +72,6 @@ fn encode_record(record: &Record, bytes: &mut Vec<u8>) {
     bytes.extend(record.spec_from.to_be_bytes());
     bytes.push(record.has_specs);
     bytes.extend(record.path);
-}
-
-/// Clears the unknown flags in each record of a snapshot whose lengths are exact: a record's fourth byte has its flags.
-pub fn clear_unknown_flags(bytes: &mut [u8]) {
-    let mut at = HEADER;
-    while let Some(&mut [high, low, _, ref mut flags]) = bytes.get_mut(at..at + 4) {
-        *flags &= KNOWN;
-        at += 2 + usize::from(u16::from_be_bytes([high, low]));
-    }
 }
 
 /// The bytes not yet read. Each field is taken, or is missing.

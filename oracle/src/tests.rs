@@ -1,12 +1,11 @@
-//! The examples of document 01, the wider selections and unknown flags of document 02, the edges of the language, inputs
-//! that mean nothing, the plain reader of snapshots, the plain comparison, ordering, culling and erasing; the scripts.
+//! The examples of document 01, the wider selections of document 02, the edges of the language, inputs that mean
+//! nothing, the plain reader of snapshots, the plain comparison, ordering, culling and erasing; the scripts.
 
 mod culls;
 mod deepening;
 mod departures;
 mod erasing;
 mod examples;
-mod flags;
 mod lines;
 mod lists;
 mod orders;

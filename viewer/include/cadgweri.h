@@ -1,6 +1,6 @@
 /* The strength graph of one prim index, for a viewer: a snapshot is read into an arena, and its nodes are compared and ordered.
  *
- * Link with target/staticlib/libc_api.a, which `rt staticlib c_api` writes. The functions are proved (crates/c_api). They need nothing of the bytes and
+ * Link with target/staticlib/libc_api.a, which `tools/build c_api` writes. The functions are proved (crates/c_api_c). They need nothing of the bytes and
  * numbers that they are given. A slice is a pointer and a length: the pointer is not null and valid for so many bytes, and two slices of one call do
  * not overlap. Nothing is written but through a pointer that is not const.
  */
@@ -32,7 +32,7 @@ extern "C" {
  *    3  the graph is empty
  *    4  a node's number or a place is not below the count; in a snapshot: a parent or origin that is not before its node, or a wrong record 0
  *    5  a path of the snapshot is malformed
- *    6  an arc, flags or has-specs of the snapshot is not allowed; flags 16 to 128 are unknown, and `cadgweri_clear_unknown_flags` clears them
+ *    6  an arc, flags or has-specs of the snapshot is not allowed
  *    7  the snapshot has more than 1,024 nodes or 32,768 bytes of paths
  *    8  the two nodes have not one parent
  *    9  the children of some node have no order in which each is stronger than all after it
@@ -49,10 +49,6 @@ static inline uint32_t cadgweri_value(uint64_t answer) { return (uint32_t)answer
 
 /* Reads a snapshot into the arena, whatever it held before. The value is how many nodes it has. Refused 1, 12, 4, 5, 6 or 7. */
 uint64_t cadgweri_read_snapshot(uint8_t *arena, size_t arena_length, const uint8_t *bytes, size_t bytes_length);
-
-/* Clears the unknown flags in each record of a snapshot and changes no other byte; the value is how many nodes it has. Old exporters left such flags: where
- * reading is refused 6, clear and read again. The checks are those of reading, but for unknown flags. Refused 12, 4, 5, 6 or 7. */
-uint64_t cadgweri_clear_unknown_flags(uint8_t *snapshot, size_t length);
 
 /* The value is how many nodes the graph has. Refused 1 or 2. */
 uint64_t cadgweri_count(const uint8_t *arena, size_t arena_length);

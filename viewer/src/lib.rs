@@ -17,7 +17,6 @@ const ORDER_BYTES: usize = 4_096;
 
 unsafe extern "C" {
     fn cadgweri_read_snapshot(arena: *mut u8, arena_length: usize, bytes: *const u8, bytes_length: usize) -> u64;
-    fn cadgweri_clear_unknown_flags(snapshot: *mut u8, length: usize) -> u64;
     fn cadgweri_count(arena: *const u8, arena_length: usize) -> u64;
     fn cadgweri_compare_node_strength(arena: *const u8, arena_length: usize, a: u32, b: u32) -> u64;
     fn cadgweri_compare_sibling_node_strength(arena: *const u8, arena_length: usize, a: u32, b: u32) -> u64;
@@ -73,13 +72,6 @@ pub fn empty_arena() -> Vec<u8> {
 pub fn read_snapshot(arena: &mut [u8], bytes: &[u8]) -> Result<u32, Refusal> {
     // SAFETY: both slices are valid for their lengths, and do not overlap, since one is borrowed mutably.
     value(unsafe { cadgweri_read_snapshot(arena.as_mut_ptr(), arena.len(), bytes.as_ptr(), bytes.len()) })
-}
-
-/// Clears the unknown flags, 16 to 128, in each record of a snapshot, changes no other byte, and answers how many nodes it
-/// has. Old exporters left such flags, and [`read_snapshot`] refuses them (6); clearing makes all its other checks.
-pub fn clear_unknown_flags(snapshot: &mut [u8]) -> Result<u32, Refusal> {
-    // SAFETY: the slice is valid for its length, and is borrowed mutably.
-    value(unsafe { cadgweri_clear_unknown_flags(snapshot.as_mut_ptr(), snapshot.len()) })
 }
 
 /// How many nodes the graph has.

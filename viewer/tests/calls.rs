@@ -11,7 +11,6 @@ use plain::samples::damaged_arenas::damage;
 use plain::samples::damaged_snapshots::damaged;
 use plain::samples::graphs::{Node, nodes, snapshot};
 use plain::samples::strength::{large, random_pairs, small};
-use plain::samples::unknown_flags::to_clear;
 use plain::strength::Strength;
 use viewer::*;
 
@@ -114,42 +113,6 @@ fn damaged_snapshots() {
     }
     assert!((500..3_500).contains(&accepted), "{accepted}");
     assert_eq!(refused(read_snapshot(&mut arena, &[])), 12);
-}
-
-/// What an old exporter left is refused, cleared and read.
-#[test]
-fn unknown_flags() {
-    let mut arena = empty_arena();
-    let mut old = ring();
-    (old[0].flags, old[1].flags, old[3].flags) = (17, 128, 0xf8);
-    let mut bytes = snapshot(&old);
-    assert_eq!(refused(read_snapshot(&mut arena, &bytes)), 6);
-    for _ in 0..2 {
-        assert_eq!(clear_unknown_flags(&mut bytes), Ok(6));
-        assert!(bytes == snapshot(&ring()));
-    }
-    assert_eq!(read_snapshot(&mut arena, &bytes), Ok(6));
-    assert!(arena == arena_of(&ring()));
-    let mut empty = snapshot(&[]);
-    assert_eq!((clear_unknown_flags(&mut empty), empty), (Ok(0), snapshot(&[])));
-    assert_eq!(refused(clear_unknown_flags(&mut [])), 12);
-}
-
-/// Each is cleared or refused as plain Rust does it, and what is refused stays as it was.
-#[test]
-fn cleared_snapshots() {
-    let mut random = Random::new(4);
-    let mut met = [0; 13];
-    for at in 0..4_000 {
-        let before = to_clear(&mut random, at);
-        let (mut bytes, mut plainly) = (before.clone(), before.clone());
-        let expected = plain::snapshot::clear_unknown_flags(&mut plainly);
-        let answer = clear_unknown_flags(&mut bytes);
-        assert_eq!(answer.map_err(Refusal::number), expected.map(|count| count as u32).map_err(u32::from));
-        assert!(bytes == if answer.is_ok() { plainly } else { before });
-        met[answer.map_or_else(|refusal| refusal.number() as usize, |_| 0)] += 1;
-    }
-    assert!([0, 4, 5, 6, 7, 12].iter().all(|&number| met[number] > 10), "{met:?}");
 }
 
 /// Whatever the bytes are, each function answers, and as the check of the arena says.

@@ -52,18 +52,6 @@ static void ring(size_t length) {
     expect("no byte changed", memcmp(before, arena, sizeof arena) != 0, 0, 0);
 }
 
-static void clear(size_t length) {
-    memcpy(before, bytes, length);
-    expect("clear known flags", cadgweri_clear_unknown_flags(bytes, length), 0, 6);
-    expect("no byte changed", memcmp(before, bytes, length) != 0, 0, 0);
-    bytes[10] |= 240;
-    expect("read unknown flags", cadgweri_read_snapshot(arena, sizeof arena, bytes, length), 6, 0);
-    expect("clear a part", cadgweri_clear_unknown_flags(bytes, length - 1), 12, 0);
-    expect("refused, the flags stay", bytes[10], 0, 241);
-    expect("clear unknown flags", cadgweri_clear_unknown_flags(bytes, length), 0, 6);
-    expect("the flags alone changed", memcmp(before, bytes, length) != 0, 0, 0);
-}
-
 static void order(size_t length) {
     static const uint32_t nodes[] = {0, 1, 5, 11, 2, 3, 4, 6, 9, 10, 12, 8, 7};
     static uint8_t order[CADGWERI_ORDER_BYTES + 1];
@@ -96,7 +84,6 @@ int main(int count, char **words) {
         return EXIT_FAILURE;
     }
     ring(load(words[1], bytes, sizeof bytes));
-    clear(load(words[1], bytes, sizeof bytes));
     order(load(words[2], bytes, sizeof bytes));
     arena[0] = 255;
     expect("no graph", cadgweri_count(arena, sizeof arena), 2, 0);

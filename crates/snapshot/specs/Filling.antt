@@ -11,11 +11,8 @@ use Rattle.model.specs.Arena.{arena_bytes, count_in, decode}
 use Rattle.arena.specs.declared.Node.{Node}
 use Rattle.snapshot.specs.SnapshotReading.{nodes_read, Exact, Named}
 use Rattle.snapshot.specs.declared.record.Ids.{Ids}
-use Rattle.snapshot.specs.declared.record.Ids.TheVariants as Ids
 use Rattle.snapshot.specs.declared.record.Tail.{Tail}
-use Rattle.snapshot.specs.declared.record.Tail.TheVariants as Tail
 use Rattle.snapshot.specs.declared.record.Taken.{Taken}
-use Rattle.snapshot.specs.declared.record.Taken.TheVariants as Taken
 
 -- the numbers between the flags and the path, all of them there
 abbrev pub ids_of : List ℕ → Ids

@@ -34,11 +34,6 @@ impl Random {
         from[self.below(from.len())]
     }
 
-    /// Another generator, from what this one would draw next: its draws do not move this one's.
-    pub fn aside(&self) -> Self {
-        Self(!self.0)
-    }
-
     pub fn byte(&mut self) -> u8 {
         self.below(256) as u8
     }

@@ -16,9 +16,6 @@ pub const INERT: u8 = 1;
 pub const CULLED: u8 = 2;
 pub const HAS_SPECIALIZES: u8 = 8;
 
-/// The flag bits that mean nothing: document 02, W3, refuses them, and the rule before it did not ask.
-pub const UNKNOWN_FLAGS: u8 = 16 | 32 | 64 | 128;
-
 /// Where things stand in a record.
 pub const ARC: usize = 0;
 pub const FLAGS: usize = 1;
@@ -81,19 +78,11 @@ pub struct Accepted {
     pub shallow: bool,
     /// The prim count of each node's path.
     pub prim_counts: [u8; MAX_NODES],
-    /// Flag bits that no record may have.
-    refused_flags: u8,
 }
 
 impl Accepted {
     pub fn none() -> Self {
-        Self::refusing(UNKNOWN_FLAGS)
-    }
-
-    /// The same for other flag bits; the former rule has none.
-    pub fn refusing(refused_flags: u8) -> Self {
-        let prim_counts = [0; MAX_NODES];
-        Self { count: 0, path_bytes: 0, local_root: 0, shallow: false, prim_counts, refused_flags }
+        Self { count: 0, path_bytes: 0, local_root: 0, shallow: false, prim_counts: [0; MAX_NODES] }
     }
 
     /// Accepts one record more and answers its prim count, or the number of the first check that fails.
@@ -135,6 +124,6 @@ impl Accepted {
             ROOT => placed && record.flags() & CULLED == 0,
             arc => arc <= SPECIALIZE,
         };
-        arc && record.flags() & self.refused_flags == 0 && record.has_specs() <= 1
+        arc && record.has_specs() <= 1
     }
 }

@@ -10,7 +10,6 @@ pub mod ordered;
 pub mod orders;
 pub mod strength;
 pub mod twisted;
-pub mod unknown_flags;
 
 use crate::random::Random;
 

@@ -1,32 +1,16 @@
-//! Reading a snapshot: document 01's check 12 over all of it, then checks 4 to 7 record by record. Clearing its unknown
-//! flags, which document 02, W3, adds.
+//! Reading a snapshot: document 01's check 12 over all of it, then checks 4 to 7 record by record.
 
 use crate::layout::*;
-use crate::record::{Accepted, FIXED_BYTES, FLAGS, Record, UNKNOWN_FLAGS};
+use crate::record::{Accepted, FIXED_BYTES, Record};
 
 pub const VERSION: u8 = 1;
 
 /// Length, version and count.
 pub const HEADER: usize = 7;
 
-/// The length before each record.
-const LENGTH_BYTES: usize = 2;
-
 /// How many nodes the snapshot has, or the number of the first check that fails.
 pub fn count(bytes: &[u8]) -> Result<usize, u8> {
-    Ok(check(bytes, UNKNOWN_FLAGS)?.1.count)
-}
-
-/// Clears the unknown flags in each record of a snapshot that the former rule accepts, and answers how many nodes it has;
-/// or answers the number of the first check that fails, and the bytes are as they were.
-pub fn clear_unknown_flags(bytes: &mut [u8]) -> Result<usize, u8> {
-    let count = check(bytes, 0)?.1.count;
-    let mut at = HEADER;
-    for _ in 0..count {
-        bytes[at + LENGTH_BYTES + FLAGS] &= !UNKNOWN_FLAGS;
-        at += LENGTH_BYTES + usize::from(u16_at(bytes, at));
-    }
-    Ok(count)
+    Ok(check(bytes)?.1.count)
 }
 
 /// Fills the arena with the graph that the snapshot holds, and answers how many nodes it has; or answers the number of
@@ -35,7 +19,7 @@ pub fn read(bytes: &[u8], arena: &mut [u8]) -> Result<usize, u8> {
     if arena.len() != ARENA_BYTES {
         return Err(1);
     }
-    let (records, accepted) = check(bytes, UNKNOWN_FLAGS)?;
+    let (records, accepted) = check(bytes)?;
     put_u32(arena, COUNT, accepted.count as u32);
     arena[ORDERED..=SHALLOW].copy_from_slice(&[0, 0, accepted.shallow.into()]);
     if accepted.count > 0 {
@@ -70,10 +54,10 @@ fn append_child(arena: &mut [u8], parent: usize, child: u32) {
     put_u32(arena, parent + LAST_CHILD, child);
 }
 
-/// Makes all checks; that of kinds refuses these flag bits.
-fn check(bytes: &[u8], refused_flags: u8) -> Result<(Records<'_>, Accepted), u8> {
+/// Makes all checks.
+fn check(bytes: &[u8]) -> Result<(Records<'_>, Accepted), u8> {
     let records = records(bytes).ok_or(12)?;
-    let mut accepted = Accepted::refusing(refused_flags);
+    let mut accepted = Accepted::none();
     for record in records.clone() {
         accepted.add(record)?;
     }

@@ -1,6 +1,6 @@
-//! Lines that make graphs and look at them, and nothing else: `new`, `init`, `add`, `read`, `clear`, `write`, `dump`,
-//! `chains`, `marks`, `using`, `below`, `intro` and `swap`. Graphs are grown as in `graphs.rs`, up to 40 nodes; a few
-//! scripts go to a limit and past it.
+//! Lines that make graphs and look at them, and nothing else: `new`, `init`, `add`, `read`, `write`, `dump`, `chains`,
+//! `marks`, `using`, `below`, `intro` and `swap`. Graphs are grown as in `graphs.rs`, up to 40 nodes; a few scripts go
+//! to a limit and past it.
 
 use std::io::{self, Write};
 
@@ -8,8 +8,7 @@ use plain::random::Random;
 use plain::samples::graphs as samples;
 
 use super::graphs::{Script, Style};
-use super::reading;
-use crate::calls::Calls;
+use crate::calls::{Calls, hex};
 use crate::narrowing::{MAX_NODES, MAX_PATH_BYTES};
 use crate::sdf::Path;
 
@@ -69,9 +68,7 @@ impl Script<'_> {
     }
 
     fn read(&mut self, nodes: &[samples::Node]) -> io::Result<()> {
-        let mut lines = Vec::new();
-        reading::read(self.random, nodes, &mut lines)?;
-        String::from_utf8_lossy(&lines).lines().try_for_each(|line| self.say(line).map(drop))
+        self.say(&format!("read {}", hex(&samples::snapshot(nodes)))).map(drop)
     }
 
     fn look_or_leave(&mut self) -> io::Result<()> {

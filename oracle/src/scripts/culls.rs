@@ -10,8 +10,7 @@ use plain::samples::culls::{full, small};
 use plain::samples::graphs::Node;
 
 use super::erase_sets::another_set;
-use super::orders::add_all;
-use super::reading::read;
+use super::orders::{add_all, read};
 use crate::calls::{Answer, Calls};
 
 /// What may change but the records.
@@ -77,7 +76,7 @@ impl Script<'_> {
     fn make(&mut self, nodes: &[Node], by_reading: bool) -> io::Result<()> {
         let mut lines = Vec::new();
         if by_reading {
-            read(&self.random, nodes, &mut lines)?
+            read(nodes, &mut lines)?
         } else {
             add_all(nodes, &mut lines)?
         }

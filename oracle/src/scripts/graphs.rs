@@ -14,12 +14,8 @@ use crate::record::NO_NODE;
 use crate::sdf::Path;
 use crate::snapshot;
 use plain::random::Random;
-use plain::samples::unknown_flags::unknown_flag;
 pub use style::Style;
 use style::child_of;
-
-/// Where a snapshot has the flags of node 0.
-const FLAGS_OF_NODE_0: usize = 10;
 
 pub fn graphs(seed: u64, count: usize, out: &mut dyn Write) -> io::Result<()> {
     let mut random = Random::new(seed);
@@ -191,7 +187,6 @@ impl Script<'_> {
     pub fn read_back(&mut self) -> io::Result<()> {
         self.say("write")?;
         let bytes = self.copy();
-        self.clear(&bytes)?;
         self.say(&format!("read {}", hex(&bytes)))?;
         self.say_all(&["marks", "dump", "chains"])
     }
@@ -207,17 +202,6 @@ impl Script<'_> {
             damage::change_bytes(self.random, &mut bytes);
         }
         bytes
-    }
-
-    /// Now and then a `clear` line: of these bytes, with an unknown flag of node 0. No other line depends on it.
-    fn clear(&mut self, bytes: &[u8]) -> io::Result<()> {
-        let mut aside = self.random.aside();
-        if !aside.one_in(4) {
-            return Ok(());
-        }
-        let mut bytes = bytes.to_vec();
-        bytes.iter_mut().skip(FLAGS_OF_NODE_0).take(1).for_each(|flags| *flags |= unknown_flag(&mut aside));
-        self.say(&format!("clear {}", hex(&bytes))).map(drop)
     }
 
     /// Reads a snapshot filled up to a limit or just past it, then again the one that it was made from.

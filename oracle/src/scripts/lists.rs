@@ -11,7 +11,6 @@ use plain::samples::{culls, orders};
 
 use super::erase_sets::another_set;
 use super::graphs::{Script, Style};
-use super::reading::now_and_then_flagged;
 use crate::calls::{Answer, Calls, hex};
 
 /// All that a graph shows.
@@ -135,7 +134,6 @@ impl List<'_> {
 
     fn read_sample(&mut self) -> io::Result<()> {
         let nodes = sample(self.script.random);
-        let nodes = now_and_then_flagged(self.script.random, &nodes).unwrap_or(nodes);
         self.read(&graphs::snapshot(&nodes))
     }
 

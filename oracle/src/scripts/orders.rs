@@ -5,10 +5,10 @@ use std::io::{self, Write};
 use plain::layout::MAX_NODES;
 use plain::random::Random;
 use plain::record::CULLED;
-use plain::samples::graphs::Node;
+use plain::samples::graphs::{Node, snapshot};
 use plain::samples::orders::{full, large, resequenced, settled, small};
 
-use super::reading::read;
+use crate::calls::hex;
 
 /// All that a graph shows, before and after.
 const ORDER: &str = "write\norder\nchains\nlist\nmarks\nwrite";
@@ -33,8 +33,7 @@ pub fn orders_large(seed: u64, count: usize, out: &mut dyn Write) -> io::Result<
         let nodes = large(&mut random, 200);
         order(&mut random, &nodes, out)?;
         if at % 10 == 9 {
-            let nodes = full(&mut random, MAX_NODES);
-            read(&random, &nodes, out)?;
+            read(&full(&mut random, MAX_NODES), out)?;
             writeln!(out, "{ORDER}")?;
         }
     }
@@ -69,7 +68,7 @@ fn order(random: &mut Random, nodes: &[Node], out: &mut dyn Write) -> io::Result
     if random.one_in(4) {
         add_all(nodes, out)?
     } else {
-        read(random, nodes, out)?
+        read(nodes, out)?
     }
     writeln!(out, "{ORDER}")?;
     if random.one_in(8) {
@@ -82,6 +81,11 @@ fn order(random: &mut Random, nodes: &[Node], out: &mut dyn Write) -> io::Result
         writeln!(out, "chains\nlist\nmarks\n{ORDER}")?;
     }
     Ok(())
+}
+
+/// The line that reads these nodes.
+pub fn read(nodes: &[Node], out: &mut dyn Write) -> io::Result<()> {
+    writeln!(out, "read {}", hex(&snapshot(nodes)))
 }
 
 /// The lines that add them. Node 0 is started with its site; its other fields are as starting has them.

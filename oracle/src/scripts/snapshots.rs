@@ -7,7 +7,6 @@ use plain::random::Random;
 use plain::samples::damaged_snapshots::damaged;
 use plain::samples::graphs::{crowded, nodes, snapshot};
 
-use super::reading::now_and_then_flagged;
 use crate::calls::hex;
 
 pub fn snapshots(seed: u64, count: usize, out: &mut dyn Write) -> io::Result<()> {
@@ -15,7 +14,6 @@ pub fn snapshots(seed: u64, count: usize, out: &mut dyn Write) -> io::Result<()>
     for at in 0..count {
         let size = random.below(9);
         let whole = nodes(&mut random, size);
-        let whole = now_and_then_flagged(&random, &whole).unwrap_or(whole);
         let other = damaged(&mut random, &whole);
         writeln!(out, "read {}\nread {}\nwrite", hex(&snapshot(&whole)), hex(&other))?;
         if at % 100 == 50 {

@@ -4,10 +4,10 @@
 use std::io::{self, Write};
 
 use plain::random::Random;
-use plain::samples::graphs::Node;
+use plain::samples::graphs::{Node, snapshot};
 use plain::samples::strength::{large, small};
 
-use super::reading::read;
+use crate::calls::hex;
 
 /// `compare` lines on each large graph.
 const LARGE_PAIRS: usize = 2_000;
@@ -19,7 +19,7 @@ pub fn strength(seed: u64, count: usize, out: &mut dyn Write) -> io::Result<()> 
         if random.one_in(50) {
             writeln!(out, "new\n{} 0 0\ncompares", random.pick(&["compare", "sibling"]))?;
         }
-        read(&random, &nodes, out)?;
+        read(&nodes, out)?;
         for _ in 0..2 {
             pair(&mut random, "compare", nodes.len(), out)?;
             pair(&mut random, "sibling", nodes.len(), out)?;
@@ -35,7 +35,7 @@ pub fn strength_large(seed: u64, count: usize, out: &mut dyn Write) -> io::Resul
     let mut random = Random::new(seed);
     for _ in 0..count {
         let nodes = large(&mut random);
-        read(&random, &nodes, out)?;
+        read(&nodes, out)?;
         for _ in 0..LARGE_PAIRS {
             writeln!(out, "compare {} {}", random.below(nodes.len()), random.below(nodes.len()))?;
         }
@@ -55,7 +55,7 @@ pub fn relations(seed: u64, count: usize, out: &mut dyn Write) -> io::Result<()>
             writeln!(out, "new\n{} 0", random.pick(&OF_ONE))?;
             pair(&mut random, "site", 1, out)?;
         }
-        read(&random, &nodes, out)?;
+        read(&nodes, out)?;
         for node in 0..=nodes.len() {
             OF_ONE.iter().try_for_each(|word| writeln!(out, "{word} {node}"))?;
         }
@@ -71,6 +71,10 @@ pub fn relations(seed: u64, count: usize, out: &mut dyn Write) -> io::Result<()>
 pub fn strength_graphs(seed: u64, count: usize) -> impl Iterator<Item = Vec<Node>> {
     let mut random = Random::new(seed);
     (0..count).map(move |_| small(&mut random))
+}
+
+fn read(nodes: &[Node], out: &mut dyn Write) -> io::Result<()> {
+    writeln!(out, "read {}", hex(&snapshot(nodes)))
 }
 
 /// A line on two nodes: now and then on one node twice, on node 0, or on a number that is no node's.

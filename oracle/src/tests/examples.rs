@@ -157,7 +157,7 @@ fn the_empty_snapshot() {
 #[test]
 fn snapshots_are_read_as_they_were_written() {
     let mut calls = Calls::default();
-    let script = "init 1 2 /M\nadd - 0 9 1 2 - - 0 0 0 1 /M\nadd 1 6 12 4294967295 3 0 65535 4 5 6 0 /A{v=x}\norder";
+    let script = "init 1 2 /M\nadd - 0 9 1 2 - - 0 0 0 1 /M\nadd 1 6 248 4294967295 3 0 65535 4 5 6 0 /A{v=x}\norder";
     script.lines().for_each(|line| drop(calls.answer(line.as_bytes())));
     let (dump, written) = (calls.answer(b"dump").text(), calls.answer(b"write").text());
     assert_eq!(calls.answer(format!("read {written}").as_bytes()).text(), "3");
@@ -186,7 +186,7 @@ fn record_0() {
     let none = u32::MAX;
     let cases = [
         (one_record(0, 1, none, none, 1, "/"), "1"),
-        (one_record(0, 13, none, none, 0, "/A"), "1"),
+        (one_record(0, 253, none, none, 0, "/A"), "1"),
         (one_record(7, 1, none, none, 1, "/"), "refused 4"),
         (one_record(1, 1, none, none, 1, "//"), "refused 4"),
         (one_record(0, 0, none, none, 1, "/"), "refused 4"),
@@ -200,7 +200,7 @@ fn record_0() {
         assert_eq!(answers(line), [*expected], "{line}");
     }
     let free = format!("{}\ndump", cases[1].0);
-    assert_eq!(answers(&free)[1], "0,13,0,0,-,-,65534,1,2,3,0,/A");
+    assert_eq!(answers(&free)[1], "0,253,0,0,-,-,65534,1,2,3,0,/A");
 }
 
 #[test]

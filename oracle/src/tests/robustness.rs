@@ -45,12 +45,12 @@ fn random_bytes() {
 
 #[test]
 fn random_words() {
-    const WORDS: [&str; 60] = [
+    const WORDS: [&str; 59] = [
         "mark", "spec", "specs", "restrict", "due", "introduced", "ancestor", "site", "propagated", "copy", "class",
-        "path", "back", "join", "new", "init", "add", "read", "clear", "write", "dump", "chains", "marks", "compare",
-        "sibling", "compares", "order", "list", "cull", "erasable", "erase", "deepen", "seed", "swap", "save",
-        "restore", "using", "below", "intro", "0", "1", "2", "6", "8", "65535", "65536", "4294967295", "4294967296",
-        "-", "/", "/A", "/A{v=x}", "/A{v=x}B", "/A{v=}", "/A{v=-|}B", "//", "01", "00000003010000", "0000", "\u{e9}",
+        "path", "back", "join", "new", "init", "add", "read", "write", "dump", "chains", "marks", "compare", "sibling",
+        "compares", "order", "list", "cull", "erasable", "erase", "deepen", "seed", "swap", "save", "restore", "using",
+        "below", "intro", "0", "1", "2", "6", "8", "65535", "65536", "4294967295", "4294967296", "-", "/", "/A",
+        "/A{v=x}", "/A{v=x}B", "/A{v=}", "/A{v=-|}B", "//", "01", "00000003010000", "0000", "\u{e9}",
     ];
     let mut random = Random::new(4);
     let mut script = String::from("init 0 0 /A\n");
@@ -83,11 +83,10 @@ fn script(print: Script, seed: u64, count: usize) -> Vec<u8> {
 
 #[test]
 fn repeatable_scripts() {
-    let scripts: [(Script, usize); 10] = [
+    let scripts: [(Script, usize); 9] = [
         (scripts::graphs, 60),
         (scripts::arenas, 300),
         (scripts::snapshots, 300),
-        (scripts::clears, 300),
         (scripts::strength, 300),
         (scripts::strength_large, 2),
         (scripts::relations, 300),
@@ -105,9 +104,9 @@ fn repeatable_scripts() {
 /// Arenas and snapshots are scripts for a program that makes graphs and looks at them, and no more.
 #[test]
 fn words_of_the_arena_and_snapshot_scripts() {
-    const WORDS: [&[u8]; 14] = [
-        b"", b"new", b"init", b"add", b"read", b"clear", b"write", b"dump", b"chains", b"marks", b"using", b"below",
-        b"intro", b"swap",
+    const WORDS: [&[u8]; 13] = [
+        b"", b"new", b"init", b"add", b"read", b"write", b"dump", b"chains", b"marks", b"using", b"below", b"intro",
+        b"swap",
     ];
     let printed = [script(scripts::arenas, 9, 600), script(scripts::snapshots, 9, 100)].concat();
     for line in printed.split(|&byte| byte == b'\n') {

@@ -138,11 +138,10 @@ fn counting() {
 /// A third of the graphs, snapshots and lists of each script.
 #[test]
 fn scripts_with_such_paths() {
-    let scripts: [(Script, usize, &[&str]); 13] = [
+    let scripts: [(Script, usize, &[&str]); 12] = [
         (scripts::graphs, 200, &["new"]),
         (scripts::arenas, 500, &["new"]),
         (scripts::snapshots, 2_000, &["read"]),
-        (scripts::clears, 1_000, &["read"]),
         (scripts::strength, 2_000, &["read"]),
         (scripts::strength_large, 20, &["read"]),
         (scripts::relations, 2_000, &["read"]),

@@ -1,4 +1,4 @@
-//! The oracle's reading and clearing of snapshots against the plain ones, which are written apart from it.
+//! The oracle's reading of snapshots against the plain one, which is written apart from it.
 
 use std::io::Cursor;
 
@@ -7,9 +7,9 @@ use plain::random::Random;
 use plain::samples::damaged_snapshots::damaged;
 use plain::samples::graphs::{crowded, nodes, snapshot};
 
-use super::{answers, printed};
+use super::answers;
 use crate::calls::hex;
-use crate::{scripts, stream};
+use crate::stream;
 
 /// What the oracle answers to `read` and then to `chains` and `marks`.
 fn read_by_oracle(bytes: &[u8]) -> [String; 3] {
@@ -69,7 +69,7 @@ fn the_plain_reader_agrees_at_the_limits() {
 #[test]
 fn the_plain_reader_agrees_on_the_script() {
     let mut script = Vec::new();
-    scripts::snapshots(13, 5_000, &mut script).expect("memory takes every byte");
+    crate::scripts::snapshots(13, 5_000, &mut script).expect("memory takes every byte");
     let mut answered = Vec::new();
     stream::answer_all(&mut Cursor::new(&script), &mut answered, false).expect("memory takes every byte");
     let (script, answered) = (String::from_utf8_lossy(&script), String::from_utf8_lossy(&answered));
@@ -78,22 +78,6 @@ fn the_plain_reader_agrees_on_the_script() {
         let count = plain::snapshot::count(&bytes_of(digits));
         assert_eq!(count.map_or_else(|number| format!("refused {number}"), |count| count.to_string()), answer);
     }
-}
-
-/// So is every one cleared.
-#[test]
-fn plain_clearing_agrees_on_the_script() {
-    let script = printed(scripts::clears, 14, 5_000);
-    let answers = answers(script.trim_end());
-    let mut clears = 0;
-    for (line, answer) in script.lines().zip(&answers) {
-        let Some(digits) = line.strip_prefix("clear ") else { continue };
-        let mut bytes = bytes_of(digits);
-        let refused = plain::snapshot::clear_unknown_flags(&mut bytes).err();
-        assert_eq!(refused.map_or_else(|| hex(&bytes), |number| format!("refused {number}")), *answer);
-        clears += 1;
-    }
-    assert_eq!(clears, 10_000);
 }
 
 fn bytes_of(digits: &str) -> Vec<u8> {

@@ -21,7 +21,7 @@ fn words_and_answers() {
     let answers = answers(&script);
     assert!(!answers.iter().any(|answer| answer == "bad line"));
     let refused = |number: &u8| answers.iter().any(|answer| *answer == format!("refused {number}"));
-    assert_eq!((0..=12).filter(refused).collect::<Vec<_>>(), [3, 4, 6, 8]);
+    assert_eq!((0..=12).filter(refused).collect::<Vec<_>>(), [3, 4, 8]);
     for ordering in ["Less", "Equal", "Greater"] {
         assert!(answers.iter().filter(|answer| *answer == ordering).count() > 1_000);
     }

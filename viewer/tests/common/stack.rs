@@ -26,14 +26,8 @@ impl Graph {
 }
 
 /// The functions, each with what is called of it on a graph. What it answers does not matter here.
-const CALLS: [Call<Graph>; 8] = [
+const CALLS: [Call<Graph>; 7] = [
     ("read_snapshot", |graph| WRITTEN.with_borrow_mut(|arena| _ = read_snapshot(arena, &graph.snapshot))),
-    ("clear_unknown_flags", |graph| {
-        CLEARED.with_borrow_mut(|bytes| {
-            bytes.clone_from(&graph.snapshot);
-            _ = clear_unknown_flags(bytes);
-        });
-    }),
     ("count", |graph| _ = count(&graph.arena)),
     ("compare_node_strength", |graph| {
         graph.pairs.iter().for_each(|&(a, b)| _ = compare_node_strength(&graph.arena, a, b));
@@ -54,8 +48,6 @@ const CALLS: [Call<Graph>; 8] = [
 thread_local! {
     /// An arena to be written to.
     static WRITTEN: RefCell<Vec<u8>> = RefCell::new(empty_arena());
-    /// A snapshot to be cleared.
-    static CLEARED: RefCell<Vec<u8>> = RefCell::new(Vec::new());
 }
 
 /// The most that each function uses, on the shapes and on so many random graphs.

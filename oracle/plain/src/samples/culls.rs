@@ -53,7 +53,7 @@ impl Style {
         let culled = if self.culled > 0 && random.one_in(self.culled) { CULLED } else { 0 };
         Node {
             arc,
-            flags: inert | culled | special | random.pick(&[0, 0, 0, 0, 4, 0, 0]),
+            flags: inert | culled | special | random.pick(&[0, 0, 0, 0, 4, 16, 240]),
             stack: random.below(self.stacks) as u32,
             layer: random.below(3) as u32,
             sibling: random.pick(&[0, 0, 1, 2, 65_535]),

@@ -2,7 +2,6 @@
 
 use super::arenas::Arena;
 use super::damaged_snapshots::change_letter;
-use super::unknown_flags::unknown_flag;
 use crate::layout::*;
 use crate::random::Random;
 use crate::record::{ARC, DEPTH, FIXED_BYTES, FLAGS, HAS_SPECS, ORIGIN, PARENT, ROOT};
@@ -11,7 +10,7 @@ use crate::record::{ARC, DEPTH, FIXED_BYTES, FLAGS, HAS_SPECS, ORIGIN, PARENT, R
 type Kind = fn(&mut Arena, &mut Random);
 
 /// Each kind, by what it changes.
-pub const KINDS: [(&str, Kind); 26] = [
+pub const KINDS: [(&str, Kind); 25] = [
     ("marks", marks),
     ("any byte that is used", used_byte),
     ("any byte that is not used", unused_byte),
@@ -37,7 +36,6 @@ pub const KINDS: [(&str, Kind); 26] = [
     ("path longer by a letter", lengthen_path),
     ("letter of a path", path_letter),
     ("arc, flags, has-specs or depth", small_field),
-    ("unknown flag", set_unknown_flag),
 ];
 
 /// The kind that an empty graph can have too.
@@ -246,11 +244,6 @@ fn path_letter(arena: &mut Arena, random: &mut Random) {
     let mut path = arena.used(node)[RECORD + FIXED_BYTES..].to_vec();
     change_letter(random, &mut path);
     arena.put(slot_at(node) + RECORD + FIXED_BYTES, &path);
-}
-
-fn set_unknown_flag(arena: &mut Arena, random: &mut Random) {
-    let at = any_slot(arena, random) + RECORD + FLAGS;
-    arena.put(at, &[arena.bytes()[at] | unknown_flag(random)]);
 }
 
 fn small_field(arena: &mut Arena, random: &mut Random) {

@@ -123,7 +123,7 @@ fn make_local_root(node: &mut Node) {
 fn fields(random: &mut Random) -> Node {
     Node {
         arc: random.between(1, 6) as u8,
-        flags: random.pick(&[0, 0, 0, 1, 2, 8, 9, 12, 15]),
+        flags: random.pick(&[0, 0, 0, 1, 2, 8, 9, 252, 255]),
         stack: random.pick(&[0, 1, 2, 65_536, INVALID]),
         layer: random.pick(&[0, 1, 256, INVALID]),
         sibling: random.pick(&[0, 0, 1, 2, 65_535]),

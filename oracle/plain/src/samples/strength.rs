@@ -46,7 +46,7 @@ impl Style {
         let special = if arc == SPECIALIZE { !random.one_in(self.unflagged) } else { random.one_in(8) };
         Node {
             arc,
-            flags: random.pick(&[0, 0, 0, 1, 2, 4, 0]) | if special { HAS_SPECIALIZES } else { 0 },
+            flags: random.pick(&[0, 0, 0, 1, 2, 4, 240]) | if special { HAS_SPECIALIZES } else { 0 },
             stack: random.below(self.stacks) as u32,
             depth: random.between(0, self.deepest) as u16,
             sibling: random.pick(&[0, 0, 1, 2, 65_535]),

@@ -1,5 +1,5 @@
-//! `wellFormed`, `primCount`, `holdsGraph`, `readSnapshot`, `readFormerly` and `snapshotAfter` as crates/model/specs defines
-//! them, line by line, and as slow as that is.
+//! `well_formed`, `prim_count`, `holds_graph` and `read_snapshot` as crates/model/specs defines them, line by line, and as slow
+//! as that is.
 
 const INVALID: u64 = 4_294_967_295;
 
@@ -84,21 +84,13 @@ fn has_local_root(nodes: &[Node]) -> bool {
     nodes.iter().skip(1).any(|node| node.arc == 0)
 }
 
-/// The two rules for question 6: `fieldsAllowed` asks for known flags, the former rule does not.
-#[derive(Clone, Copy, PartialEq, Eq)]
-enum Rule {
-    Present,
-    Former,
-}
-
 /// The first question of 4 to 7 that `node` fails behind `before`; 0 where there is none.
-fn refusal(rule: Rule, before: &[Node], node: &Node) -> u64 {
+fn refusal(before: &[Node], node: &Node) -> u64 {
     let size = before.len() as u64;
     let root_record = node.arc == 0 && node.flags % 2 == 1 && node.parent == INVALID && node.origin == INVALID;
     let links = if size == 0 { root_record } else { node.parent < size && node.origin < size };
     let arc = node.arc <= 6 && (node.arc != 0 || size == 0 || (node.parent == 0 && !has_local_root(before)));
-    let fields = (rule == Rule::Former || node.flags < 16) && node.has_specs <= 1;
-    let kind = arc && !(node.arc == 0 && node.flags / 2 % 2 == 1) && fields;
+    let kind = arc && !(node.arc == 0 && node.flags / 2 % 2 == 1) && node.has_specs <= 1;
     let bytes: usize = before.iter().map(|node| node.path.len()).sum();
     let capacity = size < 1_024 && bytes + node.path.len() <= 32_768;
     let questions = [(4, links), (5, well_formed(&node.path)), (6, kind), (7, capacity)];
@@ -106,26 +98,17 @@ fn refusal(rule: Rule, before: &[Node], node: &Node) -> u64 {
 }
 
 /// The first refusal of the records, each put to those before it.
-fn records_refusal(rule: Rule, nodes: &[Node]) -> u64 {
-    let refusals = (0..nodes.len()).map(|at| refusal(rule, &nodes[..at], &nodes[at]));
+fn records_refusal(nodes: &[Node]) -> u64 {
+    let refusals = (0..nodes.len()).map(|at| refusal(&nodes[..at], &nodes[at]));
     refusals.into_iter().find(|&number| number != 0).unwrap_or(0)
 }
 
 /// The count of a snapshot, or its refusal.
 pub fn read_snapshot(bytes: &[u8]) -> Result<usize, u8> {
-    read_by(Rule::Present, bytes)
-}
-
-/// The same by the former rule.
-pub fn read_formerly(bytes: &[u8]) -> Result<usize, u8> {
-    read_by(Rule::Former, bytes)
-}
-
-fn read_by(rule: Rule, bytes: &[u8]) -> Result<usize, u8> {
     let exact = bytes.len() >= 7 && 4 + field(0, 4, bytes) == bytes.len() as u64 && field(4, 1, bytes) == 1;
     let nodes = if exact { read_records(field(5, 2, bytes), &bytes[7..]) } else { None };
     let nodes = nodes.ok_or(12)?;
-    match records_refusal(rule, &nodes) {
+    match records_refusal(&nodes) {
         0 => Ok(nodes.len()),
         number => Err(number as u8),
     }
@@ -143,27 +126,6 @@ fn read_records(count: u64, bytes: &[u8]) -> Option<Vec<Node>> {
         rest = &rest[2 + length..];
     }
     rest.is_empty().then_some(nodes)
-}
-
-fn cleared_record(bytes: &[u8]) -> Vec<u8> {
-    bytes.iter().enumerate().map(|(at, &byte)| if at == 3 { byte % 16 } else { byte }).collect()
-}
-
-fn cleared_records(count: u64, bytes: &[u8]) -> Vec<u8> {
-    if count == 0 {
-        return bytes.to_vec();
-    }
-    let length = 2 + field(0, 2, bytes) as usize;
-    let (record, rest) = bytes.split_at(length.min(bytes.len()));
-    [cleared_record(record), cleared_records(count - 1, rest)].concat()
-}
-
-/// What clearing unknown flags leaves.
-pub fn snapshot_after(bytes: &[u8]) -> Vec<u8> {
-    match read_formerly(bytes) {
-        Ok(_) => [&bytes[..7], &cleared_records(field(5, 2, bytes), &bytes[7..])].concat(),
-        Err(_) => bytes.to_vec(),
-    }
 }
 
 fn slot_at(node: u64) -> usize {
@@ -267,6 +229,6 @@ pub fn holds_graph(arena: &[u8]) -> bool {
     let nodes: Vec<Node> = (0..bytes.count()).map(|node| bytes.node(node)).collect();
     bytes.marks_right()
         && (0..bytes.count()).all(|node| bytes.node_right(&nodes, node))
-        && records_refusal(Rule::Present, &nodes) == 0
+        && records_refusal(&nodes) == 0
         && (bytes.count() == 0 || field(8, 4, arena) == local_root(&nodes))
 }

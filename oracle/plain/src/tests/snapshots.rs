@@ -6,8 +6,7 @@ use crate::layout::*;
 use crate::random::Random;
 use crate::samples::damaged_snapshots::damaged;
 use crate::samples::graphs;
-use crate::samples::unknown_flags::to_clear;
-use crate::snapshot::{clear_unknown_flags, count, read};
+use crate::snapshot::{count, read};
 
 #[test]
 fn the_empty_snapshot() {
@@ -86,49 +85,6 @@ fn damaged_snapshots() {
         assert_eq!(read(&bytes, &mut arena), counted);
         assert!(holds_graph(&arena));
     }
-}
-
-/// The bytes after clearing, and its answer.
-fn cleared(bytes: &[u8]) -> (Vec<u8>, Result<usize, u8>) {
-    let mut after = bytes.to_vec();
-    let answer = clear_unknown_flags(&mut after);
-    (after, answer)
-}
-
-#[test]
-fn unknown_flags() {
-    let empty = graphs::snapshot(&[]);
-    assert_eq!(cleared(&empty), (empty, Ok(0)));
-    assert_eq!(cleared(&[]), (vec![], Err(12)));
-    let mut nodes = example();
-    let whole = graphs::snapshot(&nodes);
-    assert_eq!(cleared(&whole), (whole.clone(), Ok(4)));
-    (nodes[0].flags, nodes[3].flags) = (0xf1, 0x80);
-    let flagged = graphs::snapshot(&nodes);
-    assert_eq!((count(&flagged), cleared(&flagged)), (Err(6), (whole, Ok(4))));
-    nodes[2].has_specs = 2;
-    let refused = graphs::snapshot(&nodes);
-    assert_eq!(cleared(&refused), (refused, Err(6)));
-}
-
-/// Each answer and every byte is as the definitions have it. What is cleared is read, and cleared again it stays.
-#[test]
-fn clearing() {
-    let mut random = Random::new(4);
-    let (mut changed, mut refused) = (0, [0; 13]);
-    for at in 0..20_000 {
-        let bytes = to_clear(&mut random, at);
-        let (after, answer) = cleared(&bytes);
-        assert_eq!(answer, definitions::read_formerly(&bytes), "{bytes:?}");
-        assert!(after == definitions::snapshot_after(&bytes), "{bytes:?}");
-        if answer.is_ok() {
-            assert_eq!(count(&after), answer);
-            assert!(cleared(&after) == (after.clone(), answer));
-        }
-        changed += usize::from(after != bytes);
-        answer.err().into_iter().for_each(|number| refused[usize::from(number)] += 1);
-    }
-    assert!(changed > 5_000 && [4, 5, 6, 7, 12].iter().all(|&number| refused[number] > 100), "{changed} {refused:?}");
 }
 
 #[test]

@@ -6,7 +6,6 @@ use super::Script;
 use crate::flags::HAS_SPECIALIZES;
 use crate::pcp::prim_graph::ArcType::{self, Root, Specialize};
 use crate::record::NO_NODE;
-use plain::samples::unknown_flags::unknown_flag;
 
 impl Script<'_> {
     pub fn add_local_root(&mut self) -> io::Result<()> {
@@ -96,15 +95,12 @@ impl Script<'_> {
         }
     }
 
-    /// Known ones, but for one node in 4,000: so one graph in 200 or so has a node that is refused.
     fn flags(&mut self, arc: ArcType) -> u8 {
         let specialize =
             if arc == Specialize { !self.random.one_in(self.style.unflagged) } else { self.random.one_in(12) };
         let inert = self.random.one_in(6) as u8;
-        let rare = self.random.pick(&[0, 0, 0, 0, 0, 0, 4, 0, 0, 0, 0, 4]);
-        let mut aside = self.random.aside();
-        let unknown = if aside.one_in(4_000) { unknown_flag(&mut aside) } else { 0 };
-        inert | rare | unknown | if specialize { HAS_SPECIALIZES } else { 0 }
+        let rare = self.random.pick(&[0, 0, 0, 0, 0, 0, 4, 16, 32, 64, 128, 244]);
+        inert | rare | if specialize { HAS_SPECIALIZES } else { 0 }
     }
 
     /// Missing, or seldom deeper than the parent's path.

@@ -95,37 +95,19 @@ fn three_fields_of_node_0_cannot_be_set_there() {
     ));
 }
 
-/// INERT, CULLED, PROHIBITED_CHILDREN and HAS_SPECIALIZES.
+/// INERT, CULLED, PROHIBITED_CHILDREN and HAS_SPECIALIZES; here the upper four bits mean nothing.
 #[test]
 fn flags_have_other_bits_there() {
     let named = [NodeFlags::INERT, NodeFlags::CULLED, NodeFlags::PROHIBITED_CHILDREN, NodeFlags::HAS_SPECIALIZES];
     assert_eq!(named, [1, 2, 32, 256].map(NodeFlags::from_bits_retain));
     check(
         "init 0 0 /A => 0
-        add 0 4 12 0 0 - - 0 0 0 1 /R => 1
+        add 0 4 252 0 0 - - 0 0 0 1 /R => 1
         using 0 /R => 1
         mark 1 2 => ok
         using 0 /R => -
-        dump => 0,1,0,0,-,-,1,0,0,0,1,/A;4,14,0,0,0,0,1,0,0,0,1,/R",
+        dump => 0,1,0,0,-,-,1,0,0,0,1,/A;4,254,0,0,0,0,1,0,0,0,1,/R",
     );
-}
-
-/// Bits that no flag has; here they are refused, and in a snapshot that was stored before they are cleared.
-#[test]
-fn any_flag_bits_may_be_added_there() {
-    let mut graph = started("/A");
-    let mut unknown = desc(ArcType::Reference);
-    unknown.flags = NodeFlags::from_bits_retain(1 << 15);
-    let node = graph.add_child(NodeId(0), unknown);
-    assert_eq!(graph.node(node).flags(), NodeFlags::from_bits_retain(1 << 15));
-    let (node_0, record) = (format!("001d0001{:016}{:f>16}{:018}2f41", 0, "", 0), format!("{:050}2f41", 0));
-    check(&format!(
-        "init 0 0 /A => 0
-        add 0 4 16 0 0 - - 0 0 0 1 /A => refused 6
-        read 00000041010002{node_0}001d0480{record} => refused 6
-        clear 00000041010002{node_0}001d0480{record} => 00000041010002{node_0}001d0400{record}
-        read 00000041010002{node_0}001d0400{record} => 2"
-    ));
 }
 
 /// Numbers that no value of the Rust's types has; only the answers here can be tested.

@@ -1,6 +1,5 @@
 -- `cull_subtrees_without_opinions` meets its contract: where questions 1 to 3 pass, every node is
 -- culled that can be. Assumes nothing.
-use borrow.Author.Rules.{rules}
 use mathlib.Core.Path.{◌≡◌, sym}
 use mathlib.Core.List.{[], ◌∷◌}
 use Rattle.model.specs.Refusals.{refusal}

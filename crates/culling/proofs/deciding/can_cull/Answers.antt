@@ -1,6 +1,5 @@
 -- `can_cull` meets its contract: the tests come in the definition's order. Assumes nothing.
 use mathlib.Core.Path.{◌≡◌, sym, ap, ◌∙◌}
-use borrow.Author.Rules.{rules}
 use Rattle.model.specs.Node.{culled_flag, has_flag, is_culled}
 use Rattle.model.specs.Graph.{node_at}
 use Rattle.model.specs.Arena.{decode}

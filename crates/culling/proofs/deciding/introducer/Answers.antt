@@ -1,7 +1,6 @@
 -- `introducer` meets its contract: origins do not rise. Assumes nothing.
 use mathlib.Core.Path.{◌≡◌, sym, ◌∙◌}
 use native.Mathlib.Omega.{arith}
-use borrow.Author.Rules.{rules}
 use Rattle.model.specs.Arena.{decode}
 use Rattle.model.specs.Culling.{introducer}
 use Rattle.culling.proofs.NodeTests.{introducer-le}

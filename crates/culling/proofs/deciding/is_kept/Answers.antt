@@ -1,7 +1,6 @@
 -- `is_kept` meets its contract: the tests come in the definition's order. Assumes nothing.
 use mathlib.Core.Path.{◌≡◌, sym, ap, ◌∙◌}
 use mathlib.Core.Bool.{false, not}
-use borrow.Author.Rules.{rules}
 use borrow.Author.Tests.{eq-eqb, ne_eqb}
 use lib.Dec.{eqb}
 use Rattle.model.specs.Node.{root_arc, inert_flag, has_flag}

@@ -2,8 +2,7 @@
 use mathlib.Core.Path.{◌≡◌, sym, ap, ◌∙◌}
 use mathlib.Core.Bool.{true, not}
 use Prim.Native.Nat.{ℕ, ◌+◌}
-use borrow.Author.Rules.{rules}
-use borrow.Author.Tests.{eq-eqb, ne_eqb, not-true, not-false}
+use borrow.Author.Tests.{eq-eqb, ne_eqb}
 use lib.Dec.{eqb}
 use Rattle.model.specs.Arena.{decode}
 use Rattle.model.specs.ArenaCalls.{ValidNode}
@@ -26,7 +25,7 @@ unfolding keeps_inherit
 returns-then-not-in_local_stack c =
     let inherit : eqb (node_at (decode c.args.arena.now).nodes c.args.n).arc inherit_arc ≡ true =
     eq-eqb _ inherit_arc (sym c.arc.ensures ∙ c.if-arc-ne-INHERIT.false) in
-    rw (inherit, sym c.in_local_stack.ensures ∙ not-true c.in_local_stack.result c.if-not-in_local_stack.true-raw)
+    rw (inherit, sym c.in_local_stack.ensures ∙ c.if-not-in_local_stack.true)
 
 pub prim_count-prims-requires : goal.prim_count-prims-requires
 prim_count-prims-requires c =
@@ -46,4 +45,4 @@ returns c =
     let prims : eqb c.prim_count-prims.result (c.depth_below.result + 1) ≡ eqb (prim_count (path_at_introduction ns (introducer ns c.args.n))) 1 =
     (λ i. eqb (c.prim_count-prims.ensures i) (c.depth_below.ensures.0 i + 1)) ∙ sym (one-prim c.args.arena.now t reads-t)
     ∙ ap (λ (k : ℕ). eqb (prim_count (path_at_introduction ns k)) 1) c.introducer-t.ensures.0 in
-    rw (inherit, sym c.in_local_stack.ensures ∙ not-false c.in_local_stack.result c.if-not-in_local_stack.false-raw) (ap not prims)
+    rw (inherit, sym c.in_local_stack.ensures ∙ c.if-not-in_local_stack.false) (ap not prims)

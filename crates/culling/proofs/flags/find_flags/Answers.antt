@@ -3,7 +3,6 @@
 use mathlib.Core.Path.{sym, ap, ◌∙◌}
 use Prim.Native.Nat.{◌-◌}
 use native.Mathlib.Omega.{arith}
-use borrow.Author.Rules.{rules}
 use lib.ListN.{length-set}
 use Rattle.laws.proofs.BigEndianLaws.{Bytes}
 use Rattle.laws.proofs.StoredLaws.{bytes-by-place}
@@ -11,7 +10,7 @@ use Rattle.model.specs.Node.{culled_flag, with_flag}
 use Rattle.arena.proofs.ReadNodes.{has-slot}
 use Rattle.view.specs.View.{ValidNodeAndRoot}
 use Rattle.view.proofs.ViewLaws.{seen}
-use Rattle.culling.proofs.DecidingLaws.{Deciding, stands, deciding-start, here-below, parent-below, step-culled, step_left, deciding-end}
+use Rattle.culling.proofs.DecidingLaws.{stands, deciding-start, here-below, parent-below, step-culled, step_left, deciding-end}
 use Rattle.culling.proofs.flags.find_flags.Goals as goal
 
 pub loop-n-init : goal.loop-n-init

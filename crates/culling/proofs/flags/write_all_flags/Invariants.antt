@@ -1,11 +1,8 @@
 -- `write_all_flags` meets its contract. The invariant of its loop: the flags of the first n nodes
 -- are stored. The measure is how many are left. Assumes nothing.
-use mathlib.Core.Path.{◌≡◌, refl, ap, ◌∙◌}
-use Prim.Native.Nat.{ℕ, suc, ◌+◌, ◌-◌, ◌≤◌}
-use native.Mathlib.Omega.{arith}
-use borrow.Author.Rules.{rules}
-use lib.ListN.{length, get_or}
-use Rattle.arena.specs.Slot.{flags_stored}
+use mathlib.Core.Path.{◌≡◌}
+use Prim.Native.Nat.{◌-◌, ◌≤◌}
+use lib.ListN.{length}
 use Rattle.culling.specs.Culled.{flags_written}
 use Rattle.culling.proofs.flags.write_all_flags.Given as goal
 

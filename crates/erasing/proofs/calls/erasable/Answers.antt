@@ -1,6 +1,5 @@
 -- `erasable` meets its contract: question 1 of the set, and where questions 1 to 3 of the arena
 -- pass, the set is written. Assumes nothing.
-use borrow.Author.Rules.{rules}
 use mathlib.Core.Path.{◌≡◌, sym}
 use Rattle.model.specs.Refusals.{refusal}
 use Rattle.model.specs.Arena.{decode}

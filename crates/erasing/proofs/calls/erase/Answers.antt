@@ -1,11 +1,9 @@
 -- `erase` meets its contract: question 1 of the set, and where questions 1 to 3 of the arena pass,
 -- question 11 is left. Assumes nothing.
-use borrow.Author.Rules.{rules}
 use mathlib.Core.Path.{◌≡◌, sym, ◌∙◌}
 use mathlib.Core.Bool.{true}
 use Prim.Native.Nat.{◌<◌}
 use lib.ListN.{length}
-use borrow.Author.Tests.{not-true, not-false}
 use Rattle.model.specs.Arena.{count_in, decode}
 use Rattle.model.specs.ArenaCalls.{ValidArena}
 use Rattle.model.specs.Erasing.{can_erase}
@@ -30,7 +28,7 @@ returns-then-not-can_erase c =
     some-node _ (sym (rw c.in-Done.is at c.ask_node_zero-asked.ensures)) in
     let large : length c.args.set.now ≡ 1024 =
     c.if-set-ne-SET_BYTES.false in
-    erase-not-accepted _ _ large has-node.0 has-node.1 (sym c.can_erase.ensures ∙ not-true _ c.if-not-can_erase.true-raw)
+    erase-not-accepted _ _ large has-node.0 has-node.1 (sym c.can_erase.ensures ∙ c.if-not-can_erase.true)
 
 pub erase-requires : goal.erase-requires
 erase-requires c =
@@ -39,7 +37,7 @@ erase-requires c =
     let large : length c.args.set.now ≡ 1024 =
     c.if-set-ne-SET_BYTES.false in
     let accepted : can_erase (decode c.args.arena.now) c.args.set.now ≡ true =
-    sym c.can_erase.ensures ∙ not-false _ c.if-not-can_erase.false-raw in record { valid_arena = has-node; set_len = (large, accepted) }
+    sym c.can_erase.ensures ∙ c.if-not-can_erase.false in record { valid_arena = has-node; set_len = (large, accepted) }
 
 pub returns-else-not-can_erase : goal.returns-else-not-can_erase
 returns-else-not-can_erase c =
@@ -48,7 +46,7 @@ returns-else-not-can_erase c =
     let large : length c.args.set.now ≡ 1024 =
     c.if-set-ne-SET_BYTES.false in
     let accepted : can_erase (decode c.args.arena.now) c.args.set.now ≡ true =
-    sym c.can_erase.ensures ∙ not-false _ c.if-not-can_erase.false-raw in
+    sym c.can_erase.ensures ∙ c.if-not-can_erase.false in
     erase-done _ _ large has-node.0 has-node.1 accepted _ _ c.erase.ensures
 
 pub returns-in-Refused : goal.returns-in-Refused

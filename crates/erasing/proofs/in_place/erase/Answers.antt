@@ -2,7 +2,6 @@
 -- nothing.
 use mathlib.Core.Path.{refl, ap, ◌∙◌}
 use native.Mathlib.Omega.{arith}
-use borrow.Author.Rules.{rules}
 use Rattle.model.specs.Erasing.{stays, new_number}
 use Rattle.arena.proofs.HeldArenas.{held}
 use Rattle.erasing.proofs.in_place.erase.Goals as goal

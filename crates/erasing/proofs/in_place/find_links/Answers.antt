@@ -2,7 +2,6 @@
 use mathlib.Core.Path.{refl, sym, subst}
 use Prim.Native.Nat.{ℕ}
 use native.Mathlib.Omega.{arith}
-use borrow.Author.Rules.{rules}
 use Rattle.model.specs.Graph.{children_of}
 use Rattle.model.specs.Arena.{decode}
 use Rattle.model.specs.Erasing.{erase}
@@ -22,8 +21,8 @@ link_lists-requires c =
     let bytes : Bytes c.args.arena.now =
     bytes-by-place c.args.arena.now (λ k. (c.type_inv.arena k).fits) in
     let ready = c.requires.number_result.0 in
-    let lists = c.gather_lists.last.1.1.1.1.0 in
-    let ends = c.gather_lists.last.1.1.1.1.1.0 in record {
+    let lists = c.gather_lists.new.lists in
+    let ends = c.gather_lists.new.ends in record {
       parted = (
         subst (Parted lists ends) (sym c.requires.number_result.1) (parted _ _ _ _ bytes ready lists ends c.gather_lists.ensures),
         omega (arith, c.requires.number_result.1, size-kept _ _ _ _ bytes ready, few _ _ _ _ bytes ready),
@@ -33,8 +32,8 @@ link_lists-requires c =
 
 pub returns : goal.returns
 returns c =
-    let filled = c.gather_lists.last.1.1.1.1.0 in
-    let ended = c.gather_lists.last.1.1.1.1.1.0 in
+    let filled = c.gather_lists.new.lists in
+    let ended = c.gather_lists.new.ends in
     record {
       lists = filled;
       ends = ended;

@@ -1,6 +1,5 @@
 -- `write_header` meets its contract: its two stores, one after the other. Assumes nothing.
 use mathlib.Core.Path.{ap, ◌∙◌}
-use borrow.Author.Rules.{rules}
 use Rattle.arena.specs.Header.{local_root_stored}
 use Rattle.erasing.proofs.in_place.write_header.Goals as goal
 

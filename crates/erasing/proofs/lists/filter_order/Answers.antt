@@ -3,11 +3,11 @@
 -- nothing.
 use native.Mathlib.Omega.{arith}
 use mathlib.Core.Path.{◌≡◌, sym, ◌∙◌}
-use Prim.Native.Nat.{◌-◌, ◌<◌}
+use Prim.Native.Nat.{◌<◌}
 use Rattle.model.specs.Arena.{count_in, ordered_in}
 use Rattle.model.specs.ArenaCalls.{ValidArena, ValidNode}
 use Rattle.arena.proofs.ReadNodes.{has-slot}
-use Rattle.erasing.proofs.KeptOrder.{Filtering, filtered-none, entry-readable, filtering-start, filtering-room, filtering-kept, filtering-gone, filtering-ends}
+use Rattle.erasing.proofs.KeptOrder.{filtered-none, entry-readable, filtering-start, filtering-room, filtering-kept, filtering-gone, filtering-ends}
 use Rattle.erasing.proofs.lists.filter_order.Goals as goal
 
 pub ordered-requires : goal.ordered-requires
@@ -98,7 +98,7 @@ overflow_cast-order c =
     sym c.ordered.ensures ∙ c.if-ordered-ne1.false in
     let below : c.loop-n.n < count_in c.args.arena.now =
     omega (arith, c.loop-n-test.true, c.requires.valid_arena.1) in
-    let room : c.loop-n.auto < 1024 =
+    let room : c.loop-n.kept < 1024 =
     omega (
       arith,
       filtering-room opened ordered c.loop-n.invariant below
@@ -116,7 +116,7 @@ offset_bounds-order-kept c =
     sym c.ordered.ensures ∙ c.if-ordered-ne1.false in
     let below : c.loop-n.n < count_in c.args.arena.now =
     omega (arith, c.loop-n-test.true, c.requires.valid_arena.1) in
-    let room : c.loop-n.auto < 1024 =
+    let room : c.loop-n.kept < 1024 =
     omega (
       arith,
       filtering-room opened ordered c.loop-n.invariant below
@@ -144,7 +144,7 @@ overflow_add-kept c =
     sym c.ordered.ensures ∙ c.if-ordered-ne1.false in
     let below : c.loop-n.n < count_in c.args.arena.now =
     omega (arith, c.loop-n-test.true, c.requires.valid_arena.1) in
-    let room : c.loop-n.auto < 1024 =
+    let room : c.loop-n.kept < 1024 =
     omega (
       arith,
       filtering-room opened ordered c.loop-n.invariant below

@@ -1,13 +1,8 @@
 -- `filter_order` meets its contract. The invariant of its loop: the entries from `n` on are left,
 -- and what is kept of the others stands up to `kept`. The measure is how many are left. Assumes
 -- nothing.
-use native.Mathlib.Omega.{arith}
-use mathlib.Core.Path.{◌≡◌, sym, ◌∙◌}
-use Prim.Native.Nat.{◌-◌, ◌<◌}
-use Rattle.model.specs.Arena.{count_in, ordered_in}
-use Rattle.model.specs.ArenaCalls.{ValidArena, ValidNode}
-use Rattle.arena.proofs.ReadNodes.{has-slot}
-use Rattle.erasing.proofs.KeptOrder.{Filtering, filtered-none, entry-readable, filtering-start, filtering-room, filtering-kept, filtering-gone, filtering-ends}
+use Prim.Native.Nat.{◌-◌}
+use Rattle.erasing.proofs.KeptOrder.{Filtering}
 use Rattle.erasing.proofs.lists.filter_order.Given as goal
 
 abbrev pub invariant-loop-n : goal.invariant-loop-n

@@ -5,7 +5,7 @@ use native.Mathlib.Omega.{arith}
 use Prim.Native.Nat.{◌<◌}
 use Rattle.model.specs.ArenaCalls.{ValidArena}
 use Rattle.arena.proofs.ReadNodes.{has-slot}
-use Rattle.erasing.proofs.KeptChildren.{left, Walking, walking_start, walking-readable, walking-room, walking-less, walking-kept, walking-gone, walking-ends}
+use Rattle.erasing.proofs.KeptChildren.{walking_start, walking-readable, walking-room, walking-less, walking-kept, walking-gone, walking-ends}
 use Rattle.erasing.proofs.lists.gather_list.Goals as goal
 
 pub first_child-child-requires : goal.first_child-child-requires

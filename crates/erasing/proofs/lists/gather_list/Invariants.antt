@@ -1,11 +1,7 @@
 -- `gather_list` meets its contract. The invariant of its loop: the children from `child` on are
 -- left, and what is kept of the others stands from `start` to `end`. The measure is how many are
 -- left. Assumes nothing.
-use native.Mathlib.Omega.{arith}
-use Prim.Native.Nat.{◌<◌}
-use Rattle.model.specs.ArenaCalls.{ValidArena}
-use Rattle.arena.proofs.ReadNodes.{has-slot}
-use Rattle.erasing.proofs.KeptChildren.{left, Walking, walking_start, walking-readable, walking-room, walking-less, walking-kept, walking-gone, walking-ends}
+use Rattle.erasing.proofs.KeptChildren.{left, Walking}
 use Rattle.erasing.proofs.lists.gather_list.Given as goal
 
 abbrev pub invariant-loop-child : goal.invariant-loop-child

@@ -2,7 +2,7 @@
 -- `n` stand up to `start`. The measure is how many nodes are left. Assumes nothing.
 use native.Mathlib.Omega.{arith}
 use mathlib.Core.Path.{◌≡◌, sym, ◌∙◌, subst}
-use Prim.Native.Nat.{ℕ, ◌+◌, ◌-◌, ◌≤◌, ◌<◌}
+use Prim.Native.Nat.{ℕ, ◌+◌, ◌≤◌, ◌<◌}
 use lib.ListN.{length, get_or}
 use Rattle.model.specs.Arena.{count_in, decode}
 use Rattle.model.specs.ArenaCalls.{ValidArena}
@@ -11,7 +11,7 @@ use Rattle.model.specs.Graph.{children_of}
 use Rattle.laws.proofs.EraseLists.{new-number-no-larger}
 use Rattle.arena.proofs.HeldArenas.{held}
 use Rattle.erasing.specs.KeptLists.{Numbers}
-use Rattle.erasing.proofs.FlatLaws.{Listing, listing_start, listing-room, listing-ended, listing-kept, listing-gone, listing-ends}
+use Rattle.erasing.proofs.FlatLaws.{listing_start, listing-room, listing-ended, listing-kept, listing-gone, listing-ends}
 use Rattle.erasing.proofs.lists.gather_lists.Goals as goal
 
 pub loop-n-init : goal.loop-n-init

@@ -2,10 +2,10 @@
 -- and `kept` of them stay. The measure is how many are left. Assumes nothing.
 use native.Mathlib.Omega.{arith}
 use mathlib.Core.Path.{sym, ◌∙◌}
-use mathlib.Core.Logic.{⊎_elim}
-use Prim.Native.Nat.{◌-◌, ◌≤◌}
-use Rattle.erasing.proofs.KeptNumbers.{Numbering, numbering_start, numbering-few, numbering-kept, numbering-gone, numbering-ends}
+use Prim.Native.Nat.{◌≤◌}
+use Rattle.erasing.proofs.KeptNumbers.{numbering_start, numbering-few, numbering-kept, numbering-gone, numbering-ends}
 use Rattle.erasing.proofs.lists.number.Goals as goal
+use Rattle.erasing.proofs.lists.number.Goals.{then-set-i-eq0, else-set-i-eq0}
 
 pub loop-n-init : goal.loop-n-init
 loop-n-init c =
@@ -57,10 +57,10 @@ loop-n-preserved c =
     let few : c.args.count ≤ 1024 =
     c.requires.2 in
     let here = c.loop-n-test.true in
-    ⊎_elim
-    (λ stays. numbering-kept c.loop-n.invariant here few stays.0.taken stays.1)
-    (λ goes. numbering-gone c.loop-n.invariant here few goes.0.left goes.1)
-    c.if-set-i-eq0.branch
+    elim c.if-set-i-eq0.branch [
+      | then-set-i-eq0 w ↦ numbering-kept c.loop-n.invariant here few w.if-set-i-eq0.true w.kept-is
+      | else-set-i-eq0 w ↦ numbering-gone c.loop-n.invariant here few w.if-set-i-eq0.false w.kept-is
+    ]
 
 pub shape_of-numbers : goal.shape_of-numbers
 shape_of-numbers c =

@@ -1,10 +1,7 @@
 -- `number` meets its contract. The invariant of its loop: the nodes below `n` have their numbers,
 -- and `kept` of them stay. The measure is how many are left. Assumes nothing.
-use native.Mathlib.Omega.{arith}
-use mathlib.Core.Path.{sym, ◌∙◌}
-use mathlib.Core.Logic.{⊎_elim}
-use Prim.Native.Nat.{◌-◌, ◌≤◌}
-use Rattle.erasing.proofs.KeptNumbers.{Numbering, numbering_start, numbering-few, numbering-kept, numbering-gone, numbering-ends}
+use Prim.Native.Nat.{◌-◌}
+use Rattle.erasing.proofs.KeptNumbers.{Numbering}
 use Rattle.erasing.proofs.lists.number.Given as goal
 
 abbrev pub invariant-loop-n : goal.invariant-loop-n

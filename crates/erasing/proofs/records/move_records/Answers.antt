@@ -1,14 +1,11 @@
 -- `move_records` meets its contract. The invariant of its loop: the kept of the first n nodes have
 -- moved (`Moving`). The measure is how many are left. Assumes nothing.
-use mathlib.Core.Path.{◌≡◌, refl, sym, ◌∙◌}
-use Prim.Native.Nat.{◌-◌}
+use mathlib.Core.Path.{refl, sym, ◌∙◌}
 use native.Mathlib.Omega.{arith}
-use borrow.Author.Rules.{rules}
-use lib.ListN.{length}
 use Rattle.laws.proofs.BigEndianLaws.{Bytes}
 use Rattle.laws.proofs.StoredLaws.{bytes-by-place}
 use Rattle.erasing.proofs.ErasedRecords.{few-nodes}
-use Rattle.erasing.proofs.MoveLaws.{Moving, moving-path, moving-slot, moving-kept, moving-gone, moving-end}
+use Rattle.erasing.proofs.MoveLaws.{moving-path, moving-slot, moving-kept, moving-gone, moving-end}
 use Rattle.erasing.proofs.records.move_records.Goals as goal
 
 pub loop-n-init : goal.loop-n-init

@@ -1,5 +1,4 @@
 -- `renumber` meets its contract: both links by `new_link`. Assumes nothing.
-use borrow.Author.Rules.{rules}
 use Rattle.erasing.proofs.records.renumber.Goals as goal
 
 pub returns : goal.returns

@@ -1,12 +1,10 @@
 -- `can_erase` meets its contract. The invariant of its loop: the nodes below `n` pass. The measure
 -- is how many are left. Assumes nothing.
 use native.Mathlib.Omega.{arith}
-use borrow.Author.Tests.{not-true, not-false}
 use mathlib.Core.Path.{sym, ◌∙◌}
-use Prim.Native.Nat.{◌-◌, ◌≤◌}
 use Rattle.model.specs.Arena.{decode}
 use Rattle.arena.proofs.ReadNodes.{sizes}
-use Rattle.erasing.proofs.AcceptLaws.{Accepting, accepting-start, accepting-step, accepting-fails, accepting-ends}
+use Rattle.erasing.proofs.AcceptLaws.{accepting-start, accepting-step, accepting-fails, accepting-ends}
 use Rattle.erasing.proofs.sets.can_erase.Goals as goal
 
 pub count-count-requires : goal.count-count-requires
@@ -25,7 +23,7 @@ pub returns-then-not-spares_one : goal.returns-then-not-spares_one
 returns-then-not-spares_one c =
     accepting-fails _ _ c.loop-n.n
     (omega (arith, c.loop-n-test, c.count-count.ensures, sizes c.args.arena.now c.requires.valid_arena))
-    (sym c.spares_one.ensures ∙ not-true _ c.if-not-spares_one.true-raw)
+    (sym c.spares_one.ensures ∙ c.if-not-spares_one.true)
 
 pub overflow_add-n : goal.overflow_add-n
 overflow_add-n c =
@@ -38,7 +36,7 @@ loop-n-smaller c =
 pub loop-n-preserved : goal.loop-n-preserved
 loop-n-preserved c = (
   omega (arith, c.loop-n-test),
-  accepting-step (decode c.args.arena.now) c.args.set.now c.loop-n.n c.loop-n.invariant.1 (sym c.spares_one.ensures ∙ not-false _ c.if-not-spares_one.false-raw),
+  accepting-step (decode c.args.arena.now) c.args.set.now c.loop-n.n c.loop-n.invariant.1 (sym c.spares_one.ensures ∙ c.if-not-spares_one.false),
 )
 
 pub returns : goal.returns

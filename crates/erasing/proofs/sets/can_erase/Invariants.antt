@@ -1,12 +1,8 @@
 -- `can_erase` meets its contract. The invariant of its loop: the nodes below `n` pass. The measure
 -- is how many are left. Assumes nothing.
-use native.Mathlib.Omega.{arith}
-use borrow.Author.Tests.{not-true, not-false}
-use mathlib.Core.Path.{sym, ◌∙◌}
 use Prim.Native.Nat.{◌-◌, ◌≤◌}
 use Rattle.model.specs.Arena.{decode}
-use Rattle.arena.proofs.ReadNodes.{sizes}
-use Rattle.erasing.proofs.AcceptLaws.{Accepting, accepting-start, accepting-step, accepting-fails, accepting-ends}
+use Rattle.erasing.proofs.AcceptLaws.{Accepting}
 use Rattle.erasing.proofs.sets.can_erase.Given as goal
 
 abbrev pub invariant-loop-n : goal.invariant-loop-n

@@ -1,7 +1,5 @@
 -- `mark` meets its contract: each test in the definition's order. Assumes nothing.
-use borrow.Author.Rules.{rules}
 use native.Mathlib.Omega.{arith}
-use borrow.Author.Tests.{not-true, not-false}
 use mathlib.Core.Path.{◌≡◌, sym, ap, ◌∙◌}
 use mathlib.Core.Bool.{true}
 use Rattle.model.specs.Node.{culled_flag, has_flag}
@@ -26,7 +24,7 @@ returns-then-not-is_culled c =
     let reads-it : ValidNode c.args.arena.now c.args.n =
     record { opened = c.requires.0; below = omega (arith, c.if-n-count.false, c.requires.1) } in
     mark-unculled _ _ reads-it
-    (sym (c.is_culled.ensures ∙ ap (has_flag culled_flag) c.flags.ensures) ∙ not-true _ c.if-not-is_culled.true-raw)
+    (sym (c.is_culled.ensures ∙ ap (has_flag culled_flag) c.flags.ensures) ∙ c.if-not-is_culled.true)
 
 pub has_specs-requires : goal.has_specs-requires
 has_specs-requires c =
@@ -39,7 +37,7 @@ returns-then-has_specs-eq1 c =
     let reads-it : ValidNode c.args.arena.now c.args.n =
     record { opened = c.requires.0; below = omega (arith, c.if-n-count.false, c.requires.1) } in
     let culled : has_flag culled_flag (flags_in c.args.arena.now c.args.n) ≡ true =
-    sym (c.is_culled.ensures ∙ ap (has_flag culled_flag) c.flags.ensures) ∙ not-false _ c.if-not-is_culled.false-raw in
+    sym (c.is_culled.ensures ∙ ap (has_flag culled_flag) c.flags.ensures) ∙ c.if-not-is_culled.false in
     mark-specs _ _ reads-it culled (sym c.has_specs.ensures ∙ c.if-has_specs-eq1.true)
 
 pub depth_below-requires : goal.depth_below-requires
@@ -53,7 +51,7 @@ returns-then-depth_below-eq0 c =
     let reads-it : ValidNode c.args.arena.now c.args.n =
     record { opened = c.requires.0; below = omega (arith, c.if-n-count.false, c.requires.1) } in
     let culled : has_flag culled_flag (flags_in c.args.arena.now c.args.n) ≡ true =
-    sym (c.is_culled.ensures ∙ ap (has_flag culled_flag) c.flags.ensures) ∙ not-false _ c.if-not-is_culled.false-raw in
+    sym (c.is_culled.ensures ∙ ap (has_flag culled_flag) c.flags.ensures) ∙ c.if-not-is_culled.false in
     mark-level _ _ reads-it culled (λ e. c.if-has_specs-eq1.false (c.has_specs.ensures ∙ e))
     (sym c.depth_below.ensures.0 ∙ c.if-depth_below-eq0.true)
 
@@ -62,6 +60,6 @@ returns c =
     let reads-it : ValidNode c.args.arena.now c.args.n =
     record { opened = c.requires.0; below = omega (arith, c.if-n-count.false, c.requires.1) } in
     let culled : has_flag culled_flag (flags_in c.args.arena.now c.args.n) ≡ true =
-    sym (c.is_culled.ensures ∙ ap (has_flag culled_flag) c.flags.ensures) ∙ not-false _ c.if-not-is_culled.false-raw in
+    sym (c.is_culled.ensures ∙ ap (has_flag culled_flag) c.flags.ensures) ∙ c.if-not-is_culled.false in
     mark_set _ _ reads-it culled (λ e. c.if-has_specs-eq1.false (c.has_specs.ensures ∙ e))
     (λ e. c.if-depth_below-eq0.false (c.depth_below.ensures.0 ∙ e))

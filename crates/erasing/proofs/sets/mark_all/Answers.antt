@@ -2,9 +2,6 @@
 -- measure is how many are left. Assumes nothing.
 use native.Mathlib.Omega.{arith}
 use mathlib.Core.Path.{◌≡◌, sym, ◌∙◌}
-use Prim.Native.Nat.{◌-◌, ◌≤◌}
-use Rattle.model.specs.Arena.{decode}
-use Rattle.erasing.specs.MarkedSet.{MarkedBelow}
 use Rattle.erasing.proofs.MarkLaws.{marked_start, marked_step}
 use Rattle.erasing.proofs.sets.mark_all.Goals as goal
 

@@ -1,11 +1,8 @@
 -- `mark_all` meets its contract. The invariant of its loop: the bytes below `n` are marked. The
 -- measure is how many are left. Assumes nothing.
-use native.Mathlib.Omega.{arith}
-use mathlib.Core.Path.{◌≡◌, sym, ◌∙◌}
 use Prim.Native.Nat.{◌-◌, ◌≤◌}
 use Rattle.model.specs.Arena.{decode}
 use Rattle.erasing.specs.MarkedSet.{MarkedBelow}
-use Rattle.erasing.proofs.MarkLaws.{marked_start, marked_step}
 use Rattle.erasing.proofs.sets.mark_all.Given as goal
 
 abbrev pub invariant-loop-n : goal.invariant-loop-n

@@ -1,5 +1,4 @@
 -- `spares_one` meets its contract: a node that stays, then one that goes. Assumes nothing.
-use borrow.Author.Rules.{rules}
 use native.Mathlib.Omega.{arith}
 use Rattle.model.specs.Arena.{decode}
 use Rattle.arena.proofs.ReadNodes.{has-slot}

@@ -1,12 +1,13 @@
 -- `unmark_reachable` meets its contract. The invariant of its loop: the nodes from `n` on have
 -- spared their links. The measure is `n`. Assumes nothing.
 use native.Mathlib.Omega.{arith}
-use mathlib.Core.Path.{◌≡◌, sym, ◌∙◌}
-use Prim.Native.Nat.{◌-◌, ◌≤◌, ◌<◌}
+use mathlib.Core.Path.{◌≡◌, sym, subst, ◌∙◌}
+use mathlib.Core.List.{List}
+use Prim.Native.Nat.{ℕ, ◌-◌, ◌≤◌, ◌<◌}
 use lib.ListN.{length-set}
 use Rattle.model.specs.Graph.{size}
 use Rattle.model.specs.Arena.{decode}
-use Rattle.model.specs.ArenaCalls.{ValidNode}
+use Rattle.model.specs.ArenaCalls.{ValidArena, ValidNode}
 use Rattle.arena.proofs.HeldArenas.{held}
 use Rattle.arena.proofs.ReadNodes.{sizes, has-slot}
 use Rattle.view.proofs.ViewLaws.{readable-parent, readable-origin}
@@ -14,14 +15,16 @@ use Rattle.erasing.proofs.SpareLaws.{Sparing, sparing-start, sparing-kept, spari
 use Rattle.erasing.proofs.sets.unmark_reachable.Goals as goal
 
 -- the nodes have bytes in a set
-fits : (s : tie.Start invariant-loop decreases-loop) → size (decode s.args.arena.now) ≤ 1024
-fits s = let o = s.requires.0.0 in omega (arith, sizes s.args.arena.now o, (held s.args.arena.now o.holds).few)
+fits : (bs : List ℕ) → ValidArena bs → size (decode bs) ≤ 1024
+fits bs opened = omega (arith, sizes bs opened, (held bs opened.holds).few)
 
--- TODO loop-holds
--- loop-holds c =
---     let s = c.before.before in
---     let all : s.args.count ≡ size (decode s.args.arena.now) = s.requires.0.1 ∙ sym (sizes s.args.arena.now s.requires.0.0) in
---     (omega arith, rw all (sparing-start (decode s.args.arena.now) (fits s) s.args.set.now s.requires.1))
+pub loop-n-init : goal.loop-n-init
+loop-n-init c =
+    let bs = c.args.arena.now in
+    let opened = c.requires.valid_arena.0 in
+    let all : size (decode bs) ≡ c.args.count = sizes bs opened ∙ sym c.requires.valid_arena.1 in
+    let start = sparing-start (decode bs) (fits bs opened) c.args.set.now c.requires.marked_below in
+    (omega arith, subst (λ (n : ℕ). Sparing (decode bs).nodes n c.args.set.now) all start)
 
 pub overflow_sub-n : goal.overflow_sub-n
 overflow_sub-n c =
@@ -129,7 +132,6 @@ pub shape_of-set : goal.shape_of-set
 shape_of-set c =
     c.loop-n.invariant.1.long ∙ sym c.requires.marked_below.long
 
--- TODO returns
--- returns c =
---     let l = c.before.loop in
---     sparing-ends _ (fits c.before.before.before.before) l.n l.set l.invariant.1 c.loop-test.false
+pub returns : goal.returns
+returns c =
+    sparing-ends _ (fits c.args.arena.now c.requires.valid_arena.0) c.loop-n.n c.loop-n.set c.loop-n.invariant.1 c.loop-n-test.false

@@ -1,5 +1,4 @@
 -- `add_child` meets its contract: the questions in their order, and then the node. Assumes nothing.
-use borrow.Author.Rules.{rules}
 use mathlib.Core.Path.{◌≡◌, refl, sym, ap, ◌∙◌}
 use Prim.Native.Nat.{◌<◌}
 use native.Mathlib.Omega.{arith}
@@ -35,13 +34,12 @@ added_record-node-requires c =
     some-node _ (sym (rw c.in-Done.is at c.ask_node_zero-asked.ensures)) in
     let passes : refusal (add_questions (decode c.args.arena.now) (desc_of c.args.desc c.args.path.now)) ≡ 0 =
     sym (rw c.in-Accepted.is at c.check_desc-checked.ensures.refused) in
-    let there = has-node in (
-      there.0,
-      (
-        parent-slot c.args.arena.now there.0 c.args.desc c.args.path.now there.1 passes,
-        short-path c.args.arena.now there.0 c.args.desc c.args.path.now there.1 passes,
-      ),
-    )
+    let there = has-node in
+    record {
+      valid_arena = there.0;
+      has_slot_in = parent-slot c.args.arena.now there.0 c.args.desc c.args.path.now there.1 passes;
+      path_length_bound = short-path c.args.arena.now there.0 c.args.desc c.args.path.now there.1 passes;
+    }
 
 pub append_node-requires : goal.append_node-requires
 append_node-requires c =

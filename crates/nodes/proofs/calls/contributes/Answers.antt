@@ -1,5 +1,4 @@
 -- `contributes` meets its contract: the tests are the definition's, in its order. Assumes nothing.
-use borrow.Author.Rules.{rules}
 use mathlib.Core.Path.{sym, ap, ◌∙◌}
 use mathlib.Core.Bool.{not}
 use Rattle.nodes.proofs.calls.contributes.Goals as goal

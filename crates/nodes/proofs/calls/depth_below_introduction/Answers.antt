@@ -1,5 +1,4 @@
 -- `depth_below_introduction` meets its contract. Assumes nothing.
-use borrow.Author.Rules.{rules}
 use mathlib.Core.Path.{sym}
 use Rattle.model.specs.ArenaCalls.{ValidNode}
 use Rattle.laws.proofs.ArenaCallLaws.{answered-refused, answered-number}

@@ -1,12 +1,8 @@
 -- `lowest` meets its contract. The loop's invariant: the lowest from `n` on is the lowest of all.
 -- The measure is what is left of the count. Assumes nothing.
-use borrow.Author.Rules.{rules}
 use native.Mathlib.Omega.{arith}
-use Prim.Native.Nat.{◌-◌, ◌≤◌}
-use mathlib.Core.Path.{◌≡◌, sym, ◌∙◌}
-use Rattle.model.specs.Arena.{decode}
-use Rattle.model.specs.Graph.{node_using_site}
-use Rattle.nodes.proofs.SiteSearch.{lowest_from, lowest-starts, lowest-steps, lowest-ends}
+use mathlib.Core.Path.{sym, ◌∙◌}
+use Rattle.nodes.proofs.SiteSearch.{lowest-starts, lowest-steps, lowest-ends}
 use Rattle.nodes.proofs.calls.lowest.Goals as goal
 
 pub loop-n-init : goal.loop-n-init

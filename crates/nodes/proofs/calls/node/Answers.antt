@@ -1,5 +1,4 @@
 -- `node` meets its contract. Assumes nothing.
-use borrow.Author.Rules.{rules}
 use mathlib.Core.Path.{sym}
 use Rattle.model.specs.ArenaCalls.{ValidNode}
 use Rattle.nodes.proofs.QueryLaws.{no_node, one-node}

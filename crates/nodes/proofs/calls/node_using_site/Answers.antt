@@ -1,6 +1,5 @@
 -- `node_using_site` meets its contract: where questions 1 to 3 pass, question 5 is left. Assumes
 -- nothing.
-use borrow.Author.Rules.{rules}
 use mathlib.Core.Path.{sym, ap, ◌∙◌}
 use mathlib.Core.List.{[], ◌∷◌}
 use Prim.Native.Nat.{◌<◌}

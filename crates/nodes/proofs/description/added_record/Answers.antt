@@ -1,5 +1,4 @@
 -- `added_record` meets its contract: what was missing is put in. Assumes nothing.
-use borrow.Author.Rules.{rules}
 use mathlib.Core.Path.{ap, ◌∙◌}
 use Rattle.model.specs.Answers.{node_option, number_option}
 use Rattle.model.specs.Calls.{given_or}

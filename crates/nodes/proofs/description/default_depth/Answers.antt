@@ -1,5 +1,4 @@
 -- `default_depth` meets its contract. Assumes nothing.
-use borrow.Author.Rules.{rules}
 use Rattle.nodes.proofs.description.default_depth.Goals as goal
 
 pub prim_count-requires : goal.prim_count-requires

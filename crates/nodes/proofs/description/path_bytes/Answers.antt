@@ -1,8 +1,7 @@
 -- `path_bytes` meets its contract. The loop's invariant: the sum and the bytes from `n` on are all
 -- of them. The measure is what is left of the count. Assumes nothing.
-use borrow.Author.Rules.{rules}
 use native.Mathlib.Omega.{arith}
-use Prim.Native.Nat.{◌+◌, ◌-◌, ◌≤◌}
+use Prim.Native.Nat.{◌+◌, ◌-◌}
 use mathlib.Core.Path.{◌≡◌}
 use Rattle.model.specs.Arena.{decode}
 use Rattle.model.specs.Refusals.{path_bytes}

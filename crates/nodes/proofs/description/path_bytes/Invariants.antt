@@ -1,14 +1,10 @@
 -- `path_bytes` meets its contract. The loop's invariant: the sum and the bytes from `n` on are all
 -- of them. The measure is what is left of the count. Assumes nothing.
-use borrow.Author.Rules.{rules}
-use native.Mathlib.Omega.{arith}
 use Prim.Native.Nat.{◌+◌, ◌-◌, ◌≤◌}
 use mathlib.Core.Path.{◌≡◌}
 use Rattle.model.specs.Arena.{decode}
 use Rattle.model.specs.Refusals.{path_bytes}
-use Rattle.model.specs.ArenaCalls.{ValidNode}
-use Rattle.arena.proofs.ReadNodes.{has-slot, has-path}
-use Rattle.nodes.proofs.DescribingLaws.{bytes_from, bytes-start, bytes-step, bytes-end, few_bytes}
+use Rattle.nodes.proofs.DescribingLaws.{bytes_from}
 use Rattle.nodes.proofs.description.path_bytes.Given as goal
 
 abbrev pub invariant-loop-n : goal.invariant-loop-n

@@ -1,5 +1,4 @@
 -- `ask` meets its contract: the buffer's size, then the questions of the arena. Assumes nothing.
-use borrow.Author.Rules.{rules}
 use borrow.Author.Tests.{eq-eqb, ne_eqb}
 use mathlib.Core.Path.{sym, ◌∙◌}
 use lib.ListN.{length}

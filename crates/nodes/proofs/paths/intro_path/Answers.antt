@@ -1,6 +1,5 @@
 -- `intro_path` meets its contract: `/` of node 0, else the front part of the parent's path. Assumes
 -- nothing.
-use borrow.Author.Rules.{rules}
 use mathlib.Core.Path.{◌≡◌, sym, ◌∙◌}
 use lib.ListN.{length}
 use Rattle.model.specs.Refusals.{refusal}

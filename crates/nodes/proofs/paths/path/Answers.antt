@@ -1,5 +1,4 @@
 -- `path` meets its contract. Assumes nothing.
-use borrow.Author.Rules.{rules}
 use mathlib.Core.Path.{◌≡◌, sym, ◌∙◌}
 use lib.ListN.{length}
 use Rattle.model.specs.Refusals.{refusal}

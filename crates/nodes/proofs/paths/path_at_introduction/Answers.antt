@@ -1,5 +1,4 @@
 -- `path_at_introduction` meets its contract: the front part of the node's path. Assumes nothing.
-use borrow.Author.Rules.{rules}
 use mathlib.Core.Path.{◌≡◌, sym, ◌∙◌}
 use lib.ListN.{length}
 use Rattle.model.specs.Refusals.{refusal}

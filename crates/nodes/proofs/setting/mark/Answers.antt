@@ -1,7 +1,6 @@
 -- `mark` meets its contract: where questions 1 to 4 and 6 pass, the flags joined are stored.
 -- Assumes nothing.
 use mathlib.Core.Path.{◌≡◌, sym, ap, ◌∙◌}
-use borrow.Author.Rules.{rules}
 use borrow.Author.Tests.{not-true, not-false}
 use Rattle.model.specs.Setting.{with_flags, may_mark}
 use Rattle.model.specs.ArenaCalls.{ValidNode}

@@ -1,6 +1,5 @@
 -- `set_has_specs` meets its contract: it is `set_first_spec` with position 0 or with none. Assumes
 -- nothing.
-use borrow.Author.Rules.{rules}
 use Rattle.model.specs.Calls.{set_has_specs}
 use Rattle.nodes.proofs.setting.set_has_specs.Goals as goal
 

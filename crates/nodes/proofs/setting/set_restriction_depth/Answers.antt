@@ -1,7 +1,6 @@
 -- `set_restriction_depth` meets its contract: where questions 1 to 4 pass, the depth is stored.
 -- Assumes nothing.
 use mathlib.Core.Path.{sym}
-use borrow.Author.Rules.{rules}
 use Rattle.model.specs.ArenaCalls.{ValidNode}
 use Rattle.laws.proofs.BigEndianLaws.{Bytes}
 use Rattle.laws.proofs.StoredLaws.{bytes-by-place}

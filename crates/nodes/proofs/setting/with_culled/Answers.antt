@@ -1,6 +1,5 @@
 -- `with_culled` meets its contract: CULLED is set where it is given. Assumes nothing.
 use mathlib.Core.Path.{sym, ◌∙◌}
-use borrow.Author.Rules.{rules}
 use borrow.Author.Tests.{not-true, not-false}
 use Rattle.nodes.proofs.setting.with_culled.Goals as goal
 

@@ -1,6 +1,5 @@
 -- `with_flags` meets its contract: the three flags one after the other. Assumes nothing.
 use mathlib.Core.Path.{ap, ◌∙◌}
-use borrow.Author.Rules.{rules}
 use Rattle.model.specs.Node.{culled_flag, prohibited_children_flag}
 use Rattle.model.specs.Setting.{with_given}
 use Rattle.nodes.proofs.setting.with_flags.Goals as goal

@@ -4,7 +4,6 @@ use mathlib.Core.Path.{◌≡◌, sym, ◌∙◌}
 use mathlib.Core.Bool.{true}
 use Prim.Native.Nat.{◌/◌, ◌%◌}
 use native.Mathlib.Omega.{arith}
-use borrow.Author.Rules.{rules}
 use borrow.Author.Tests.{eqb-false, not-true, not-false}
 use Rattle.model.specs.Node.{prohibited_children_flag, has_flag}
 use Rattle.nodes.proofs.setting.with_prohibited_children.Goals as goal

@@ -1,5 +1,4 @@
 -- `write_first_spec` meets its contract: a store for each case. Assumes nothing.
-use borrow.Author.Rules.{rules}
 use Rattle.nodes.proofs.setting.write_first_spec.Goals as goal
 
 pub returns-in-Some : goal.returns-in-Some

@@ -1,5 +1,4 @@
 -- `read_snapshot` meets its contract: question 1, and then the reader. Assumes nothing.
-use borrow.Author.Rules.{rules}
 use Rattle.snapshot.proofs.SnapshotCallLaws.{read-not-arena, read-into}
 use Rattle.snapshot.proofs.calls.read_snapshot.Goals as goal
 

@@ -1,6 +1,5 @@
 -- `write_snapshot` meets its contract: question 1 of the buffer, and where questions 1 and 2 of the
 -- arena pass, the writer. Assumes nothing.
-use borrow.Author.Rules.{rules}
 use mathlib.Core.Path.{◌≡◌, sym}
 use mathlib.Core.List.{[]}
 use Rattle.model.specs.Refusals.{refusal}
@@ -24,7 +23,7 @@ returns-in-Done c =
     let passes : refusal (ask_arena c.args.arena.now []) ≡ 0 =
     sym (rw c.in-Done.is at c.ask_graph-asked.ensures) in
     let wrote = c.write_snapshot.ensures in
-    written _ _ c.if-out-ne-SNAPSHOT_BYTES.false passes _ _ wrote.0 wrote.1
+    written _ _ c.if-out-ne-SNAPSHOT_BYTES.false passes _ _ wrote.value wrote.out_after
 
 pub returns-in-Refused : goal.returns-in-Refused
 returns-in-Refused c =

@@ -1,7 +1,6 @@
 -- `check_one` meets its contract: no field is missing from so long a record, and those that it
 -- takes are the record's. Assumes nothing.
 use mathlib.Core.Path.{sym, ap, ◌∙◌}
-use borrow.Author.Rules.{rules}
 use native.Mathlib.Omega.{arith}
 use Rattle.snapshot.specs.SnapshotReading.{byte_value, field_value}
 use Rattle.snapshot.proofs.FieldLaws.{taken, never-missing}

@@ -3,11 +3,10 @@
 use mathlib.Core.Path.{◌≡◌, sym, ap, ◌∙◌}
 use mathlib.Core.List.{List}
 use Prim.Native.Nat.{ℕ}
-use borrow.Author.Rules.{rules}
 use native.Mathlib.Omega.{arith}
 use Rattle.model.specs.Snapshot.{field}
 use Rattle.snapshot.specs.SnapshotReading.{short_value, RecordAt}
-use Rattle.snapshot.proofs.FieldLaws.{Asked, asked-none, asked-more, asked-missing, asked-all, asked-behind, length_taken}
+use Rattle.snapshot.proofs.FieldLaws.{asked-none, asked-more, asked-missing, asked-all, asked-behind, length_taken}
 use Rattle.snapshot.proofs.checks.check_record_lengths.Goals as goal
 
 pub loop-left-init : goal.loop-left-init

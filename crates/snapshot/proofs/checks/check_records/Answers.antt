@@ -1,13 +1,12 @@
 -- `check_records` meets its contract. The loop's invariant is `CheckedTo`: the records from here on
 -- are refused as all of them are. The measure is how many records are left. Assumes nothing.
 use mathlib.Core.Path.{sym, ◌∙◌}
-use Prim.Native.Nat.{◌-◌, ◌≤◌, ◌<◌}
-use borrow.Author.Rules.{rules}
+use Prim.Native.Nat.{◌≤◌, ◌<◌}
 use native.Mathlib.Omega.{arith}
 use lib.ListN.{length}
 use Rattle.snapshot.specs.SnapshotReading.{nodes_read}
 use Rattle.snapshot.proofs.SnapshotRecords.{record-here, piece-long, reached-more}
-use Rattle.snapshot.proofs.CheckLaws.{CheckedTo, checked-none, checked-all, refused-here, fits-prims, checked-more}
+use Rattle.snapshot.proofs.CheckLaws.{checked-none, checked-all, refused-here, fits-prims, checked-more}
 use Rattle.snapshot.proofs.checks.check_records.Goals as goal
 
 pub loop-n-init : goal.loop-n-init

@@ -1,13 +1,7 @@
 -- `check_records` meets its contract. The loop's invariant is `CheckedTo`: the records from here on
 -- are refused as all of them are. The measure is how many records are left. Assumes nothing.
-use mathlib.Core.Path.{sym, ◌∙◌}
-use Prim.Native.Nat.{◌-◌, ◌≤◌, ◌<◌}
-use borrow.Author.Rules.{rules}
-use native.Mathlib.Omega.{arith}
-use lib.ListN.{length}
-use Rattle.snapshot.specs.SnapshotReading.{nodes_read}
-use Rattle.snapshot.proofs.SnapshotRecords.{record-here, piece-long, reached-more}
-use Rattle.snapshot.proofs.CheckLaws.{CheckedTo, checked-none, checked-all, refused-here, fits-prims, checked-more}
+use Prim.Native.Nat.{◌-◌}
+use Rattle.snapshot.proofs.CheckLaws.{CheckedTo}
 use Rattle.snapshot.proofs.checks.check_records.Given as goal
 
 abbrev pub invariant-loop-n : goal.invariant-loop-n

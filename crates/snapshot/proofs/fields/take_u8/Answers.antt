@@ -1,6 +1,5 @@
 -- `take_u8` meets its contract: where the bytes end before the field it is missing. Assumes
 -- nothing.
-use borrow.Author.Rules.{rules}
 use native.Mathlib.Omega.{arith}
 use Rattle.snapshot.proofs.FieldLaws.{field-there, field-missing}
 use Rattle.snapshot.proofs.fields.take_u8.Goals as goal

@@ -1,7 +1,6 @@
 -- `append_record` meets its contract: no field is missing, and the node read, with the path behind
 -- its numbers, is the record's. Assumes nothing.
 use mathlib.Core.Path.{ap, subst, ◌∙◌}
-use borrow.Author.Rules.{rules}
 use Rattle.model.specs.Node.{Node}
 use Rattle.model.specs.Graph.{with_node}
 use Rattle.model.specs.Arena.{decode, encode}

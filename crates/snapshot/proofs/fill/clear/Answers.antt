@@ -1,7 +1,6 @@
 -- `clear` meets its contract: a count of 0 and no marks are the empty graph. Assumes nothing.
 use mathlib.Core.Path.{sym, ap, ◌∙◌}
 use mathlib.Core.Bool.{false}
-use borrow.Author.Rules.{rules}
 use Rattle.arena.specs.Header.{marks_stored}
 use Rattle.child_lists.proofs.EmptyArena.{empty-encode}
 use Rattle.snapshot.proofs.fill.clear.Goals as goal

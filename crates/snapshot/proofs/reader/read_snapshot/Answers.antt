@@ -1,7 +1,6 @@
 -- `read_snapshot` meets its contract: refused by either pass that asks, the arena keeps its bytes;
 -- else it is filled. Assumes nothing.
 use mathlib.Core.Path.{◌≡◌, refl, sym, ap, ◌∙◌}
-use borrow.Author.Rules.{rules}
 use Rattle.model.specs.Graph.{empty_graph}
 use Rattle.model.specs.Answers.{unit_refusal}
 use Rattle.model.specs.Calls.{read_into}

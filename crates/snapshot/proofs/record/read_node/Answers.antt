@@ -1,7 +1,6 @@
 -- `read_node` meets its contract: no field is missing from so long a record, and those taken make
 -- its node. Assumes nothing.
 use mathlib.Core.Path.{refl, sym, ap, ◌∙◌}
-use borrow.Author.Rules.{rules}
 use native.Mathlib.Omega.{arith}
 use Rattle.snapshot.specs.SnapshotReading.{byte_value}
 use Rattle.snapshot.proofs.FieldLaws.{taken, never-missing}

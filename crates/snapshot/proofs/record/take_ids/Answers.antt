@@ -1,6 +1,5 @@
 -- `take_ids` meets its contract: no field is missing from so long a record. Assumes nothing.
 use mathlib.Core.Path.{sym, ap, ◌∙◌}
-use borrow.Author.Rules.{rules}
 use native.Mathlib.Omega.{arith}
 use Rattle.snapshot.specs.SnapshotReading.{field_value}
 use Rattle.snapshot.proofs.FieldLaws.{taken, never-missing}

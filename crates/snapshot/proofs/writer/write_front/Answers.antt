@@ -1,6 +1,5 @@
 -- `write_front` meets its contract: the three stores are one. Assumes nothing.
 use mathlib.Core.Path.{◌∙◌, ap}
-use borrow.Author.Rules.{rules}
 use native.Mathlib.Omega.{arith}
 use Rattle.model.specs.Bytes.{stored}
 use Rattle.model.specs.Snapshot.{big_endian}

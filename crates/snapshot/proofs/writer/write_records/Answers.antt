@@ -1,14 +1,13 @@
 -- `write_records` meets its contract. The loop's invariant is `Copied`: the first n records stand
 -- behind the front, and end at `at`. The measure is how many nodes are left. Assumes nothing.
 use mathlib.Core.Path.{sym, ◌∙◌}
-use Prim.Native.Nat.{◌+◌, ◌-◌, ◌≤◌, ◌<◌}
-use borrow.Author.Rules.{rules}
+use Prim.Native.Nat.{◌+◌, ◌≤◌, ◌<◌}
 use native.Mathlib.Omega.{arith}
 use lib.ListN.{length}
 use Rattle.model.specs.Arena.{count_in}
 use Rattle.laws.proofs.BigEndianLaws.{Bytes}
 use Rattle.laws.proofs.StoredLaws.{bytes-by-place}
-use Rattle.snapshot.proofs.WriterLaws.{has-record, Copied, copied_none, copied_more, copied_all, copied-length, piece-fits}
+use Rattle.snapshot.proofs.WriterLaws.{has-record, copied_none, copied_more, copied_all, copied-length, piece-fits}
 use Rattle.snapshot.proofs.writer.write_records.Goals as goal
 
 pub loop-n-init : goal.loop-n-init
@@ -64,4 +63,5 @@ pub returns : goal.returns
 returns c =
     let arena-bytes : Bytes c.args.arena.now =
     bytes-by-place c.args.arena.now (λ k. (c.type_inv.arena k).fits) in
-    copied_all _ _ arena-bytes c.requires _ _ _ c.loop-n.invariant (omega (arith, c.loop-n-test.false, c.count-count.ensures))
+    let all = copied_all _ _ arena-bytes c.requires _ _ _ c.loop-n.invariant (omega (arith, c.loop-n-test.false, c.count-count.ensures)) in
+    record { value = all.0; out_after = all.1 }

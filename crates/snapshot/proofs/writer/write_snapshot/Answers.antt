@@ -1,7 +1,6 @@
 -- `write_snapshot` meets its contract: the records and the front before them are the snapshot,
 -- which fits. Assumes nothing.
 use mathlib.Core.Path.{sym, ◌∙◌}
-use borrow.Author.Rules.{rules}
 use native.Mathlib.Omega.{arith}
 use Rattle.model.specs.Arena.{decode}
 use Rattle.laws.proofs.BigEndianLaws.{Bytes}
@@ -25,4 +24,4 @@ pub returns : goal.returns
 returns c =
     let arena-bytes : Bytes c.args.arena.now =
     bytes-by-place c.args.arena.now (λ k. (c.type_inv.arena k).fits) in
-    let copied = c.write_records-end.ensures in record { value = copied.0 ∙ sym (snapshot-length (decode c.args.arena.now)); out_after = snapshot-stored _ _ arena-bytes c.requires _ _ _ _ copied.0 copied.1 c.count.ensures c.write_front.ensures }
+    let copied = c.write_records-end.ensures in record { value = copied.value ∙ sym (snapshot-length (decode c.args.arena.now)); out_after = snapshot-stored _ _ arena-bytes c.requires _ _ _ _ copied.value copied.out_after c.count.ensures c.write_front.ensures }
