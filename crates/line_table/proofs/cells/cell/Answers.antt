@@ -1,5 +1,4 @@
 -- `cell` meets its contract: a cell is 16 bits wide. Assumes nothing.
-use borrow.Author.Rules.{rules}
 use mathlib.Core.Path.{refl}
 use Prim.Native.Nat.{◌+◌, ◌*◌}
 use native.Mathlib.Omega.{arith}

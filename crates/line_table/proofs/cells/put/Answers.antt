@@ -1,5 +1,4 @@
 -- `put` meets its contract. Assumes nothing.
-use borrow.Author.Rules.{rules}
 use mathlib.Core.Path.{refl}
 use Rattle.line_table.proofs.TableCells.{store}
 use Rattle.line_table.proofs.cells.put.Goals as goal

@@ -1,5 +1,4 @@
 -- `class_depth` meets its contract: 0, or from the row that replaces the origin. Assumes nothing.
-use borrow.Author.Rules.{rules}
 use native.Mathlib.Omega.{arith}
 use Rattle.line_table.proofs.TableCells.{cell-within}
 use Rattle.line_table.proofs.TableRows.{bit-set, bit-clear, origin-lower, origin-read, authored-read, authored-class, replaced-falls, class-from-origin}

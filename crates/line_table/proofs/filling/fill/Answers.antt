@@ -1,10 +1,9 @@
 -- `fill` meets its contract. The loop's invariant: the rows below `n` are filled. The measure is
 -- how many are left. Assumes nothing.
 use mathlib.Core.Path.{sym, ◌∙◌}
-use Prim.Native.Nat.{◌-◌}
 use native.Mathlib.Omega.{arith}
 use Rattle.view.proofs.WalkLoops.{positive}
-use Rattle.line_table.proofs.TableRows.{none_filled, Tabling, tabling-start, tabling_row, tabling-step, tabling-end}
+use Rattle.line_table.proofs.TableRows.{none_filled, tabling-start, tabling_row, tabling-step, tabling-end}
 use Rattle.line_table.proofs.filling.fill.Goals as goal
 
 pub returns-then-count-eq0 : goal.returns-then-count-eq0

@@ -1,5 +1,4 @@
 -- `fill_numbers` meets its contract: cell after cell. Assumes nothing.
-use borrow.Author.Rules.{rules}
 use native.Mathlib.Omega.{arith}
 use Rattle.view.proofs.ViewLaws.{legal}
 use Rattle.line_table.specs.LineTable.{node_row}

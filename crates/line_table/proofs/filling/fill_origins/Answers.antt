@@ -1,6 +1,5 @@
 -- `fill_origins` meets its contract: cell after cell, of an authored node or from the row of its
 -- origin. Assumes nothing.
-use borrow.Author.Rules.{rules}
 use native.Mathlib.Omega.{arith}
 use Rattle.line_table.specs.LineTable.{node_row}
 use Rattle.line_table.proofs.TableCells.{next, cell-within}

@@ -1,5 +1,4 @@
 -- `fill_root` meets its contract: cell after cell. Assumes nothing.
-use borrow.Author.Rules.{rules}
 use mathlib.Core.Path.{refl}
 use native.Mathlib.Omega.{arith}
 use lib.ListN.{length-set}

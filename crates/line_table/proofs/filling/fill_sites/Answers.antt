@@ -1,6 +1,5 @@
 -- `fill_sites` meets its contract: cell after cell, of a propagated specializes or of another node.
 -- Assumes nothing.
-use borrow.Author.Rules.{rules}
 use mathlib.Core.Path.{sym, ap, ◌∙◌}
 use native.Mathlib.Omega.{arith}
 use Rattle.model.specs.Lists.{bit}
@@ -37,13 +36,13 @@ put-requires-else-is_propagated_specializes c =
 pub put-requires-else-is_propagated_specializes-2 : goal.put-requires-else-is_propagated_specializes-2
 unfolding node_row
 put-requires-else-is_propagated_specializes-2 c =
-    let told = sym c.is_propagated_specializes.ensures ∙ c.if-is_propagated_specializes.left in
+    let told = sym c.is_propagated_specializes.ensures ∙ c.if-is_propagated_specializes.false in
     next c.requires 8 (omega arith) c.put-else-is_propagated_specializes.ensures (record { same = sym (other-replaced _ _ told); fits = omega (arith, small c.requires.standing.readable) })
 
 pub put-requires-else-is_propagated_specializes-3 : goal.put-requires-else-is_propagated_specializes-3
 unfolding node_row
 put-requires-else-is_propagated_specializes-3 c =
-    let told = sym c.is_propagated_specializes.ensures ∙ c.if-is_propagated_specializes.left in
+    let told = sym c.is_propagated_specializes.ensures ∙ c.if-is_propagated_specializes.false in
     next c.requires 9 (omega arith) c.put-else-is_propagated_specializes-2.ensures
     (record {
       same = c.parent.ensures ∙ sym (other-outward _ _ told);

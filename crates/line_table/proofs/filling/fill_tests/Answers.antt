@@ -1,5 +1,4 @@
 -- `fill_tests` meets its contract: cell after cell. Assumes nothing.
-use borrow.Author.Rules.{rules}
 use mathlib.Core.Path.{ap, ◌∙◌}
 use native.Mathlib.Omega.{arith}
 use Rattle.model.specs.Lists.{bit}

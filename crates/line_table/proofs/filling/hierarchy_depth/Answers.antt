@@ -1,6 +1,5 @@
 -- `hierarchy_depth` meets its contract: the hierarchy stays at the node, or goes on from the row
 -- above or ends there. Assumes nothing.
-use borrow.Author.Rules.{rules}
 use mathlib.Core.Path.{sym, ap, ◌∙◌}
 use native.Mathlib.Omega.{arith}
 use borrow.Author.Tests.{not-true, not-false}
@@ -11,7 +10,7 @@ use Rattle.line_table.proofs.filling.hierarchy_depth.Goals as goal
 
 pub returns-then-not-is_class_based : goal.returns-then-not-is_class_based
 returns-then-not-is_class_based c =
-    hierarchy-none c.requires.filling (ap is_class_based_arc (sym c.arc.ensures) ∙ sym c.is_class_based.ensures ∙ not-true _ c.if-not-is_class_based.true-raw) c.requires.below_value.1
+    hierarchy-none c.requires.filling (ap is_class_based_arc (sym c.arc.ensures) ∙ sym c.is_class_based.ensures ∙ not-true _ c.if-not-is_class_based.true-raw) c.requires.cell
 
 pub cell-up-requires : goal.cell-up-requires
 cell-up-requires c =
@@ -32,7 +31,7 @@ pub returns-then-cell-below : goal.returns-then-cell-below
 returns-then-cell-below c =
     hierarchy-above c.requires.filling c.parent.ensures c.cell-up.ensures
     (ap is_class_based_arc (sym c.arc.ensures) ∙ sym c.is_class_based.ensures ∙ not-false _ c.if-not-is_class_based.false-raw)
-    c.requires.below_value.0 c.cell.ensures c.if-cell-below.true c.cell-then-cell-below.ensures
+    c.requires.below_value c.cell.ensures c.if-cell-below.true c.cell-then-cell-below.ensures
 
 pub cell-requires-2 : goal.cell-requires-2
 cell-requires-2 c =
@@ -43,4 +42,4 @@ pub returns : goal.returns
 returns c =
     hierarchy-starts c.requires.filling c.parent.ensures c.cell-up.ensures
     (ap is_class_based_arc (sym c.arc.ensures) ∙ sym c.is_class_based.ensures ∙ not-false _ c.if-not-is_class_based.false-raw)
-    c.requires.below_value.0 c.cell.ensures c.if-cell-below.false c.cell-2.ensures
+    c.requires.below_value c.cell.ensures c.if-cell-below.false c.cell-2.ensures

@@ -1,6 +1,5 @@
 -- `skipped_depth` meets its contract: the node is no Relocate, or its parent's row has it. Assumes
 -- nothing.
-use borrow.Author.Rules.{rules}
 use mathlib.Core.Path.{sym, ◌∙◌}
 use native.Mathlib.Omega.{arith}
 use Rattle.line_table.proofs.TableCells.{cell-within}

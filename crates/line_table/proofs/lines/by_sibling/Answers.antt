@@ -1,5 +1,4 @@
 -- `by_sibling` meets its contract. Assumes nothing.
-use borrow.Author.Rules.{rules}
 use Rattle.line_table.proofs.EntryLines.{siblings-differ, siblings-same}
 use Rattle.line_table.proofs.lines.by_sibling.Goals as goal
 

@@ -1,5 +1,4 @@
 -- `local_line` meets its contract: each test that fails makes it Equal. Assumes nothing.
-use borrow.Author.Rules.{rules}
 use mathlib.Core.Path.{sym, ◌∙◌}
 use borrow.Author.Tests.{not-true, not-false}
 use Rattle.strength.proofs.SameRootLaws.{local-authored-left, local-authored-right, not-local-left, not-local-right, both-local}

@@ -1,5 +1,4 @@
 -- `same_origin` meets its contract: one is authored, or neither is. Assumes nothing.
-use borrow.Author.Rules.{rules}
 use mathlib.Core.Path.{sym, ◌∙◌}
 use Rattle.strength.proofs.SameRootLaws.{authored-left, authored-right, neither-authored}
 use Rattle.line_table.proofs.lines.same_origin.Goals as goal

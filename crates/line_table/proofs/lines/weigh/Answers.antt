@@ -1,5 +1,4 @@
 -- `weigh` meets its contract: the ranks differ, or one of the two lists goes on. Assumes nothing.
-use borrow.Author.Rules.{rules}
 use borrow.Author.Tests.{not-true, not-false}
 use Rattle.line_table.proofs.EntryLines.{ranks-differ, left-plain, right-plain, both-special}
 use Rattle.line_table.proofs.lines.weigh.Goals as goal

@@ -1,5 +1,4 @@
 -- `weigh_origins` meets its contract: one origin, one R, or both R are asked. Assumes nothing.
-use borrow.Author.Rules.{rules}
 use Rattle.line_table.proofs.EntryLines.{one-origin-settles, one-root, roots-asked}
 use Rattle.line_table.proofs.lines.weigh_origins.Goals as goal
 

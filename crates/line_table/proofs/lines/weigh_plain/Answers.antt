@@ -1,5 +1,4 @@
 -- `weigh_plain` meets its contract: the depths differ, or the origins are asked. Assumes nothing.
-use borrow.Author.Rules.{rules}
 use Rattle.line_table.proofs.EntryLines.{depths-differ, origins-asked}
 use Rattle.line_table.proofs.lines.weigh_plain.Goals as goal
 

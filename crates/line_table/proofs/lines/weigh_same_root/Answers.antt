@@ -1,6 +1,5 @@
 -- `weigh_same_root` meets its contract: class depths, hops or the local line differ, or the origins
 -- are asked. Assumes nothing.
-use borrow.Author.Rules.{rules}
 use mathlib.Core.Path.{refl, sym, ◌∙◌}
 use Rattle.line_table.proofs.EntryLines.{class-depths-differ, hops-not-alike, local-settles, local-asks}
 use Rattle.line_table.proofs.lines.weigh_same_root.Goals as goal

@@ -1,5 +1,4 @@
 -- `weigh_specializes` meets its contract: the depth line is passed, or settles. Assumes nothing.
-use borrow.Author.Rules.{rules}
 use Rattle.line_table.proofs.EntryLines.{depths-same, nested-passed, larger-depth}
 use Rattle.line_table.proofs.lines.weigh_specializes.Goals as goal
 

@@ -1,8 +1,7 @@
 -- `mark_inward` meets its contract. The loop's invariant: each node below `m` is marked if r is met
 -- from it. The measure is how many are left. Assumes nothing.
 use mathlib.Core.Path.{◌≡◌, ◌∙◌}
-use mathlib.Core.Logic.{⊎_elim}
-use Prim.Native.Nat.{ℕ, ◌+◌, ◌*◌, ◌-◌, ◌<◌}
+use Prim.Native.Nat.{ℕ, ◌+◌, ◌*◌, ◌<◌}
 use native.Mathlib.Omega.{arith}
 use lib.Dec.{eqb}
 use lib.ListN.{length-set, get_or}
@@ -10,7 +9,8 @@ use Rattle.model.specs.Strength.{outward}
 use Rattle.laws.proofs.Views.{LegalView}
 use Rattle.view.specs.View.{view_in}
 use Rattle.view.proofs.ViewLaws.{legal}
-use Rattle.line_table.proofs.NestingLaws.{bit_byte, outward-cell, Marking, marking-start, marking-self, marking-falls, marking_step, marking-end}
+use Rattle.line_table.proofs.NestingLaws.{bit_byte, outward-cell, marking-start, marking-self, marking-falls, marking_step, marking-end}
+use Rattle.line_table.proofs.nesting.mark_inward.Goals.{then-m-r, else-m-r}
 use Rattle.line_table.proofs.nesting.mark_inward.Goals as goal
 
 pub overflow_cast-row : goal.overflow_cast-row
@@ -84,10 +84,10 @@ loop-m-preserved c =
     → get_or c.args.table.now (m * 16 + 9) 0 ≡ outward (view_in c.args.arena.now) m =
     λ m h l. outward-cell c.requires.valid_arena.1 h (omega (arith, c.requires.valid_arena.2)) in
     let here = c.loop-m-test.true in
-    ⊎_elim
-    (λ own. marking-self c.loop-m.invariant here own.0.taken own.1)
-    (λ other. marking_step c.loop-m.invariant here lawful (step _ c.loop-m.invariant.above here) other.0.left other.3)
-    c.if-m-r.branch
+    elim c.if-m-r.branch [
+      | then-m-r w ↦ marking-self c.loop-m.invariant here w.if-m-r.true w.row-is
+      | else-m-r w ↦ marking_step c.loop-m.invariant here lawful (step _ c.loop-m.invariant.above here) w.if-m-r.false w.row-is
+    ]
 
 pub shape_of-row : goal.shape_of-row
 shape_of-row c =

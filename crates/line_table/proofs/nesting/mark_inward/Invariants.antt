@@ -1,16 +1,8 @@
 -- `mark_inward` meets its contract. The loop's invariant: each node below `m` is marked if r is met
 -- from it. The measure is how many are left. Assumes nothing.
-use mathlib.Core.Path.{◌≡◌, ◌∙◌}
-use mathlib.Core.Logic.{⊎_elim}
-use Prim.Native.Nat.{ℕ, ◌+◌, ◌*◌, ◌-◌, ◌<◌}
-use native.Mathlib.Omega.{arith}
-use lib.Dec.{eqb}
-use lib.ListN.{length-set, get_or}
-use Rattle.model.specs.Strength.{outward}
-use Rattle.laws.proofs.Views.{LegalView}
+use Prim.Native.Nat.{◌-◌}
 use Rattle.view.specs.View.{view_in}
-use Rattle.view.proofs.ViewLaws.{legal}
-use Rattle.line_table.proofs.NestingLaws.{bit_byte, outward-cell, Marking, marking-start, marking-self, marking-falls, marking_step, marking-end}
+use Rattle.line_table.proofs.NestingLaws.{Marking}
 use Rattle.line_table.proofs.nesting.mark_inward.Given as goal
 
 abbrev pub invariant-loop-m : goal.invariant-loop-m

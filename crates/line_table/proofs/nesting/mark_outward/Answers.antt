@@ -3,14 +3,14 @@
 use mathlib.Core.Path.{◌≡◌, refl}
 use Prim.Native.Nat.{ℕ, ◌+◌, ◌*◌, ◌<◌}
 use native.Mathlib.Omega.{arith}
-use lib.ListN.{length, length-set, get_or}
+use lib.ListN.{length-set, get_or}
 use Rattle.model.specs.Strength.{outward}
 use Rattle.laws.proofs.StrengthWalks.{outward-lower}
 use Rattle.laws.proofs.Views.{LegalView}
 use Rattle.view.specs.View.{view_in}
 use Rattle.view.proofs.ViewLaws.{legal}
 use Rattle.view.proofs.WalkLoops.{positive}
-use Rattle.line_table.proofs.NestingLaws.{outward-cell, Outgoing, outgoing-start, outgoing-step, outgoing-end}
+use Rattle.line_table.proofs.NestingLaws.{outward-cell, outgoing-start, outgoing-step, outgoing-end}
 use Rattle.line_table.proofs.nesting.mark_outward.Goals as goal
 
 pub loop-x-init : goal.loop-x-init
