@@ -1,6 +1,6 @@
 -- Document 01, "Node and site": the graph that the nodes make, a node more, and what is asked of
 -- one node.
-use Rattle.std.specs.Prelude.{Bool, false, not, ◌||◌, ◌&&◌, cond, List, [], ◌∷◌, ◌++◌, ℕ, suc, ◌+◌, ◌-◌, eqb, ltb, length, get_or, set}
+use Rattle.std.specs.Prelude.{Bool, false, not, ◌||◌, ◌&&◌, cond, List, [], ◌∷◌, ◌++◌, ℕ, suc, ◌-◌, eqb, ltb, length, get_or, set}
 use Rattle.model.specs.Lists.{any_below}
 use Rattle.model.specs.Path.{prim_count, same_path, path_at_intro_depth, absolute_root}
 use Rattle.model.specs.Node.{invalid, root_arc, Node, no_node, is_inert, is_culled}

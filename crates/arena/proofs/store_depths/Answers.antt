@@ -1,6 +1,5 @@
 -- `store_depths` meets its contract: the four stores are one. Assumes nothing.
 use mathlib.Core.List.{[], ◌∷◌}
-use borrow.Author.Rules.{rules}
 use native.Mathlib.Omega.{arith}
 use Rattle.model.specs.Snapshot.{big_endian}
 use Rattle.arena.proofs.StoreLaws.{run-stored}

@@ -1,6 +1,5 @@
 -- `store_links` meets its contract: the three stores are one. Assumes nothing.
 use mathlib.Core.List.{[], ◌∷◌}
-use borrow.Author.Rules.{rules}
 use native.Mathlib.Omega.{arith}
 use Rattle.model.specs.Arena.{slot_at}
 use Rattle.model.specs.Snapshot.{big_endian}

@@ -1,6 +1,5 @@
 -- `read_u16` meets its contract: what the two loaded bytes join to is the field. Assumes nothing.
 use mathlib.Core.Path.{sym, ◌∙◌}
-use borrow.Author.Rules.{rules}
 use Rattle.big_endian.proofs.ByteLaws.{field-loads}
 use Rattle.big_endian.proofs.read_u16.Goals as goal
 

@@ -1,5 +1,4 @@
 -- `read_u8` meets its contract: a byte is the field of width 1. Assumes nothing.
-use borrow.Author.Rules.{rules}
 use native.Mathlib.Omega.{arith}
 use Rattle.big_endian.proofs.ByteLaws.{field-loads}
 use Rattle.big_endian.proofs.read_u8.Goals as goal

@@ -1,6 +1,5 @@
 -- `write_u32` meets its contract: the four stored bytes are the digits of the number. Assumes
 -- nothing.
-use borrow.Author.Rules.{rules}
 use native.Mathlib.Omega.{arith}
 use lib.ListN.{length-set}
 use Rattle.big_endian.proofs.ByteLaws.{digits-stored}

@@ -1,6 +1,5 @@
 -- `write_u8` meets its contract: a byte is the one digit of itself. Assumes nothing.
 use mathlib.Core.Path.{ap, ◌∙◌}
-use borrow.Author.Rules.{rules}
 use native.Mathlib.Omega.{arith}
 use lib.ListN.{set}
 use Rattle.big_endian.proofs.ByteLaws.{digits-stored}

@@ -1,6 +1,5 @@
 -- `write_state` meets its contract: the three stores are one. Assumes nothing.
 use mathlib.Core.List.{[], ◌∷◌}
-use borrow.Author.Rules.{rules}
 use native.Mathlib.Omega.{arith}
 use Rattle.model.specs.Lists.{bit}
 use Rattle.arena.proofs.StoreLaws.{run-stored}

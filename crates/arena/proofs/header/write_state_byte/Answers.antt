@@ -2,7 +2,6 @@
 use mathlib.Core.Path.{ap, ◌∙◌}
 use mathlib.Core.List.{List}
 use Prim.Native.Nat.{ℕ}
-use borrow.Author.Rules.{rules}
 use Rattle.model.specs.Bytes.{stored}
 use Rattle.arena.proofs.StoreLaws.{bit_byte}
 use Rattle.arena.proofs.header.write_state_byte.Goals as goal

@@ -1,6 +1,5 @@
 -- `write_specs` meets its contract: the two stores are one. Assumes nothing.
 use mathlib.Core.List.{[], ◌∷◌}
-use borrow.Author.Rules.{rules}
 use native.Mathlib.Omega.{arith}
 use Rattle.model.specs.Snapshot.{big_endian}
 use Rattle.model.specs.Arena.{slot_at}

@@ -2,7 +2,6 @@
 -- nothing.
 use mathlib.Core.Path.{ap, ◌∙◌}
 use mathlib.Core.Bool.{false}
-use borrow.Author.Rules.{rules}
 use borrow.Author.Tests.{eq-eqb, ne_eqb}
 use Rattle.model.specs.Node.{root_arc}
 use Rattle.arena.specs.Header.{marks_stored, local_root_stored}

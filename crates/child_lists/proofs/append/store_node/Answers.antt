@@ -1,7 +1,6 @@
 -- `store_node` meets its contract: the links are none, and they are no part of the record. Assumes
 -- nothing.
 use mathlib.Core.Path.{◌≡◌, ap, ◌∙◌}
-use borrow.Author.Rules.{rules}
 use Rattle.model.specs.Node.{invalid}
 use Rattle.model.specs.declared.NodeId.{NodeId}
 use Rattle.arena.specs.declared.Node.{Node}

@@ -1,6 +1,5 @@
 -- `last_of` meets its contract. Assumes nothing.
 use mathlib.Core.Path.{sym, ap}
-use borrow.Author.Rules.{rules}
 use Rattle.model.specs.Arena.{last_of}
 use Rattle.child_lists.proofs.LinkLaws.{slice-done, last-of-part}
 use Rattle.child_lists.proofs.links.last_of.Goals as goal

@@ -1,14 +1,13 @@
 -- `link_list` meets its contract. The invariant of its loop: the children from `at` on are linked,
 -- and `head` is the first of them. The measure is how many are before `at`. Assumes nothing.
 use mathlib.Core.Path.{◌≡◌, ap, ◌∙◌}
-use Prim.Native.Nat.{ℕ, ◌-◌, ◌≤◌, ◌<◌}
+use Prim.Native.Nat.{ℕ, ◌-◌, ◌<◌}
 use native.Mathlib.Omega.{arith}
-use borrow.Author.Rules.{rules}
 use lib.ListN.{get_or}
 use lib.Seq.{slice}
 use Rattle.model.specs.Arena.{first_of}
 use Rattle.child_lists.specs.Links.{nexts_set}
-use Rattle.child_lists.proofs.LinkLaws.{Linking, linking-start, linking-step}
+use Rattle.child_lists.proofs.LinkLaws.{linking-start, linking-step}
 use Rattle.child_lists.proofs.links.link_list.Goals as goal
 
 pub loop-at-init : goal.loop-at-init

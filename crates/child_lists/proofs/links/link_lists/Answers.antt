@@ -2,13 +2,12 @@
 -- their links, and `start` is where the next part begins. The measure is how many parents are left.
 -- Assumes nothing.
 use mathlib.Core.Path.{◌≡◌, subst, ◌∙◌}
-use Prim.Native.Nat.{ℕ, ◌-◌, ◌≤◌}
+use Prim.Native.Nat.{ℕ}
 use native.Mathlib.Omega.{arith}
-use borrow.Author.Rules.{rules}
 use lib.ListN.{length-set}
 use Rattle.model.specs.Node.{invalid}
 use Rattle.child_lists.specs.Links.{Linked}
-use Rattle.child_lists.proofs.LinkLaws.{LinkingAll, linking-all-start, linking-all-step}
+use Rattle.child_lists.proofs.LinkLaws.{linking-all-start, linking-all-step}
 use Rattle.child_lists.proofs.links.link_lists.Goals as goal
 
 pub loop-parent-init : goal.loop-parent-init

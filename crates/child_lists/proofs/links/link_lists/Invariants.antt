@@ -1,14 +1,8 @@
 -- `link_lists` meets its contract. The invariant of its loop: the parents before `parent` have
 -- their links, and `start` is where the next part begins. The measure is how many parents are left.
 -- Assumes nothing.
-use mathlib.Core.Path.{◌≡◌, subst, ◌∙◌}
-use Prim.Native.Nat.{ℕ, ◌-◌, ◌≤◌}
-use native.Mathlib.Omega.{arith}
-use borrow.Author.Rules.{rules}
-use lib.ListN.{length-set}
-use Rattle.model.specs.Node.{invalid}
-use Rattle.child_lists.specs.Links.{Linked}
-use Rattle.child_lists.proofs.LinkLaws.{LinkingAll, linking-all-start, linking-all-step}
+use Prim.Native.Nat.{◌-◌, ◌≤◌}
+use Rattle.child_lists.proofs.LinkLaws.{LinkingAll}
 use Rattle.child_lists.proofs.links.link_lists.Given as goal
 
 abbrev pub invariant-loop-parent : goal.invariant-loop-parent

@@ -2,13 +2,12 @@
 -- leaves what storing all leaves. The measure is how many are left. Assumes nothing.
 use mathlib.Core.Path.{◌≡◌, sym, ap, ◌∙◌}
 use mathlib.Core.List.{List}
-use Prim.Native.Nat.{ℕ, ◌-◌, ◌≤◌}
+use Prim.Native.Nat.{ℕ, ◌≤◌}
 use native.Mathlib.Omega.{arith}
-use lib.ListN.{length, get_or}
+use lib.ListN.{length}
 use lib.Seq.{slice, length-take-le, get_or-take}
-use borrow.Author.Rules.{rules}
 use Rattle.model.specs.Arena.{tabulate, order_stored}
-use Rattle.arena.proofs.StoredEntries.{Storing, storing-start, storing-step, storing-end}
+use Rattle.arena.proofs.StoredEntries.{storing-start, storing-step, storing-end}
 use Rattle.arena.proofs.TabulateLaws.{tabulate-same}
 use Rattle.child_lists.proofs.links.write_entries.Invariants.{entry_of}
 use Rattle.child_lists.proofs.links.write_entries.Goals as goal

@@ -1,15 +1,9 @@
 -- `write_entries` meets its contract. The invariant of its loop: storing the entries from n on
 -- leaves what storing all leaves. The measure is how many are left. Assumes nothing.
-use mathlib.Core.Path.{◌≡◌, sym, ap, ◌∙◌}
 use mathlib.Core.List.{List}
-use Prim.Native.Nat.{ℕ, ◌-◌, ◌≤◌}
-use native.Mathlib.Omega.{arith}
-use lib.ListN.{length, get_or}
-use lib.Seq.{slice, length-take-le, get_or-take}
-use borrow.Author.Rules.{rules}
-use Rattle.model.specs.Arena.{tabulate, order_stored}
-use Rattle.arena.proofs.StoredEntries.{Storing, storing-start, storing-step, storing-end}
-use Rattle.arena.proofs.TabulateLaws.{tabulate-same}
+use Prim.Native.Nat.{ℕ, ◌-◌}
+use lib.ListN.{get_or}
+use Rattle.arena.proofs.StoredEntries.{Storing}
 use Rattle.child_lists.proofs.links.write_entries.Given as goal
 
 -- the entries, by place

@@ -2,10 +2,9 @@
 -- stored. The measure is how many are left. Assumes nothing.
 use mathlib.Core.Path.{◌≡◌, refl, ap, ◌∙◌}
 use mathlib.Core.List.{List}
-use Prim.Native.Nat.{ℕ, suc, ◌+◌, ◌-◌, ◌≤◌}
+use Prim.Native.Nat.{ℕ, suc, ◌+◌}
 use native.Mathlib.Omega.{arith}
-use borrow.Author.Rules.{rules}
-use lib.ListN.{length, get_or}
+use lib.ListN.{get_or}
 use Rattle.model.specs.declared.NodeId.{NodeId}
 use Rattle.arena.specs.Slot.{with_first_child, with_last_child, with_next_sibling, links_stored}
 use Rattle.child_lists.specs.Links.{links_written}

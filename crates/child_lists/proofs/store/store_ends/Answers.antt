@@ -1,7 +1,6 @@
 -- `storing::store_ends` meets its contract: the next sibling of the record is the one that the
 -- arena has. Assumes nothing.
 use mathlib.Core.Path.{ap, ◌∙◌}
-use borrow.Author.Rules.{rules}
 use Rattle.laws.proofs.StoredLaws.{bytes-by-place}
 use Rattle.arena.specs.Slot.{with_last_child, links_stored}
 use Rattle.child_lists.proofs.SlotStores.{ends-alone}

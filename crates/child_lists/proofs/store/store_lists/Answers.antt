@@ -2,11 +2,10 @@
 -- before `parent` are stored, and `start` is where the next part begins. The measure is how many
 -- nodes are left. Assumes nothing.
 use mathlib.Core.Path.{◌≡◌, ap, ◌∙◌}
-use Prim.Native.Nat.{ℕ, ◌-◌, ◌≤◌}
+use Prim.Native.Nat.{ℕ}
 use native.Mathlib.Omega.{arith}
-use borrow.Author.Rules.{rules}
 use Rattle.child_lists.specs.Links.{lists_stored}
-use Rattle.child_lists.proofs.StoringLaws.{StoringLists, lists-start, lists-step}
+use Rattle.child_lists.proofs.StoringLaws.{lists-start, lists-step}
 use Rattle.child_lists.proofs.store.store_lists.Goals as goal
 
 pub loop-parent-init : goal.loop-parent-init

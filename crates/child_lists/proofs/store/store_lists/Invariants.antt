@@ -1,12 +1,8 @@
 -- `storing::store_lists` meets its contract. The invariant of its loop: the lists of the nodes
 -- before `parent` are stored, and `start` is where the next part begins. The measure is how many
 -- nodes are left. Assumes nothing.
-use mathlib.Core.Path.{◌≡◌, ap, ◌∙◌}
-use Prim.Native.Nat.{ℕ, ◌-◌, ◌≤◌}
-use native.Mathlib.Omega.{arith}
-use borrow.Author.Rules.{rules}
-use Rattle.child_lists.specs.Links.{lists_stored}
-use Rattle.child_lists.proofs.StoringLaws.{StoringLists, lists-start, lists-step}
+use Prim.Native.Nat.{◌-◌, ◌≤◌}
+use Rattle.child_lists.proofs.StoringLaws.{StoringLists}
 use Rattle.child_lists.proofs.store.store_lists.Given as goal
 
 abbrev pub invariant-loop-parent : goal.invariant-loop-parent

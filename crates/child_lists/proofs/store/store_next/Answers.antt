@@ -1,7 +1,6 @@
 -- `storing::store_next` meets its contract: the other links of the record are those that the arena
 -- has. Assumes nothing.
 use mathlib.Core.Path.{◌∙◌}
-use borrow.Author.Rules.{rules}
 use Rattle.laws.proofs.StoredLaws.{bytes-by-place}
 use Rattle.arena.specs.Slot.{links_stored}
 use Rattle.child_lists.proofs.SlotStores.{next-alone}

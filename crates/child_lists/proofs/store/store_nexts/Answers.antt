@@ -2,13 +2,12 @@
 -- children from `at` on are stored, and `head` is the first of these. The measure is how many are
 -- before `at`. Assumes nothing.
 use mathlib.Core.Path.{◌≡◌, ap, ◌∙◌}
-use Prim.Native.Nat.{ℕ, ◌-◌, ◌≤◌}
+use Prim.Native.Nat.{ℕ, ◌-◌}
 use native.Mathlib.Omega.{arith}
-use borrow.Author.Rules.{rules}
 use lib.Seq.{slice}
 use Rattle.model.specs.Arena.{first_of}
 use Rattle.child_lists.specs.Links.{nexts_stored}
-use Rattle.child_lists.proofs.StoringLaws.{StoringNexts, nexts-start, nexts-step}
+use Rattle.child_lists.proofs.StoringLaws.{nexts-start, nexts-step}
 use Rattle.child_lists.proofs.store.store_nexts.Goals as goal
 
 pub loop-at-init : goal.loop-at-init

@@ -1,14 +1,8 @@
 -- `storing::store_nexts` meets its contract. The invariant of its loop: the siblings after the
 -- children from `at` on are stored, and `head` is the first of these. The measure is how many are
 -- before `at`. Assumes nothing.
-use mathlib.Core.Path.{◌≡◌, ap, ◌∙◌}
-use Prim.Native.Nat.{ℕ, ◌-◌, ◌≤◌}
-use native.Mathlib.Omega.{arith}
-use borrow.Author.Rules.{rules}
-use lib.Seq.{slice}
-use Rattle.model.specs.Arena.{first_of}
-use Rattle.child_lists.specs.Links.{nexts_stored}
-use Rattle.child_lists.proofs.StoringLaws.{StoringNexts, nexts-start, nexts-step}
+use Prim.Native.Nat.{◌-◌, ◌≤◌}
+use Rattle.child_lists.proofs.StoringLaws.{StoringNexts}
 use Rattle.child_lists.proofs.store.store_nexts.Given as goal
 
 abbrev pub invariant-loop-at : goal.invariant-loop-at

@@ -1,6 +1,5 @@
 -- `depth_valid` meets its contract: the depth is reached by the parent's prims, or marked. Assumes
 -- nothing.
-use borrow.Author.Rules.{rules}
 use mathlib.Core.Path.{sym, ap, ◌∙◌}
 use Prim.Native.Nat.{ℕ}
 use native.Mathlib.Omega.{arith}

@@ -1,10 +1,7 @@
 -- `entries_valid` meets its contract. The loop's invariant is `EntriesTo`: the first k entries are
 -- nodes, none twice, and `seen` has a 1 at each. The measure is how many are left. Assumes nothing.
-use mathlib.Core.Path.{sym, ap, subst, ◌∙◌}
-use Prim.Native.Nat.{ℕ, ◌+◌, ◌-◌}
-use native.Mathlib.Omega.{arith}
-use lib.ListN.{get_or, set}
-use Rattle.validate.proofs.EntriesLaws.{EntriesTo, entries_none, entry-no-node, entry-twice, entries-more, entries-all}
+use Prim.Native.Nat.{◌-◌}
+use Rattle.validate.proofs.EntriesLaws.{EntriesTo}
 use Rattle.validate.proofs.graph.entries_valid.Given as goal
 
 abbrev pub invariant-loop-k : goal.invariant-loop-k

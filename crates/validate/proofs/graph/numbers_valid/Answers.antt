@@ -1,6 +1,5 @@
 -- `numbers_valid` meets its contract: links, kind and room, put to the fields read. Assumes
 -- nothing.
-use borrow.Author.Rules.{rules}
 use mathlib.Core.Path.{◌≡◌, sym, ap, ◌∙◌}
 use mathlib.Core.Bool.{Bool, ◌&&◌}
 use Prim.Native.Nat.{◌+◌, ◌-◌}

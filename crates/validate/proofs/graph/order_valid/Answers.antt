@@ -1,5 +1,4 @@
 -- `order_valid` meets its contract. Assumes nothing.
-use borrow.Author.Rules.{rules}
 use mathlib.Core.Path.{sym, ◌∙◌}
 use Rattle.validate.proofs.EntriesLaws.{order-unmarked, order-marked}
 use Rattle.validate.proofs.graph.order_valid.Goals as goal

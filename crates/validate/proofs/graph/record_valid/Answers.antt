@@ -1,6 +1,5 @@
 -- `record_valid` meets its contract: the record's length, then its numbers, its depth and its path.
 -- Assumes nothing.
-use borrow.Author.Rules.{rules}
 use mathlib.Core.Path.{◌≡◌, sym, ap, ◌∙◌}
 use mathlib.Core.Bool.{true}
 use native.Mathlib.Omega.{arith}

@@ -1,14 +1,12 @@
 -- `records_valid` meets its contract. The loop's invariant is `RecordsTo`: the records below n are
 -- right, and come to so many bytes of paths and this local root. The measure is how many are left.
 -- Assumes nothing.
-use borrow.Author.Rules.{rules}
 use mathlib.Core.Path.{sym, ◌∙◌}
-use Prim.Native.Nat.{◌-◌}
 use native.Mathlib.Omega.{arith}
 use borrow.Author.Tests.{not-true, not-false}
 use Rattle.validate.specs.Validate.{before_in}
 use Rattle.validate.proofs.ArenaRecords.{ValidAfter, right-after}
-use Rattle.validate.proofs.RecordsLaws.{RecordsTo, records-none, no-root, record-fails, records-more, records-all}
+use Rattle.validate.proofs.RecordsLaws.{records-none, no-root, record-fails, records-more, records-all}
 use Rattle.validate.proofs.graph.records_valid.Goals as goal
 
 pub loop-n-init : goal.loop-n-init

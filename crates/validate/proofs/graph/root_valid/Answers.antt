@@ -1,5 +1,4 @@
 -- `root_valid` meets its contract. Assumes nothing.
-use borrow.Author.Rules.{rules}
 use borrow.Author.Tests.{eq-eqb, ne_eqb}
 use Rattle.validate.proofs.graph.root_valid.Goals as goal
 

@@ -1,5 +1,4 @@
 -- `state_valid` meets its contract: the marks are read from the header. Assumes nothing.
-use borrow.Author.Rules.{rules}
 use mathlib.Core.Path.{◌∙◌}
 use Rattle.validate.specs.Validate.{marks_at}
 use Rattle.validate.proofs.graph.state_valid.Goals as goal

@@ -1,6 +1,5 @@
 -- `ask_node_zero` meets its contract: where the arena holds a graph, question 3 is left. Assumes
 -- nothing.
-use borrow.Author.Rules.{rules}
 use mathlib.Core.Path.{sym, ◌∙◌}
 use mathlib.Core.List.{[], ◌∷◌}
 use native.Mathlib.Omega.{arith}

@@ -1,6 +1,5 @@
 -- `ask_nodes` meets its contract: where the first node passes, question 4 of the second is left.
 -- Assumes nothing.
-use borrow.Author.Rules.{rules}
 use mathlib.Core.Path.{sym, ◌∙◌}
 use Rattle.model.specs.ArenaCalls.{ValidNode}
 use Rattle.arena.proofs.ReadNodes.{readable}

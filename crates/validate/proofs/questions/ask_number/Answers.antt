@@ -1,5 +1,4 @@
 -- `ask_number` meets its contract: question 4 by the header's count. Assumes nothing.
-use borrow.Author.Rules.{rules}
 use native.Mathlib.Omega.{arith}
 use borrow.Author.Tests.{lt-ltb, le-ltb}
 use Rattle.model.specs.Arena.{count_in}

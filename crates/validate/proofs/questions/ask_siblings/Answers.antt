@@ -1,5 +1,4 @@
 -- `ask_siblings` meets its contract: where both nodes pass, question 8 is left. Assumes nothing.
-use borrow.Author.Rules.{rules}
 use mathlib.Core.Path.{sym, ◌∙◌}
 use mathlib.Core.List.{[], ◌∷◌}
 use Rattle.model.specs.Refusals.{ask}

@@ -1,5 +1,4 @@
 -- `count` meets its contract: questions 1 and 2, and then the header. Assumes nothing.
-use borrow.Author.Rules.{rules}
 use mathlib.Core.Path.{◌≡◌, sym}
 use mathlib.Core.List.{[]}
 use Rattle.model.specs.Refusals.{refusal}

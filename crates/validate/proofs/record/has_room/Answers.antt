@@ -1,6 +1,5 @@
 -- `has_room_lem` meets its contract: what is left of the path bytes is compared, so that no sum can
 -- pass its width. Assumes nothing.
-use borrow.Author.Rules.{rules}
 use mathlib.Core.Path.{◌≡◌, refl}
 use mathlib.Core.Bool.{Bool, true, false}
 use Prim.Native.Nat.{ℕ, ◌+◌, ◌-◌, ◌≤◌}

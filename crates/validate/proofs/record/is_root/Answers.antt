@@ -1,5 +1,4 @@
 -- `is_root` meets its contract: the tests are the definition's, in its order. Assumes nothing.
-use borrow.Author.Rules.{rules}
 use borrow.Author.Tests.{eq-eqb, ne_eqb, not-true, not-false}
 use mathlib.Core.Path.{sym, ◌∙◌}
 use Rattle.validate.proofs.record.is_root.Goals as goal

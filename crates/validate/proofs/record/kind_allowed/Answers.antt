@@ -1,6 +1,5 @@
 -- `kind_allowed` meets its contract: the definition's tests, those of every node first. Assumes
 -- nothing.
-use borrow.Author.Rules.{rules}
 use mathlib.Core.Path.{◌≡◌, refl, sym, ap, ◌∙◌}
 use mathlib.Core.Bool.{Bool, true, false, not, ◌&&◌, cond, and-true}
 use borrow.Author.Tests.{eq-eqb, ne_eqb, le-leb, lt-leb}

@@ -1,6 +1,5 @@
 -- `links_allowed` meets its contract: the tests are the definition's, in its order. Assumes
 -- nothing.
-use borrow.Author.Rules.{rules}
 use borrow.Author.Tests.{eq-eqb, ne_eqb, lt-ltb, le-ltb}
 use Rattle.validate.proofs.record.links_allowed.Goals as goal
 

@@ -1,5 +1,4 @@
 -- `root_allowed` meets its contract: a root that is culled is none. Assumes nothing.
-use borrow.Author.Rules.{rules}
 use mathlib.Core.Path.{sym, ap, ◌∙◌}
 use mathlib.Core.Bool.{Bool, not, ◌&&◌, and-false, and-true}
 use borrow.Author.Tests.{eq-eqb, ne_eqb}

@@ -1,7 +1,6 @@
 -- `with_culled` meets its contract: flags without bit 2 are at most 253. Assumes nothing.
 use mathlib.Core.Path.{sym, ◌∙◌}
 use native.Mathlib.Omega.{arith}
-use borrow.Author.Rules.{rules}
 use Prim.Native.Nat.{◌/◌, ◌%◌}
 use borrow.Author.Tests.{eqb-false}
 use Rattle.validate.proofs.record.with_culled.Goals as goal
