@@ -42,16 +42,14 @@ run_end-next-requires c =
 
 pub run_in_order-requires : goal.run_in_order-requires
 run_in_order-requires c =
-    let run = c.run_end-next.ensures in (
-      c.requires.given,
-      (
-        (
-          ranking-part c.loop-at.invariant.1 c.requires.given.0.long c.requires.part.0 (omega (arith, run.longer)) run.within,
-          run.longer,
-        ),
-        (run.one_rank, omega (arith, c.loop-at.invariant.0, c.requires.part.1)),
-      ),
-    )
+    let run = c.run_end-next.ensures in record {
+      given = c.requires.given;
+      part = (
+        ranking-part c.loop-at.invariant.1 c.requires.given.0.long c.requires.part.0 (omega (arith, run.longer)) run.within,
+        run.longer,
+      );
+      one_rank = (run.one_rank, omega (arith, c.loop-at.invariant.0, c.requires.part.1));
+    }
 
 pub shape_of-row-then-not-run_in_order : goal.shape_of-row-then-not-run_in_order
 shape_of-row-then-not-run_in_order c =

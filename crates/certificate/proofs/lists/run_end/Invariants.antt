@@ -10,7 +10,7 @@ use Rattle.certificate.proofs.CertificateParts.{part-child, entry-rank, alike-st
 use Rattle.certificate.proofs.lists.run_end.Given as goal
 
 abbrev pub invariant-loop-i : goal.invariant-loop-i
-invariant-loop-i l = (l.start < l.i) × Alike (view_in l.arena).l.rank l.sorted l.start l.end l.i
+invariant-loop-i l = (l.start < l.i) × Alike (view_in l.arena).rank l.sorted l.start l.end l.i
 
 abbrev pub decreases-loop-i : goal.decreases-loop-i
 decreases-loop-i l = l.end - l.i

@@ -11,7 +11,7 @@ use Rattle.certificate.proofs.CertificateParts.{part-child, entry-depth, alike-s
 use Rattle.certificate.proofs.runs.has_two_depths.Given as goal
 
 abbrev pub invariant-loop-i : goal.invariant-loop-i
-invariant-loop-i l = Alike (view_in l.arena).l.depth l.sorted l.start l.end l.i
+invariant-loop-i l = Alike (view_in l.arena).depth l.sorted l.start l.end l.i
 
 abbrev pub decreases-loop-i : goal.decreases-loop-i
 decreases-loop-i l = l.end - l.i

@@ -8,7 +8,7 @@ use Rattle.certificate.proofs.runs.run_in_order.Goals as goal
 pub returns-then-end-start-eq1 : goal.returns-then-end-start-eq1
 returns-then-end-start-eq1 c =
     let one = c.if-end-start-eq1.true in
-    let part = c.requires.part.0 in
+    let part = c.requires.part in
     λ e. alone-in-order c.args.arena.now c.args.places.now c.args.sorted.now c.requires.given.0.long part.1 part.0.high (omega arith)
 
 pub returns-then-neighbours_in_order : goal.returns-then-neighbours_in_order
@@ -21,4 +21,9 @@ returns-then-copies_in_order c =
 
 pub pairs_in_order-requires : goal.pairs_in_order-requires
 pairs_in_order-requires c =
-    (c.requires.given, (c.requires.part.0.0, (c.has_two_depths-uneven.ensures, c.requires.part.1.1)))
+    record {
+      given = c.requires.given;
+      part = c.requires.part.0;
+      one_depth = c.has_two_depths-uneven.ensures;
+      arena_in_bounds = c.requires.one_rank.1;
+    }
