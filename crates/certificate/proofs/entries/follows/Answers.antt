@@ -2,7 +2,6 @@
 -- Assumes nothing.
 use mathlib.Core.Bool.{false≢true}
 use mathlib.Core.Path.{sym, ◌∙◌}
-use borrow.Author.Rules.{rules}
 use borrow.Author.Tests.{ltb-true}
 use Rattle.laws.proofs.WalkLaws.{is-less}
 use Rattle.certificate.proofs.CopyParts.{root-follows, class-follows, hops-follows, tested-same}

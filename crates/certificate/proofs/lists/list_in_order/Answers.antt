@@ -1,13 +1,12 @@
 -- `list_in_order` meets its contract. The loop's invariant: the runs up to `at` are in order, and
 -- their ranks below `least`. The measure is how many children are left. Assumes nothing.
 use native.Mathlib.Omega.{arith}
-use mathlib.Core.Path.{◌≡◌, refl, ◌∙◌}
+use mathlib.Core.Path.{refl, ◌∙◌}
 use mathlib.Core.Bool.{false≢true}
-use Prim.Native.Nat.{◌-◌}
-use lib.ListN.{length, get_or}
+use lib.ListN.{get_or}
 use borrow.Author.Tests.{not-false}
 use Rattle.certificate.specs.Certificate.{ChildOf}
-use Rattle.certificate.proofs.CertificateParts.{part-child, entry-rank, rank-low, Ranking, ranking-start, ranking-part, ranking-step, ranking-ends}
+use Rattle.certificate.proofs.CertificateParts.{part-child, entry-rank, rank-low, ranking-start, ranking-part, ranking-step, ranking-ends}
 use Rattle.certificate.proofs.lists.list_in_order.Goals as goal
 
 pub loop-at-init : goal.loop-at-init

@@ -1,12 +1,8 @@
 -- `run_end` meets its contract. The loop's invariant: the children before `i` have the first one's
 -- rank. The measure is how many are left. Assumes nothing.
-use native.Mathlib.Omega.{arith}
-use mathlib.Core.Path.{refl, sym, ◌∙◌}
 use Prim.Native.Nat.{◌-◌, ◌<◌}
-use lib.ListN.{length, get_or}
 use Rattle.view.specs.View.{view_in}
-use Rattle.certificate.specs.Certificate.{ChildOf}
-use Rattle.certificate.proofs.CertificateParts.{part-child, entry-rank, alike-start, alike-step, Alike}
+use Rattle.certificate.proofs.CertificateParts.{Alike}
 use Rattle.certificate.proofs.lists.run_end.Given as goal
 
 abbrev pub invariant-loop-i : goal.invariant-loop-i

@@ -3,14 +3,13 @@
 -- measure is how many are left. Assumes nothing.
 use native.Mathlib.Omega.{arith}
 use mathlib.Core.Bool.{false≢true}
-use Prim.Native.Nat.{◌+◌, ◌-◌, ◌<◌}
+use Prim.Native.Nat.{◌+◌, ◌<◌}
 use lib.ListN.{length, get_or}
-use borrow.Author.Rules.{rules}
 use borrow.Author.Tests.{not-false}
 use Rattle.view.proofs.ViewLaws.{legal}
 use Rattle.certificate.specs.Certificate.{ChildOf}
 use Rattle.certificate.proofs.CertificateParts.{part-child, entry-placed}
-use Rattle.certificate.proofs.CopyParts.{Copying, copying-start, copying-step, copying-ends}
+use Rattle.certificate.proofs.CopyParts.{copying-start, copying-step, copying-ends}
 use Rattle.certificate.proofs.runs.copies_in_order.Goals as goal
 
 pub offset_bounds-sorted-start : goal.offset_bounds-sorted-start

@@ -3,15 +3,15 @@
 -- `j`. The measures are how many are left to each. Assumes nothing.
 use native.Mathlib.Omega.{arith}
 use mathlib.Core.Path.{◌≡◌, refl, sym, ◌∙◌}
-use mathlib.Core.Bool.{true, false≢true}
-use Prim.Native.Nat.{ℕ, ◌-◌, ◌≤◌, ◌<◌}
+use mathlib.Core.Bool.{false≢true}
+use Prim.Native.Nat.{ℕ, ◌≤◌, ◌<◌}
 use lib.ListN.{length, get_or}
 use borrow.Author.Tests.{not-false}
 use Rattle.model.specs.Arena.{count_in}
 use Rattle.view.specs.View.{view_in}
 use Rattle.view.proofs.ViewLaws.{legal}
 use Rattle.certificate.specs.Certificate.{ChildOf}
-use Rattle.certificate.proofs.CertificateParts.{Before, part-child, entry-root, entry-placed, entries-before, known-by-row, Pairing, pairing-start, pairing-ends, Facing, facing-start, facing-step, facing-ends}
+use Rattle.certificate.proofs.CertificateParts.{Before, part-child, entry-root, entry-placed, entries-before, known-by-row, pairing-start, pairing-ends, facing-start, facing-step, facing-ends}
 use Rattle.certificate.proofs.runs.pairs_in_order.Goals as goal
 
 pub count-count-requires : goal.count-count-requires

@@ -1,6 +1,5 @@
 -- `run_in_order` meets its contract: a part of one child is in order, and each of the three tests
 -- is enough. Assumes nothing.
-use borrow.Author.Rules.{rules}
 use native.Mathlib.Omega.{arith}
 use Rattle.certificate.proofs.CertificateParts.{alone-in-order}
 use Rattle.certificate.proofs.runs.run_in_order.Goals as goal
