@@ -124,10 +124,10 @@ module _ {bs sorted ends places stops : List ℕ} (o : ValidArena bs) (tree : Tr
 
     same : (v : ℕ) → v < size (decode bs) → SameCounts (part sorted ends v) (children_of (decode bs) v)
     same =
-        certified-permute (size (decode bs)) (view_in bs) (children_of (decode bs)) tree (part sorted ends) (parts-own o long part_at)
-        (parts-counted o long part_at counted) (place_in places) (place_in stops) certified
+        certified-permute (size (decode bs)) (view_in bs) (children_of (decode bs)) tree (part sorted ends) (parts-own ends o long part_at)
+        (parts-counted ends o long part_at counted) (place_in places) (place_in stops) certified
 
     pub certifying-ends : length ends ≡ 1024 → Sorts (decode bs) true sorted ends
     certifying-ends as_long =
-        order-sorts o long part_at as_long
+        order-sorts ends o long part_at as_long
         (certified-order (decode bs) (part sorted ends) tree same (rw (sizes bs o) (legal bs o)) (place_in places) (place_in stops) certified)

@@ -1,17 +1,16 @@
 -- `certify` meets its contract. The loop's invariant: the lists of the nodes below `parent` fit and
 -- are in order, and stand up to `start`. The measure is how many nodes are left. Assumes nothing.
 use native.Mathlib.Omega.{arith}
-use mathlib.Core.Path.{◌≡◌, refl, ◌∙◌}
+use mathlib.Core.Path.{refl, ◌∙◌}
 use mathlib.Core.Bool.{false≢true}
-use Prim.Native.Nat.{ℕ, ◌+◌, ◌-◌, ◌≤◌, ◌<◌}
-use lib.ListN.{length, get_or}
-use borrow.Author.Rules.{rules}
+use Prim.Native.Nat.{ℕ, ◌+◌, ◌≤◌, ◌<◌}
+use lib.ListN.{get_or}
 use borrow.Author.Tests.{not-false, eqb-true}
 use Rattle.model.specs.Arena.{count_in}
 use Rattle.laws.proofs.StoredLaws.{bytes-by-place}
 use Rattle.certificate.specs.Certificate.{FitsIn}
 use Rattle.certificate.proofs.CertificateChildren.{tree-read}
-use Rattle.certificate.proofs.CertificateLaws.{Certifying, certifying-start, certifying-step, certifying-ends}
+use Rattle.certificate.proofs.CertificateLaws.{certifying-start, certifying-step, certifying-ends}
 use Rattle.certificate.proofs.certify.Goals as goal
 
 pub loop-parent-init : goal.loop-parent-init

@@ -3,12 +3,11 @@
 -- Assumes nothing.
 use native.Mathlib.Omega.{arith}
 use mathlib.Core.Bool.{false≢true}
-use Prim.Native.Nat.{ℕ, ◌-◌, ◌<◌}
+use Prim.Native.Nat.{ℕ, ◌<◌}
 use lib.ListN.{length, get_or}
-use borrow.Author.Rules.{rules}
 use borrow.Author.Tests.{not-false, leb-true}
 use Rattle.certificate.specs.Certificate.{ChildOf}
-use Rattle.certificate.proofs.CertificateLaws.{Fitting, fitting-start, fitting-step, fitting-ends}
+use Rattle.certificate.proofs.CertificateLaws.{fitting-start, fitting-step, fitting-ends}
 use Rattle.certificate.proofs.branches.branches_fit.Goals as goal
 
 pub count-count-requires : goal.count-count-requires

@@ -1,14 +1,8 @@
 -- `branches_fit` meets its contract. The loop's invariant: the children before `at` are the node's,
 -- and the list fits where the rest of it does after `from`. The measure is how many are left.
 -- Assumes nothing.
-use native.Mathlib.Omega.{arith}
-use mathlib.Core.Bool.{false≢true}
-use Prim.Native.Nat.{ℕ, ◌-◌, ◌<◌}
-use lib.ListN.{length, get_or}
-use borrow.Author.Rules.{rules}
-use borrow.Author.Tests.{not-false, leb-true}
-use Rattle.certificate.specs.Certificate.{ChildOf}
-use Rattle.certificate.proofs.CertificateLaws.{Fitting, fitting-start, fitting-step, fitting-ends}
+use Prim.Native.Nat.{◌-◌}
+use Rattle.certificate.proofs.CertificateLaws.{Fitting}
 use Rattle.certificate.proofs.branches.branches_fit.Given as goal
 
 abbrev pub invariant-loop-at : goal.invariant-loop-at

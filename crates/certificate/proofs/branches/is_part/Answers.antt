@@ -1,7 +1,6 @@
 -- `is_part` meets its contract.
 -- Assumes nothing.
 use mathlib.Core.Bool.{false≢true}
-use borrow.Author.Rules.{rules}
 use Rattle.certificate.proofs.branches.is_part.Goals as goal
 
 pub returns-then-end-start : goal.returns-then-end-start

@@ -1,5 +1,4 @@
 -- `by_places` meets its contract: the two places are read and compared. Assumes nothing.
-use borrow.Author.Rules.{rules}
 use Rattle.strength.proofs.VerdictNumbers.{read-smaller}
 use Rattle.certificate.proofs.entries.by_places.Goals as goal
 

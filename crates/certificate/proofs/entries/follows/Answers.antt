@@ -2,7 +2,6 @@
 -- Assumes nothing.
 use mathlib.Core.Bool.{false≢true}
 use mathlib.Core.Path.{sym, ◌∙◌}
-use borrow.Author.Rules.{rules}
 use borrow.Author.Tests.{ltb-true}
 use Rattle.laws.proofs.WalkLaws.{is-less}
 use Rattle.certificate.proofs.CopyParts.{root-follows, class-follows, hops-follows, tested-same}
@@ -28,11 +27,7 @@ pub returns-then-a-b-4 : goal.returns-then-a-b-4
 returns-then-a-b-4 c =
     λ e. absurd (false≢true e)
 
--- TODO follows-in-stack-requires
--- follows-in-stack-requires c κs =
---     let hops = c.before.before.before in
---     let depths = hops.before.before.before in
---     let roots = depths.before.before.before in
---     let s = roots.before.before.before.before in
---     let local = tested-same s.args.a.local s.args.b.local c.if4.false in
---     (s.requires.0, s.requires.1, record { root = roots.if1.false; class-depth = depths.if2.false; hops = hops.if3.false; local = local })
+pub follows_in_stack-requires : goal.follows_in_stack-requires
+follows_in_stack-requires c =
+    let local = tested-same c.args.a.local c.args.b.local c.if-a-b-4.false in
+    (c.requires.0, c.requires.1, record { root = c.if-a-b.false; class-depth = c.if-a-b-2.false; hops = c.if-a-b-3.false; local = local })

@@ -1,7 +1,6 @@
 -- `follows_in_stack` meets its contract: what each list of lines answers is theirs.
 -- Assumes nothing.
 use mathlib.Core.Path.{sym, ◌∙◌}
-use borrow.Author.Rules.{rules}
 use Rattle.laws.proofs.WalkLaws.{is-less}
 use Rattle.certificate.proofs.CopyParts.{stack-follows, origin-follows, said-less}
 use Rattle.certificate.proofs.entries.follows_in_stack.Goals as goal

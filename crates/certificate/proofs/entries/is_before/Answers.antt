@@ -1,7 +1,6 @@
 -- `is_before` meets its contract: what a verdict asks are both origins or both R, and these have
 -- places. Assumes nothing.
 use mathlib.Core.Path.{refl, ap, ◌∙◌}
-use borrow.Author.Rules.{rules}
 use Rattle.model.specs.declared.Ordering.{Ordering}
 use Rattle.model.specs.Order.{is_less}
 use Rattle.model.specs.Strength.{first}

@@ -1,13 +1,12 @@
 -- `list_in_order` meets its contract. The loop's invariant: the runs up to `at` are in order, and
 -- their ranks below `least`. The measure is how many children are left. Assumes nothing.
 use native.Mathlib.Omega.{arith}
-use mathlib.Core.Path.{◌≡◌, refl, ◌∙◌}
+use mathlib.Core.Path.{refl, ◌∙◌}
 use mathlib.Core.Bool.{false≢true}
-use Prim.Native.Nat.{◌-◌}
-use lib.ListN.{length, get_or}
+use lib.ListN.{get_or}
 use borrow.Author.Tests.{not-false}
 use Rattle.certificate.specs.Certificate.{ChildOf}
-use Rattle.certificate.proofs.CertificateParts.{part-child, entry-rank, rank-low, Ranking, ranking-start, ranking-part, ranking-step, ranking-ends}
+use Rattle.certificate.proofs.CertificateParts.{part-child, entry-rank, rank-low, ranking-start, ranking-part, ranking-step, ranking-ends}
 use Rattle.certificate.proofs.lists.list_in_order.Goals as goal
 
 pub loop-at-init : goal.loop-at-init
@@ -42,16 +41,14 @@ run_end-next-requires c =
 
 pub run_in_order-requires : goal.run_in_order-requires
 run_in_order-requires c =
-    let run = c.run_end-next.ensures in (
-      c.requires.given,
-      (
-        (
-          ranking-part c.loop-at.invariant.1 c.requires.given.0.long c.requires.part.0 (omega (arith, run.longer)) run.within,
-          run.longer,
-        ),
-        (run.one_rank, omega (arith, c.loop-at.invariant.0, c.requires.part.1)),
-      ),
-    )
+    let run = c.run_end-next.ensures in record {
+      given = c.requires.given;
+      part = (
+        ranking-part c.loop-at.invariant.1 c.requires.given.0.long c.requires.part.0 (omega (arith, run.longer)) run.within,
+        run.longer,
+      );
+      one_rank = (run.one_rank, omega (arith, c.loop-at.invariant.0, c.requires.part.1));
+    }
 
 pub shape_of-row-then-not-run_in_order : goal.shape_of-row-then-not-run_in_order
 shape_of-row-then-not-run_in_order c =

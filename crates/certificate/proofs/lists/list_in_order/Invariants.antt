@@ -1,13 +1,9 @@
 -- `list_in_order` meets its contract. The loop's invariant: the runs up to `at` are in order, and
 -- their ranks below `least`. The measure is how many children are left. Assumes nothing.
-use native.Mathlib.Omega.{arith}
-use mathlib.Core.Path.{◌≡◌, refl, ◌∙◌}
-use mathlib.Core.Bool.{false≢true}
+use mathlib.Core.Path.{◌≡◌}
 use Prim.Native.Nat.{◌-◌}
-use lib.ListN.{length, get_or}
-use borrow.Author.Tests.{not-false}
-use Rattle.certificate.specs.Certificate.{ChildOf}
-use Rattle.certificate.proofs.CertificateParts.{part-child, entry-rank, rank-low, Ranking, ranking-start, ranking-part, ranking-step, ranking-ends}
+use lib.ListN.{length}
+use Rattle.certificate.proofs.CertificateParts.{Ranking}
 use Rattle.certificate.proofs.lists.list_in_order.Given as goal
 
 abbrev pub invariant-loop-at : goal.invariant-loop-at

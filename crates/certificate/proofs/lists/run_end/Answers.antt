@@ -2,11 +2,10 @@
 -- rank. The measure is how many are left. Assumes nothing.
 use native.Mathlib.Omega.{arith}
 use mathlib.Core.Path.{refl, sym, ◌∙◌}
-use Prim.Native.Nat.{◌-◌, ◌<◌}
+use Prim.Native.Nat.{◌<◌}
 use lib.ListN.{length, get_or}
-use Rattle.view.specs.View.{view_in}
 use Rattle.certificate.specs.Certificate.{ChildOf}
-use Rattle.certificate.proofs.CertificateParts.{part-child, entry-rank, alike-start, alike-step, Alike}
+use Rattle.certificate.proofs.CertificateParts.{part-child, entry-rank, alike-start, alike-step}
 use Rattle.certificate.proofs.lists.run_end.Goals as goal
 
 pub offset_bounds-sorted-start : goal.offset_bounds-sorted-start

@@ -1,16 +1,8 @@
 -- `copies_in_order` meets its contract. The loop's invariant: up to `i` all are HAS_SPECIALIZES, of
 -- one R where depths differ, each follows the one before it, and the authored ones rise. The
 -- measure is how many are left. Assumes nothing.
-use native.Mathlib.Omega.{arith}
-use mathlib.Core.Bool.{false≢true}
-use Prim.Native.Nat.{◌+◌, ◌-◌, ◌<◌}
-use lib.ListN.{length, get_or}
-use borrow.Author.Rules.{rules}
-use borrow.Author.Tests.{not-false}
-use Rattle.view.proofs.ViewLaws.{legal}
-use Rattle.certificate.specs.Certificate.{ChildOf}
-use Rattle.certificate.proofs.CertificateParts.{part-child, entry-placed}
-use Rattle.certificate.proofs.CopyParts.{Copying, copying-start, copying-step, copying-ends}
+use Prim.Native.Nat.{◌-◌}
+use Rattle.certificate.proofs.CopyParts.{Copying}
 use Rattle.certificate.proofs.runs.copies_in_order.Given as goal
 
 abbrev pub invariant-loop-i : goal.invariant-loop-i

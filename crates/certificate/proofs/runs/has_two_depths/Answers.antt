@@ -3,11 +3,10 @@
 use native.Mathlib.Omega.{arith}
 use mathlib.Core.Path.{sym, ◌∙◌}
 use mathlib.Core.Bool.{false≢true}
-use Prim.Native.Nat.{◌-◌, ◌<◌}
+use Prim.Native.Nat.{◌<◌}
 use lib.ListN.{length, get_or}
-use Rattle.view.specs.View.{view_in}
 use Rattle.certificate.specs.Certificate.{ChildOf}
-use Rattle.certificate.proofs.CertificateParts.{part-child, entry-depth, alike-start, alike-step, Alike}
+use Rattle.certificate.proofs.CertificateParts.{part-child, entry-depth, alike-start, alike-step}
 use Rattle.certificate.proofs.runs.has_two_depths.Goals as goal
 
 pub offset_bounds-sorted-start : goal.offset_bounds-sorted-start

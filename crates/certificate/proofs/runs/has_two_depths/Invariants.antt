@@ -1,17 +1,12 @@
 -- `has_two_depths` meets its contract. The loop's invariant: the children before `i` have the first
 -- one's depth. The measure is how many are left. Assumes nothing.
-use native.Mathlib.Omega.{arith}
-use mathlib.Core.Path.{sym, ◌∙◌}
-use mathlib.Core.Bool.{false≢true}
-use Prim.Native.Nat.{◌-◌, ◌<◌}
-use lib.ListN.{length, get_or}
+use Prim.Native.Nat.{◌-◌}
 use Rattle.view.specs.View.{view_in}
-use Rattle.certificate.specs.Certificate.{ChildOf}
-use Rattle.certificate.proofs.CertificateParts.{part-child, entry-depth, alike-start, alike-step, Alike}
+use Rattle.certificate.proofs.CertificateParts.{Alike}
 use Rattle.certificate.proofs.runs.has_two_depths.Given as goal
 
 abbrev pub invariant-loop-i : goal.invariant-loop-i
-invariant-loop-i l = Alike (view_in l.arena).l.depth l.sorted l.start l.end l.i
+invariant-loop-i l = Alike (view_in l.arena).depth l.sorted l.start l.end l.i
 
 abbrev pub decreases-loop-i : goal.decreases-loop-i
 decreases-loop-i l = l.end - l.i

@@ -3,13 +3,12 @@
 use native.Mathlib.Omega.{arith}
 use mathlib.Core.Path.{sym, ◌∙◌}
 use mathlib.Core.Bool.{false≢true}
-use Prim.Native.Nat.{◌+◌, ◌-◌, ◌<◌}
+use Prim.Native.Nat.{◌+◌, ◌<◌}
 use lib.ListN.{length, get_or}
-use borrow.Author.Rules.{rules}
 use borrow.Author.Tests.{not-false}
 use Rattle.view.proofs.ViewLaws.{legal}
 use Rattle.certificate.specs.Certificate.{ChildOf}
-use Rattle.certificate.proofs.CertificateParts.{part-child, entry-placed, entry-keyed, entries-key-less, Neighbouring, neighbouring-start, neighbouring-step, neighbouring-ends}
+use Rattle.certificate.proofs.CertificateParts.{part-child, entry-placed, entry-keyed, entries-key-less, neighbouring-start, neighbouring-step, neighbouring-ends}
 use Rattle.certificate.proofs.runs.neighbours_in_order.Goals as goal
 
 pub offset_bounds-sorted-start : goal.offset_bounds-sorted-start

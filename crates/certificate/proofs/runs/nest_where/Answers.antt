@@ -2,7 +2,6 @@
 -- Assumes nothing.
 use mathlib.Core.Path.{sym, ◌∙◌}
 use mathlib.Core.Bool.{false≢true}
-use borrow.Author.Rules.{rules}
 use Rattle.certificate.proofs.runs.nest_where.Goals as goal
 
 pub returns-else-wanted : goal.returns-else-wanted

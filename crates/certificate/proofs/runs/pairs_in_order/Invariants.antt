@@ -1,17 +1,11 @@
 -- `pairs_in_order` meets its contract. The outer loop's invariant: nothing is found, and each child
 -- before `i` is before all later ones; the inner one's: and the one at `i` is before those up to
 -- `j`. The measures are how many are left to each. Assumes nothing.
-use native.Mathlib.Omega.{arith}
-use mathlib.Core.Path.{◌≡◌, refl, sym, ◌∙◌}
-use mathlib.Core.Bool.{true, false≢true}
-use Prim.Native.Nat.{ℕ, ◌-◌, ◌≤◌, ◌<◌}
-use lib.ListN.{length, get_or}
-use borrow.Author.Tests.{not-false}
-use Rattle.model.specs.Arena.{count_in}
-use Rattle.view.specs.View.{view_in}
-use Rattle.view.proofs.ViewLaws.{legal}
-use Rattle.certificate.specs.Certificate.{ChildOf}
-use Rattle.certificate.proofs.CertificateParts.{Before, part-child, entry-root, entry-placed, entries-before, known-by-row, Pairing, pairing-start, pairing-ends, Facing, facing-start, facing-step, facing-ends}
+use mathlib.Core.Path.{◌≡◌}
+use mathlib.Core.Bool.{true}
+use Prim.Native.Nat.{◌-◌}
+use lib.ListN.{length}
+use Rattle.certificate.proofs.CertificateParts.{Pairing, Facing}
 use Rattle.certificate.proofs.runs.pairs_in_order.Given as goal
 
 abbrev pub invariant-loop-j : goal.invariant-loop-j

@@ -1,6 +1,5 @@
 -- `run_in_order` meets its contract: a part of one child is in order, and each of the three tests
 -- is enough. Assumes nothing.
-use borrow.Author.Rules.{rules}
 use native.Mathlib.Omega.{arith}
 use Rattle.certificate.proofs.CertificateParts.{alone-in-order}
 use Rattle.certificate.proofs.runs.run_in_order.Goals as goal
@@ -8,7 +7,7 @@ use Rattle.certificate.proofs.runs.run_in_order.Goals as goal
 pub returns-then-end-start-eq1 : goal.returns-then-end-start-eq1
 returns-then-end-start-eq1 c =
     let one = c.if-end-start-eq1.true in
-    let part = c.requires.part.0 in
+    let part = c.requires.part in
     λ e. alone-in-order c.args.arena.now c.args.places.now c.args.sorted.now c.requires.given.0.long part.1 part.0.high (omega arith)
 
 pub returns-then-neighbours_in_order : goal.returns-then-neighbours_in_order
@@ -21,4 +20,9 @@ returns-then-copies_in_order c =
 
 pub pairs_in_order-requires : goal.pairs_in_order-requires
 pairs_in_order-requires c =
-    (c.requires.given, (c.requires.part.0.0, (c.has_two_depths-uneven.ensures, c.requires.part.1.1)))
+    record {
+      given = c.requires.given;
+      part = c.requires.part.0;
+      one_depth = c.has_two_depths-uneven.ensures;
+      arena_in_bounds = c.requires.one_rank.1;
+    }
