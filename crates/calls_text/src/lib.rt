@@ -18,4 +18,6 @@ pub use answers::{
 pub use hex::{Bytes, put_bytes, read_bytes};
 pub use input::turns_left;
 pub use output::{flush, front, put, put_between, put_number};
-pub use words::{Number, ShortNumber, is_call, is_dash, read_number, read_short_number, word};
+pub use words::{
+    Number, ShortNumber, find, is_call, is_dash, read_number, read_short_number, word,
+};
