@@ -1,7 +1,7 @@
 // The input, read to its end into a lent buffer: short reads are followed by others, and a part of
 // the input is never taken for the whole.
-ghost use Rattle.std.specs.Prelude.{length};
-ghost use Rattle.command_io.specs.Inputs.{HeldIn};
+ghost use Rattle.std.specs.Prelude.{IfSome, length};
+ghost use Rattle.command_io.specs.Inputs.{HeldIn, HoldsInput, EndsInput};
 
 use std::io::Read;
 
@@ -16,7 +16,8 @@ pub enum Input {
 
 // Whether the input ends behind the `held` bytes that were read.
 fn read_end<R: Read>(from: &mut R, held: usize) -> Input
-    ensures { HeldIn held result }
+    ensures within { HeldIn held result }
+    ensures rest { IfSome (R.remaining from.old) (λ rest. EndsInput rest held result) }
 {
     let mut more = [0u8; 1];
     match from.read(&mut more) {
@@ -28,7 +29,8 @@ fn read_end<R: Read>(from: &mut R, held: usize) -> Input
 
 // Reads the input to its end. Each turn reads some of it, so the turns end where the buffer does.
 pub fn read_input<R: Read>(from: &mut R, bytes: &mut [u8]) -> Input
-    ensures { HeldIn (length bytes.old) result }
+    ensures within { HeldIn (length bytes.old) result }
+    ensures whole { IfSome (R.remaining from.old) (λ xs. HoldsInput xs (length bytes.old) bytes.new result) }
 {
     let mut held: usize = 0;
     while held < bytes.len() {
