@@ -9,6 +9,8 @@
 mod buffers;
 mod input;
 mod printing;
+#[cfg(test)]
+mod tests;
 
 pub use buffers::{append, zeros};
 pub use input::{Input, read_input};
