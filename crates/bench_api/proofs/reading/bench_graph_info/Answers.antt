@@ -1,5 +1,4 @@
 -- `bench_graph_info` meets its contract, case by case. Assumes nothing.
-use borrow.Author.Rules.{rules}
 use mathlib.Core.Path.{sym, ap, ◌∙◌}
 use Rattle.model.specs.Answers.{node_number}
 use Rattle.nodes.specs.Queries.{graph_read_refusal, graph_read_value}

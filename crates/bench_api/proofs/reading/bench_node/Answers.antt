@@ -1,5 +1,4 @@
 -- `bench_node` meets its contract, case by case. Assumes nothing.
-use borrow.Author.Rules.{rules}
 use mathlib.Core.Path.{sym, ap, ◌∙◌}
 use Rattle.nodes.specs.Queries.{node_read_refusal, node_read_value}
 use Rattle.bench_api.proofs.ReadLaws.{accepted-number, refused-number}

@@ -1,6 +1,5 @@
 -- `are_siblings` meets its contract: the second and the third are children of the first one's
 -- parent. Assumes nothing.
-use borrow.Author.Rules.{rules}
 use native.Mathlib.Omega.{arith}
 use mathlib.Core.Path.{sym}
 use mathlib.Core.Bool.{false≢true}

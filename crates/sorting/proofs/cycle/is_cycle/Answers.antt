@@ -1,5 +1,4 @@
 -- `is_cycle` meets its contract: three comparisons show the cycle. Assumes nothing.
-use borrow.Author.Rules.{rules}
 use mathlib.Core.Path.{sym, ◌∙◌}
 use mathlib.Core.Bool.{false≢true}
 use borrow.Author.Tests.{not-false}
