@@ -11,7 +11,7 @@ returns-in-Graph c =
     let answer = c.graph_info-read.ensures in
     let case = c.in-Graph.is in
     accepted-number (sym (ap graph_read_refusal case) ∙ answer.refused)
-    (c.number.ensures ∙ ap node_number (answer.graph _ (ap graph_read_value case)).local_root)
+    (c.number.ensures ∙ ap node_number (answer.graph _ (ap graph_read_value case)).local-root)
 
 pub returns-in-Refused : goal.returns-in-Refused
 returns-in-Refused c =

@@ -9,7 +9,7 @@ pub returns-in-Node : goal.returns-in-Node
 returns-in-Node c =
     let answer = c.node-read.ensures in
     let case = c.in-Node.is in
-    accepted-number (sym (ap node_read_refusal case) ∙ answer.refused) (answer.node _ (ap node_read_value case)).first_child
+    accepted-number (sym (ap node_read_refusal case) ∙ answer.refused) (answer.node _ (ap node_read_value case)).first-child
 
 pub returns-in-Refused : goal.returns-in-Refused
 returns-in-Refused c =
