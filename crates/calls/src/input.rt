@@ -1,7 +1,9 @@
-// The input, parted into lines, each with its answer on standard output.
+// The input, parted into lines, each with its answer in the output.
+ghost use Rattle.std.specs.Prelude.{◌≤◌, length};
+
 use crate::lines;
 use crate::lines::State;
-use libc::STDIN_FILENO;
+use std::io::{Read, Write};
 
 // What is left where a block ends: how many bytes there are of the line that goes on in the next
 // one, and whether the arenas are swapped.
@@ -15,20 +17,21 @@ struct Rest {
 const LONGEST: usize = 131072;
 
 // Puts the answer to the first `held` bytes of `line`, with a newline.
-fn answer_line(
+fn answer_line<W: Write>(
     line: &[u8],
     held: usize,
     first: &mut [u8],
     second: &mut [u8],
     saved: &mut [u8],
     swapped: bool,
+    to: &mut W,
     out: &mut [u8],
     used: usize,
 ) -> State {
     if LONGEST < held {
-        let end = calls_text::bad_line(out, used);
+        let end = calls_text::bad_line(to, out, used);
         return State {
-            used: calls_text::put(out, end, b"\n"),
+            used: calls_text::put(to, out, end, b"\n"),
             swapped,
         };
     }
@@ -38,24 +41,26 @@ fn answer_line(
         second,
         saved,
         swapped,
+        to,
         out,
         used,
     );
     State {
-        used: calls_text::put(out, answer.used, b"\n"),
+        used: calls_text::put(to, out, answer.used, b"\n"),
         swapped: answer.swapped,
     }
 }
 
 // Answers each line that ends in `block`, the first of them begun by `held` bytes in `line`, and
 // writes the answers.
-fn answer_block(
+fn answer_block<W: Write>(
     block: &[u8],
     line: &mut [u8],
     rest: Rest,
     first: &mut [u8],
     second: &mut [u8],
     saved: &mut [u8],
+    to: &mut W,
     out: &mut [u8],
 ) -> Rest {
     let mut begun = rest.held;
@@ -63,39 +68,52 @@ fn answer_block(
     let mut used: usize = 0;
     let mut at: usize = 0;
     while at < block.len() {
-        let end = bytes::scan::find(block, at, block.len(), b'\n');
+        let end = calls_text::find(block, at, b'\n');
         begun = command_io::append(line, begun, &block[at..end]);
         at = end + 1;
         if end < block.len() {
-            let answer = answer_line(line, begun, first, second, saved, swapped, out, used);
+            let answer = answer_line(line, begun, first, second, saved, swapped, to, out, used);
             used = answer.used;
             swapped = answer.swapped;
             begun = 0;
         }
     }
-    calls_text::flush(out, used);
+    calls_text::flush(to, out, used);
     Rest {
         held: begun,
         swapped,
     }
 }
 
+// Reads a part of the input, and answers how many bytes of `block` it takes: 0 where the input has
+// ended, or a read fails.
+fn read_block<R: Read>(from: &mut R, block: &mut [u8]) -> usize
+    ensures { result ≤ length block.new }
+{
+    match from.read(block) {
+        Ok(count) => count,
+        Err(_) => 0,
+    }
+}
+
 // Answers each line that ends in a newline, block by block, until the input ends or a read fails. A
 // proved loop has to end, and nothing says that the input does: so it counts its turns down, from a
 // number that no run uses up.
-fn answer_blocks(
+fn answer_blocks<R: Read, W: Write>(
+    from: &mut R,
     block: &mut [u8],
     line: &mut [u8],
     first: &mut [u8],
     second: &mut [u8],
     saved: &mut [u8],
+    to: &mut W,
     out: &mut [u8],
 ) -> Rest {
     let mut held: usize = 0;
     let mut swapped = false;
     let mut turns = u64::MAX;
     while 0 < turns {
-        let count = io::count(libc::read(STDIN_FILENO, block), block);
+        let count = read_block(from, block);
         let rest = answer_block(
             &block[0..count],
             line,
@@ -103,6 +121,7 @@ fn answer_blocks(
             first,
             second,
             saved,
+            to,
             out,
         );
         held = rest.held;
@@ -113,23 +132,34 @@ fn answer_blocks(
 }
 
 // Answers a last line without a newline, where `line` holds one, and writes the answer.
-fn answer_rest(
+fn answer_rest<W: Write>(
     line: &[u8],
     rest: Rest,
     first: &mut [u8],
     second: &mut [u8],
     saved: &mut [u8],
+    to: &mut W,
     out: &mut [u8],
 ) {
     if 0 < rest.held {
-        let answer = answer_line(line, rest.held, first, second, saved, rest.swapped, out, 0);
-        calls_text::flush(out, answer.used);
+        let answer = answer_line(
+            line,
+            rest.held,
+            first,
+            second,
+            saved,
+            rest.swapped,
+            to,
+            out,
+            0,
+        );
+        calls_text::flush(to, out, answer.used);
     }
 }
 
-// Answers all of standard input. The buffer for a line is as long as an arena, since every further
+// Answers all of the input. The buffer for a line is as long as an arena, since every further
 // length of a large array is dear to check.
-pub(crate) fn answer_input() {
+pub(crate) fn answer_input<R: Read, W: Write>(from: &mut R, to: &mut W) {
     let mut block = io::large_buffer();
     let mut line = command_io::zeros();
     let mut first = command_io::zeros();
@@ -137,12 +167,22 @@ pub(crate) fn answer_input() {
     let mut saved = command_io::zeros();
     let mut out = io::large_buffer();
     let rest = answer_blocks(
+        from,
         &mut block,
         &mut line,
         &mut first,
         &mut second,
         &mut saved,
+        to,
         &mut out,
     );
-    answer_rest(&line, rest, &mut first, &mut second, &mut saved, &mut out);
+    answer_rest(
+        &line,
+        rest,
+        &mut first,
+        &mut second,
+        &mut saved,
+        to,
+        &mut out,
+    );
 }

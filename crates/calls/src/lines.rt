@@ -3,6 +3,7 @@
 // `calls_read` and `calls_write`.
 use calls_text::{Answered, bad_line, is_call, put, put_refusal, word};
 use model::UnitResult;
+use std::io::Write;
 
 // What goes on from line to line: how many bytes of the output are used, and whether the second
 // arena is the current one.
@@ -13,17 +14,15 @@ pub(crate) struct State {
 }
 
 fn fill(arena: &mut [u8], byte: u8) {
-    let mut i: usize = 0;
-    while i < arena.len() {
-        arena[i] = byte;
-        i += 1;
+    for place in arena.iter_mut() {
+        *place = byte;
     }
 }
 
-// Copies `from` over `to`; does nothing where their lengths differ.
-fn overwrite(to: &mut [u8], from: &[u8]) {
-    if from.len() == to.len() {
-        bytes::copy(from, to);
+// Copies `from` over `onto`; does nothing where their lengths differ.
+fn overwrite(onto: &mut [u8], from: &[u8]) {
+    if from.len() == onto.len() {
+        onto.copy_from_slice(from);
     }
 }
 
@@ -35,64 +34,66 @@ fn empty(first: &mut [u8], second: &mut [u8], saved: &mut [u8]) {
 }
 
 // Puts the answer to a line, without a newline.
-pub(crate) fn answer(
+pub(crate) fn answer<W: Write>(
     line: &[u8],
     first: &mut [u8],
     second: &mut [u8],
     saved: &mut [u8],
     swapped: bool,
+    to: &mut W,
     out: &mut [u8],
     used: usize,
 ) -> State {
     if is_call(line, b"new", 1) {
         empty(first, second, saved);
         return State {
-            used: put(out, used, b"ok"),
+            used: put(to, out, used, b"ok"),
             swapped: false,
         };
     }
     if is_call(line, b"swap", 1) {
         return State {
-            used: put(out, used, b"ok"),
+            used: put(to, out, used, b"ok"),
             swapped: !swapped,
         };
     }
     if is_call(line, b"seed", 2) {
         if swapped {
-            return seed_line(line, second, first, swapped, out, used);
+            return seed_line(line, second, first, swapped, to, out, used);
         }
-        return seed_line(line, first, second, swapped, out, used);
+        return seed_line(line, first, second, swapped, to, out, used);
     }
     if swapped {
         return State {
-            used: answer_saving(line, second, saved, out, used),
+            used: answer_saving(line, second, saved, to, out, used),
             swapped: true,
         };
     }
     State {
-        used: answer_saving(line, first, saved, out, used),
+        used: answer_saving(line, first, saved, to, out, used),
         swapped: false,
     }
 }
 
 // `seed PATH`: the other arena filled from the current one. It then is the current one, unless the
 // call is refused.
-fn seed_line(
+fn seed_line<W: Write>(
     line: &[u8],
     current: &[u8],
     other: &mut [u8],
     swapped: bool,
+    to: &mut W,
     out: &mut [u8],
     used: usize,
 ) -> State {
     let seeded = prim_graph::seed_child(current, other, word(line, 1));
     match seeded {
         UnitResult::Done => State {
-            used: put(out, used, b"ok"),
+            used: put(to, out, used, b"ok"),
             swapped: !swapped,
         },
         UnitResult::Refused(refusal) => State {
-            used: put_refusal(out, used, refusal),
+            used: put_refusal(to, out, used, refusal),
             swapped,
         },
     }
@@ -100,58 +101,71 @@ fn seed_line(
 
 // `save` and `restore`: the arena copied to the saved one, and back. `rubbish`: bytes that hold no
 // graph. Else the answer to a line on the arena alone.
-fn answer_saving(
+fn answer_saving<W: Write>(
     line: &[u8],
     arena: &mut [u8],
     saved: &mut [u8],
+    to: &mut W,
     out: &mut [u8],
     used: usize,
 ) -> usize {
     if is_call(line, b"save", 1) {
         overwrite(saved, arena);
-        return put(out, used, b"ok");
+        return put(to, out, used, b"ok");
     }
     if is_call(line, b"restore", 1) {
         overwrite(arena, saved);
-        return put(out, used, b"ok");
+        return put(to, out, used, b"ok");
     }
     if is_call(line, b"rubbish", 1) {
         fill(arena, 255);
-        return put(out, used, b"ok");
+        return put(to, out, used, b"ok");
     }
-    answer_on(line, arena, out, used)
+    answer_on(line, arena, to, out, used)
 }
 
 // The answer to a line on one arena: none to an empty one. A further kind of line is a row in the
 // crate that answers its like.
-fn answer_on(line: &[u8], arena: &mut [u8], out: &mut [u8], used: usize) -> usize {
+fn answer_on<W: Write>(
+    line: &[u8],
+    arena: &mut [u8],
+    to: &mut W,
+    out: &mut [u8],
+    used: usize,
+) -> usize {
     if line.len() == 0 {
         return used;
     }
-    let made = calls_write::make::answer(line, arena, out, used);
+    let made = calls_write::make::answer(line, arena, to, out, used);
     if let Answered::Used(end) = made {
         return end;
     }
-    let changed = calls_write::change::answer(line, arena, out, used);
+    let changed = calls_write::change::answer(line, arena, to, out, used);
     if let Answered::Used(end) = changed {
         return end;
     }
-    answer_seen(line, arena, out, used)
+    answer_seen(line, arena, to, out, used)
 }
 
 // The answer to a line that leaves the arena as it is.
-fn answer_seen(line: &[u8], arena: &[u8], out: &mut [u8], used: usize) -> usize {
-    let seen = calls_read::look::answer(line, arena, out, used);
+fn answer_seen<W: Write>(
+    line: &[u8],
+    arena: &[u8],
+    to: &mut W,
+    out: &mut [u8],
+    used: usize,
+) -> usize {
+    let seen = calls_read::look::answer(line, arena, to, out, used);
     if let Answered::Used(end) = seen {
         return end;
     }
-    let compared = calls_read::compare::answer(line, arena, out, used);
+    let compared = calls_read::compare::answer(line, arena, to, out, used);
     if let Answered::Used(end) = compared {
         return end;
     }
-    let path = calls_read::paths::answer(line, out, used);
+    let path = calls_read::paths::answer(line, to, out, used);
     if let Answered::Used(end) = path {
         return end;
     }
-    bad_line(out, used)
+    bad_line(to, out, used)
 }

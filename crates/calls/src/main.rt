@@ -7,6 +7,6 @@
 mod input;
 mod lines;
 
-fn main() {
-    input::answer_input();
+fn main(rt: HostRuntime) {
+    input::answer_input(&mut rt.stdin(), &mut rt.stdout());
 }

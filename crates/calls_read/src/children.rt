@@ -2,30 +2,34 @@
 use calls_text::{put_between, put_number, put_refusal};
 use model::NumberResult;
 use prim_graph::NodeRead;
+use std::io::Write;
 
 // `chains`: each node's children in their order, joined by `,`, the nodes joined by `;`.
-pub(crate) fn chains_line(arena: &[u8], out: &mut [u8], used: usize) -> usize {
+pub(crate) fn chains_line<W: Write>(
+    arena: &[u8],
+    to: &mut W,
+    out: &mut [u8],
+    used: usize,
+) -> usize {
     let read = prim_graph::count(arena);
     match read {
-        NumberResult::Number(count) => put_lists(arena, count, out, used),
-        NumberResult::Refused(refusal) => put_refusal(out, used, refusal),
+        NumberResult::Number(count) => put_lists(arena, count, to, out, used),
+        NumberResult::Refused(refusal) => put_refusal(to, out, used, refusal),
     }
 }
 
 // Every node is asked once for its two links, since every call checks the arena.
-fn put_lists(arena: &[u8], count: u32, out: &mut [u8], used: usize) -> usize {
+fn put_lists<W: Write>(arena: &[u8], count: u32, to: &mut W, out: &mut [u8], used: usize) -> usize {
     let mut first = [0usize; 1024];
     let mut next = [0usize; 1024];
     read_links(arena, count, &mut first, &mut next);
-    put_each(&first, &next, count as usize, out, used)
+    put_each(&first, &next, count as usize, to, out, used)
 }
 
 // Puts the first child and the next sibling of each node below `count` into its place.
 fn read_links(arena: &[u8], count: u32, first: &mut [usize], next: &mut [usize]) {
-    let mut n: u32 = 0;
-    while n < count {
+    for n in 0..count {
         set_links(prim_graph::node(arena, n), n as usize, first, next);
-        n += 1;
     }
 }
 
@@ -43,34 +47,43 @@ fn set(links: &mut [usize], n: usize, link: u32) {
 }
 
 // The lists of the first `count` nodes.
-fn put_each(first: &[usize], next: &[usize], count: usize, out: &mut [u8], used: usize) -> usize {
+fn put_each<W: Write>(
+    first: &[usize],
+    next: &[usize],
+    count: usize,
+    to: &mut W,
+    out: &mut [u8],
+    used: usize,
+) -> usize {
     let mut end = used;
-    let mut n: usize = 0;
-    while n < count {
+    for n in 0..count {
         if first.len() <= n {
             return end;
         }
-        let start = put_between(out, end, n, b";");
-        end = put_list(first[n], next, out, start);
-        n += 1;
+        let start = put_between(to, out, end, n, b";");
+        end = put_list(first[n], next, to, out, start);
     }
     end
 }
 
 // The list that starts with `first`. A number that is no place of `next` is no node and ends it; a
 // list has no more nodes than `next` places.
-fn put_list(first: usize, next: &[usize], out: &mut [u8], used: usize) -> usize {
+fn put_list<W: Write>(
+    first: usize,
+    next: &[usize],
+    to: &mut W,
+    out: &mut [u8],
+    used: usize,
+) -> usize {
     let mut end = used;
     let mut child = first;
-    let mut left = next.len();
-    while 0 < left {
+    for before in 0..next.len() {
         if next.len() <= child {
             return end;
         }
-        let start = put_between(out, end, next.len() - left, b",");
-        end = put_number(out, start, child as u64);
+        let start = put_between(to, out, end, before, b",");
+        end = put_number(to, out, start, child as u64);
         child = next[child];
-        left -= 1;
     }
     end
 }

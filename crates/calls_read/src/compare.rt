@@ -1,6 +1,7 @@
 // The lines that compare nodes, or put the questions that the comparison puts.
 use calls_text::{Answered, Number, bad_line, is_call, put, put_refusal, read_number, word};
 use model::{Ordering, OrderingResult};
+use std::io::Write;
 
 // The two nodes of a line, or that a word is no number.
 #[derive(Clone, Copy)]
@@ -10,17 +11,23 @@ pub(crate) enum Pair {
 }
 
 // The answer to a line that compares nodes.
-pub fn answer(line: &[u8], arena: &[u8], out: &mut [u8], used: usize) -> Answered {
+pub fn answer<W: Write>(
+    line: &[u8],
+    arena: &[u8],
+    to: &mut W,
+    out: &mut [u8],
+    used: usize,
+) -> Answered {
     if is_call(line, b"compare", 3) {
-        return Answered::Used(compare_line(line, arena, out, used));
+        return Answered::Used(compare_line(line, arena, to, out, used));
     }
     if is_call(line, b"sibling", 3) {
-        return Answered::Used(sibling_line(line, arena, out, used));
+        return Answered::Used(sibling_line(line, arena, to, out, used));
     }
     if is_call(line, b"compares", 1) {
-        return Answered::Used(crate::rows::compares_line(arena, out, used));
+        return Answered::Used(crate::rows::compares_line(arena, to, out, used));
     }
-    crate::relations::answer(line, arena, out, used)
+    crate::relations::answer(line, arena, to, out, used)
 }
 
 pub(crate) fn read_pair(line: &[u8]) -> Pair {
@@ -36,42 +43,61 @@ pub(crate) fn read_pair(line: &[u8]) -> Pair {
 }
 
 // `compare A B`: the strength of two nodes.
-fn compare_line(line: &[u8], arena: &[u8], out: &mut [u8], used: usize) -> usize {
+fn compare_line<W: Write>(
+    line: &[u8],
+    arena: &[u8],
+    to: &mut W,
+    out: &mut [u8],
+    used: usize,
+) -> usize {
     let pair = read_pair(line);
     match pair {
         Pair::Nodes(a, b) => put_compared(
             prim_graph::compare_node_strength(arena, a, b),
+            to,
             out,
             used,
         ),
-        Pair::Bad => bad_line(out, used),
+        Pair::Bad => bad_line(to, out, used),
     }
 }
 
 // `sibling A B`: the strength of two siblings.
-fn sibling_line(line: &[u8], arena: &[u8], out: &mut [u8], used: usize) -> usize {
+fn sibling_line<W: Write>(
+    line: &[u8],
+    arena: &[u8],
+    to: &mut W,
+    out: &mut [u8],
+    used: usize,
+) -> usize {
     let pair = read_pair(line);
     match pair {
         Pair::Nodes(a, b) => put_compared(
             prim_graph::compare_sibling_node_strength(arena, a, b),
+            to,
             out,
             used,
         ),
-        Pair::Bad => bad_line(out, used),
+        Pair::Bad => bad_line(to, out, used),
     }
 }
 
-fn put_compared(compared: OrderingResult, out: &mut [u8], used: usize) -> usize {
+fn put_compared<W: Write>(
+    compared: OrderingResult,
+    to: &mut W,
+    out: &mut [u8],
+    used: usize,
+) -> usize {
     match compared {
-        OrderingResult::As(order) => put_order(order, out, used),
-        OrderingResult::Refused(refusal) => put_refusal(out, used, refusal),
+        OrderingResult::As(order) => put_order(order, to, out, used),
+        OrderingResult::Refused(refusal) => put_refusal(to, out, used, refusal),
     }
 }
 
-fn put_order(order: Ordering, out: &mut [u8], used: usize) -> usize {
+fn put_order<W: Write>(order: Ordering, to: &mut W, out: &mut [u8], used: usize) -> usize {
     match order {
-        Ordering::Less => put(out, used, b"Less"),
-        Ordering::Equal => put(out, used, b"Equal"),
-        Ordering::Greater => put(out, used, b"Greater"),
+        Ordering::Less => put(to, out, used, b"Less"),
+        Ordering::Equal => put(to, out, used, b"Equal"),
+        Ordering::Greater => put(to, out, used, b"Greater"),
     }
 }

@@ -5,85 +5,118 @@ use calls_text::{
 };
 use model::NumberResult;
 use prim_graph::GraphRead;
+use std::io::Write;
 
 // The answer to a line that looks at the whole graph, or at its nodes.
-pub fn answer(line: &[u8], arena: &[u8], out: &mut [u8], used: usize) -> Answered {
+pub fn answer<W: Write>(
+    line: &[u8],
+    arena: &[u8],
+    to: &mut W,
+    out: &mut [u8],
+    used: usize,
+) -> Answered {
     if is_call(line, b"write", 1) {
-        return Answered::Used(write_line(arena, out, used));
+        return Answered::Used(write_line(arena, to, out, used));
     }
     if is_call(line, b"marks", 1) {
-        return Answered::Used(marks_line(arena, out, used));
+        return Answered::Used(marks_line(arena, to, out, used));
     }
-    answer_of_nodes(line, arena, out, used)
+    answer_of_nodes(line, arena, to, out, used)
 }
 
 // The answer to a line that looks at every node, or at one.
-fn answer_of_nodes(line: &[u8], arena: &[u8], out: &mut [u8], used: usize) -> Answered {
+fn answer_of_nodes<W: Write>(
+    line: &[u8],
+    arena: &[u8],
+    to: &mut W,
+    out: &mut [u8],
+    used: usize,
+) -> Answered {
     if is_call(line, b"dump", 1) {
-        return Answered::Used(crate::records::dump_line(arena, out, used));
+        return Answered::Used(crate::records::dump_line(arena, to, out, used));
     }
     if is_call(line, b"chains", 1) {
-        return Answered::Used(crate::children::chains_line(arena, out, used));
+        return Answered::Used(crate::children::chains_line(arena, to, out, used));
     }
-    answer_of_node(line, arena, out, used)
+    answer_of_node(line, arena, to, out, used)
 }
 
 // The answer to a line that looks at one node.
-fn answer_of_node(line: &[u8], arena: &[u8], out: &mut [u8], used: usize) -> Answered {
+fn answer_of_node<W: Write>(
+    line: &[u8],
+    arena: &[u8],
+    to: &mut W,
+    out: &mut [u8],
+    used: usize,
+) -> Answered {
     if is_call(line, b"using", 3) {
-        return Answered::Used(using_line(line, arena, out, used));
+        return Answered::Used(using_line(line, arena, to, out, used));
     }
     if is_call(line, b"below", 2) {
-        return Answered::Used(below_line(line, arena, out, used));
+        return Answered::Used(below_line(line, arena, to, out, used));
     }
     if is_call(line, b"due", 2) {
-        return Answered::Used(due_line(line, arena, out, used));
+        return Answered::Used(due_line(line, arena, to, out, used));
     }
-    answer_of_introduction(line, arena, out, used)
+    answer_of_introduction(line, arena, to, out, used)
 }
 
 // The answer to a line about a path where a node was introduced.
-fn answer_of_introduction(line: &[u8], arena: &[u8], out: &mut [u8], used: usize) -> Answered {
+fn answer_of_introduction<W: Write>(
+    line: &[u8],
+    arena: &[u8],
+    to: &mut W,
+    out: &mut [u8],
+    used: usize,
+) -> Answered {
     if is_call(line, b"intro", 2) {
-        return Answered::Used(intro_line(line, arena, out, used));
+        return Answered::Used(intro_line(line, arena, to, out, used));
     }
     if is_call(line, b"introduced", 2) {
-        return Answered::Used(introduced_line(line, arena, out, used));
+        return Answered::Used(introduced_line(line, arena, to, out, used));
     }
     Answered::Unknown
 }
 
 // `write`: the snapshot.
-fn write_line(arena: &[u8], out: &mut [u8], used: usize) -> usize {
+fn write_line<W: Write>(arena: &[u8], to: &mut W, out: &mut [u8], used: usize) -> usize {
     let mut snapshot = io::large_buffer();
     let written = prim_graph::write_snapshot(arena, &mut snapshot);
     match written {
-        NumberResult::Number(length) => put_bytes(out, used, front(&snapshot, length as usize)),
-        NumberResult::Refused(refusal) => put_refusal(out, used, refusal),
+        NumberResult::Number(length) => put_bytes(to, out, used, front(&snapshot, length as usize)),
+        NumberResult::Refused(refusal) => put_refusal(to, out, used, refusal),
     }
 }
 
 // `marks`: ordered, finalized, shallow.
-fn marks_line(arena: &[u8], out: &mut [u8], used: usize) -> usize {
+fn marks_line<W: Write>(arena: &[u8], to: &mut W, out: &mut [u8], used: usize) -> usize {
     let read = prim_graph::graph_info(arena);
     match read {
         GraphRead::Graph(graph) => put_marks(
             graph.ordered,
             graph.finalized,
             graph.shallow,
+            to,
             out,
             used,
         ),
-        GraphRead::Refused(refusal) => put_refusal(out, used, refusal),
+        GraphRead::Refused(refusal) => put_refusal(to, out, used, refusal),
     }
 }
 
-fn put_marks(ordered: bool, finalized: bool, shallow: bool, out: &mut [u8], used: usize) -> usize {
+fn put_marks<W: Write>(
+    ordered: bool,
+    finalized: bool,
+    shallow: bool,
+    to: &mut W,
+    out: &mut [u8],
+    used: usize,
+) -> usize {
     let first = mark(ordered);
     let second = mark(finalized);
     let third = mark(shallow);
     let marks = [first, b' ', second, b' ', third];
-    put(out, used, &marks)
+    put(to, out, used, &marks)
 }
 
 fn mark(set: bool) -> u8 {
@@ -94,51 +127,80 @@ fn mark(set: bool) -> u8 {
 }
 
 // `using STACK PATH`: the node that uses the site, or `-`.
-fn using_line(line: &[u8], arena: &[u8], out: &mut [u8], used: usize) -> usize {
+fn using_line<W: Write>(
+    line: &[u8],
+    arena: &[u8],
+    to: &mut W,
+    out: &mut [u8],
+    used: usize,
+) -> usize {
     let read = read_number(word(line, 1));
     let Number::Value(stack) = read else {
-        return bad_line(out, used);
+        return bad_line(to, out, used);
     };
     let found = prim_graph::node_using_site(arena, stack, word(line, 2));
-    put_found(out, used, found)
+    put_found(to, out, used, found)
 }
 
 // `below N`: the node's depth below its introduction.
-fn below_line(line: &[u8], arena: &[u8], out: &mut [u8], used: usize) -> usize {
+fn below_line<W: Write>(
+    line: &[u8],
+    arena: &[u8],
+    to: &mut W,
+    out: &mut [u8],
+    used: usize,
+) -> usize {
     let read = read_number(word(line, 1));
     let Number::Value(n) = read else {
-        return bad_line(out, used);
+        return bad_line(to, out, used);
     };
-    put_numbered(out, used, prim_graph::depth_below_introduction(arena, n))
+    put_numbered(
+        to,
+        out,
+        used,
+        prim_graph::depth_below_introduction(arena, n),
+    )
 }
 
 // `intro N`: the node's path at its introduction.
-fn intro_line(line: &[u8], arena: &[u8], out: &mut [u8], used: usize) -> usize {
+fn intro_line<W: Write>(
+    line: &[u8],
+    arena: &[u8],
+    to: &mut W,
+    out: &mut [u8],
+    used: usize,
+) -> usize {
     let read = read_number(word(line, 1));
     let Number::Value(n) = read else {
-        return bad_line(out, used);
+        return bad_line(to, out, used);
     };
     let mut path = [0u8; 255];
     let found = prim_graph::path_at_introduction(arena, n, &mut path);
-    put_path(out, used, found, &path)
+    put_path(to, out, used, found, &path)
 }
 
 // `introduced N`: the path of the site that introduced the node.
-fn introduced_line(line: &[u8], arena: &[u8], out: &mut [u8], used: usize) -> usize {
+fn introduced_line<W: Write>(
+    line: &[u8],
+    arena: &[u8],
+    to: &mut W,
+    out: &mut [u8],
+    used: usize,
+) -> usize {
     let read = read_number(word(line, 1));
     let Number::Value(n) = read else {
-        return bad_line(out, used);
+        return bad_line(to, out, used);
     };
     let mut path = [0u8; 255];
     let found = prim_graph::intro_path(arena, n, &mut path);
-    put_path(out, used, found, &path)
+    put_path(to, out, used, found, &path)
 }
 
 // `due N`: whether the node was introduced above this prim.
-fn due_line(line: &[u8], arena: &[u8], out: &mut [u8], used: usize) -> usize {
+fn due_line<W: Write>(line: &[u8], arena: &[u8], to: &mut W, out: &mut [u8], used: usize) -> usize {
     let read = read_number(word(line, 1));
     let Number::Value(n) = read else {
-        return bad_line(out, used);
+        return bad_line(to, out, used);
     };
-    put_tested(out, used, prim_graph::is_due_to_ancestor(arena, n))
+    put_tested(to, out, used, prim_graph::is_due_to_ancestor(arena, n))
 }

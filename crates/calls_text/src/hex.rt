@@ -2,6 +2,7 @@
 ghost use Rattle.std.specs.Prelude.{◌≤◌};
 
 use crate::output::put;
+use std::io::Write;
 
 // How many bytes a word gave, or that it is none of pairs.
 #[derive(Clone, Copy)]
@@ -76,20 +77,18 @@ fn letter(number: u8) -> u8 {
     b'-'
 }
 
-fn put_pair(out: &mut [u8], used: usize, byte: u8) -> usize {
+fn put_pair<W: Write>(to: &mut W, out: &mut [u8], used: usize, byte: u8) -> usize {
     let high = letter(byte / 16);
     let low = letter(byte % 16);
     let digits = [high, low];
-    put(out, used, &digits)
+    put(to, out, used, &digits)
 }
 
 // Puts two digits for each byte, and answers how many bytes of `out` are then used.
-pub fn put_bytes(out: &mut [u8], used: usize, bytes: &[u8]) -> usize {
+pub fn put_bytes<W: Write>(to: &mut W, out: &mut [u8], used: usize, bytes: &[u8]) -> usize {
     let mut end = used;
-    let mut i: usize = 0;
-    while i < bytes.len() {
-        end = put_pair(out, end, bytes[i]);
-        i += 1;
+    for byte in bytes {
+        end = put_pair(to, out, end, *byte);
     }
     end
 }

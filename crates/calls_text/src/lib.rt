@@ -1,8 +1,8 @@
 // The text of the command `calls`: the words of a line and the numbers among them (words.rt), bytes
 // in hexadecimal (hex.rt), the answers that all lines share (answers.rt), the output (output.rt)
-// and the turns of its loop (input.rt). Nothing is proved of what they say, only that every
-// function is safe and ends: no public function has a `requires`, and each does nothing with a
-// number that does not fit the buffer beside it.
+// and the turns of its loop (input.rt). What is proved is where `find` stops, and else only that
+// every function is safe and ends: no public function has a `requires`, and each does nothing with
+// a number that does not fit the buffer beside it.
 #![tactic(auto)]
 
 mod answers;
@@ -18,4 +18,6 @@ pub use answers::{
 pub use hex::{Bytes, put_bytes, read_bytes};
 pub use input::turns_left;
 pub use output::{flush, front, put, put_between, put_number};
-pub use words::{Number, ShortNumber, is_call, is_dash, read_number, read_short_number, word};
+pub use words::{
+    Number, ShortNumber, find, is_call, is_dash, read_number, read_short_number, word,
+};

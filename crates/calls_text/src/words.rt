@@ -1,5 +1,5 @@
 // The words of a line, parted by single spaces, and the numbers among them.
-ghost use Rattle.std.specs.Prelude.{◌≤◌, length};
+ghost use Rattle.std.specs.Prelude.{◌≡◌, ◌≢◌, ℕ, ◌<◌, ◌≤◌, length, slice_index};
 
 // A number that fits 32 bits, or a word that is none.
 #[derive(Clone, Copy)]
@@ -23,20 +23,33 @@ pub fn is_dash(word: &[u8]) -> bool {
     word[0] == b'-'
 }
 
+// The place of the first `byte` from `from` on; the end of `bytes` where there is none.
+pub fn find(bytes: &[u8], from: usize, byte: u8) -> usize
+    ensures start { from ≤ length bytes.now → from ≤ result }
+    ensures end { result ≤ length bytes.now }
+    ensures first { (k : ℕ) → from ≤ k → k < result → slice_index bytes.now k ≢ byte }
+    ensures found { result < length bytes.now → slice_index bytes.now result ≡ byte }
+{
+    for i in from..bytes.len() {
+        if bytes[i] == byte {
+            return i;
+        }
+    }
+    bytes.len()
+}
+
 // Whether `name` stands at the line's front, with a space or nothing after it.
 fn begins(line: &[u8], name: &[u8]) -> bool {
     if line.len() < name.len() {
         return false;
     }
-    let mut i: usize = 0;
-    while i < name.len() {
+    for i in 0..name.len() {
         if line[i] != name[i] {
             return false;
         }
-        i += 1;
     }
-    if i < line.len() {
-        return line[i] == b' ';
+    if name.len() < line.len() {
+        return line[name.len()] == b' ';
     }
     true
 }
@@ -47,7 +60,7 @@ fn count(line: &[u8]) -> usize {
     let mut words: usize = 0;
     let mut at: usize = 0;
     while at <= line.len() {
-        let end = bytes::scan::find(line, at, line.len(), b' ');
+        let end = find(line, at, b' ');
         if end == at {
             return 0;
         }
@@ -72,7 +85,7 @@ fn start(line: &[u8], before: usize) -> usize
     let mut at: usize = 0;
     let mut left = before;
     while 0 < left {
-        let end = bytes::scan::find(line, at, line.len(), b' ');
+        let end = find(line, at, b' ');
         if end == line.len() {
             return end;
         }
@@ -85,7 +98,7 @@ fn start(line: &[u8], before: usize) -> usize
 // The word with `before` words before it: no bytes where there are fewer.
 pub fn word(line: &[u8], before: usize) -> &[u8] {
     let at = start(line, before);
-    let end = bytes::scan::find(line, at, line.len(), b' ');
+    let end = find(line, at, b' ');
     &line[at..end]
 }
 
@@ -110,14 +123,12 @@ pub fn read_number(word: &[u8]) -> Number {
         return Number::Bad;
     }
     let mut value: u32 = 0;
-    let mut i: usize = 0;
-    while i < word.len() {
-        let next = with_digit(value, word[i]);
+    for digit in word {
+        let next = with_digit(value, *digit);
         let Number::Value(number) = next else {
             return Number::Bad;
         };
         value = number;
-        i += 1;
     }
     Number::Value(value)
 }

@@ -1,54 +1,69 @@
 // The lines on sets of nodes that may be erased.
 use calls_text::{bad_line, put_number, put_numbered, put_refusal, word};
 use model::{NumberResult, UnitResult};
+use std::io::Write;
 
 // `erasable`: a digit for each node, 1 for one that may go.
-pub(crate) fn erasable_line(arena: &[u8], out: &mut [u8], used: usize) -> usize {
+pub(crate) fn erasable_line<W: Write>(
+    arena: &[u8],
+    to: &mut W,
+    out: &mut [u8],
+    used: usize,
+) -> usize {
     let mut set = [0u8; 1024];
     let found = prim_graph::erasable(arena, &mut set);
     match found {
-        UnitResult::Done => put_set(&set, prim_graph::count(arena), out, used),
-        UnitResult::Refused(refusal) => put_refusal(out, used, refusal),
+        UnitResult::Done => put_set(&set, prim_graph::count(arena), to, out, used),
+        UnitResult::Refused(refusal) => put_refusal(to, out, used, refusal),
     }
 }
 
-fn put_byte(out: &mut [u8], used: usize, byte: u8) -> usize {
-    put_number(out, used, byte as u64)
+fn put_byte<W: Write>(to: &mut W, out: &mut [u8], used: usize, byte: u8) -> usize {
+    put_number(to, out, used, byte as u64)
 }
 
 // The bytes of the first nodes, as many as were counted.
-fn put_set(set: &[u8], counted: NumberResult, out: &mut [u8], used: usize) -> usize {
+fn put_set<W: Write>(
+    set: &[u8],
+    counted: NumberResult,
+    to: &mut W,
+    out: &mut [u8],
+    used: usize,
+) -> usize {
     let NumberResult::Number(count) = counted else {
         return used;
     };
     let mut end = used;
-    let mut n: u32 = 0;
-    while n < count {
+    for n in 0..count {
         if set.len() <= (n as usize) {
             return end;
         }
-        end = put_byte(out, end, set[n as usize]);
-        n += 1;
+        end = put_byte(to, out, end, set[n as usize]);
     }
     end
 }
 
 // `erase BITS`: how many nodes are kept. A node that has no digit stays; any digit is taken as the
 // byte that it is, so that a wrong one can be tried.
-pub(crate) fn erase_line(line: &[u8], arena: &mut [u8], out: &mut [u8], used: usize) -> usize {
+pub(crate) fn erase_line<W: Write>(
+    line: &[u8],
+    arena: &mut [u8],
+    to: &mut W,
+    out: &mut [u8],
+    used: usize,
+) -> usize {
     let mut set = [0u8; 1024];
     if !read_set(word(line, 1), &mut set) {
-        return bad_line(out, used);
+        return bad_line(to, out, used);
     }
     let erased = prim_graph::erase(arena, &set);
-    put_numbered(out, used, erased)
+    put_numbered(to, out, used, erased)
 }
 
 // Reads a digit for each node, and answers whether there are digits only, and not more than the set
 // has bytes.
 fn read_set(digits: &[u8], set: &mut [u8]) -> bool {
-    let mut i: usize = 0;
-    while i < digits.len() {
+    for i in 0..digits.len() {
         let digit = digits[i];
         if digit < b'0' {
             return false;
@@ -60,7 +75,6 @@ fn read_set(digits: &[u8], set: &mut [u8]) -> bool {
             return false;
         }
         set[i] = digit - b'0';
-        i += 1;
     }
     true
 }

@@ -1,6 +1,6 @@
 // The eleven numbers of an `add` line, in the order of the line: parent, arc, flags, stack, layer,
 // origin, depth, sibling, restriction, spec_from, has-specs.
-use calls_text::{Number, is_dash, read_number};
+use calls_text::{Number, find, is_dash, read_number};
 use model::{NodeId, NodeOption, U16Option};
 use prim_graph::NodeDesc;
 
@@ -49,20 +49,18 @@ fn read_field(word: &[u8], k: usize) -> Field {
 // Fills `numbers` from the words after the first, and answers whether each is a number of its
 // field.
 pub(crate) fn read(line: &[u8], numbers: &mut [u64]) -> bool {
-    let mut at = bytes::scan::find(line, 0, line.len(), b' ');
-    let mut k: usize = 0;
-    while k < numbers.len() {
+    let mut at = find(line, 0, b' ');
+    for k in 0..numbers.len() {
         if at == line.len() {
             return false;
         }
         let start = at + 1;
-        at = bytes::scan::find(line, start, line.len(), b' ');
+        at = find(line, start, b' ');
         let field = read_field(&line[start..at], k);
         let Field::Value(number) = field else {
             return false;
         };
         numbers[k] = number;
-        k += 1;
     }
     true
 }

@@ -9,52 +9,55 @@
 
 use command_io::Input;
 use model::{NumberResult, Refusal, UnitResult};
+use std::io::Write;
 
 // What fails and what is printed, under the command's name.
-fn complain(what: &[u8]) {
-    command_io::complain(b"order", what);
+fn complain<E: Write>(err: &mut E, what: &[u8]) {
+    command_io::complain(err, b"order", what);
 }
 
-fn print(text: &[u8]) {
-    command_io::print(b"order", text);
+fn print<W: Write, E: Write>(out: &mut W, err: &mut E, text: &[u8]) {
+    command_io::print(out, err, b"order", text);
 }
 
-fn print_refusal(refusal: Refusal) {
-    command_io::print_refusal(b"order", refusal);
+fn print_refusal<W: Write, E: Write>(out: &mut W, err: &mut E, refusal: Refusal) {
+    command_io::print_refusal(out, err, b"order", refusal);
 }
 
 // Prints the listing of an ordered graph.
-fn print_listing(arena: &[u8]) {
+fn print_listing<W: Write, E: Write>(out: &mut W, err: &mut E, arena: &[u8]) {
     let mut text = command_io::zeros();
     let listed = listing::write_listing(arena, &mut text);
     match listed {
-        NumberResult::Number(length) => print(&text[..length as usize]),
-        NumberResult::Refused(refusal) => print_refusal(refusal),
+        NumberResult::Number(length) => print(out, err, &text[..length as usize]),
+        NumberResult::Refused(refusal) => print_refusal(out, err, refusal),
     }
 }
 
 // Orders the graph of a snapshot and prints it.
-fn order(snapshot: &[u8]) {
+fn order<W: Write, E: Write>(out: &mut W, err: &mut E, snapshot: &[u8]) {
     let mut arena = command_io::zeros();
     let read = prim_graph::read_snapshot(&mut arena, snapshot);
     if let NumberResult::Refused(refusal) = read {
-        print_refusal(refusal);
+        print_refusal(out, err, refusal);
         return;
     }
     let ordered = prim_graph::finalize_strength_order(&mut arena);
     if let UnitResult::Refused(refusal) = ordered {
-        print_refusal(refusal);
+        print_refusal(out, err, refusal);
         return;
     }
-    print_listing(&arena);
+    print_listing(out, err, &arena);
 }
 
-fn main() {
+fn main(rt: HostRuntime) {
+    let mut out = rt.stdout();
+    let mut err = rt.stderr();
     let mut bytes = io::large_buffer();
-    let input = command_io::read_input(&mut bytes);
+    let input = command_io::read_input(&mut rt.stdin(), &mut bytes);
     match input {
-        Input::Held(count) => order(&bytes[..count]),
-        Input::Long => print_refusal(Refusal::Snapshot),
-        Input::Failed => complain(b": standard input cannot be read\n"),
+        Input::Held(count) => order(&mut out, &mut err, &bytes[..count]),
+        Input::Long => print_refusal(&mut out, &mut err, Refusal::Snapshot),
+        Input::Failed => complain(&mut err, b": standard input cannot be read\n"),
     }
 }

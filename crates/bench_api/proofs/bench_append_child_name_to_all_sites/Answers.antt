@@ -1,5 +1,4 @@
 -- `bench_append_child_name_to_all_sites` meets its contract. Assumes nothing.
-use borrow.Author.Rules.{rules}
 use Rattle.c_api.proofs.FinishLaws.{append-value, finishes-carried}
 use Rattle.bench_api.proofs.bench_append_child_name_to_all_sites.Goals as goal
 

@@ -1,5 +1,4 @@
 -- `bench_cull` meets its contract. Assumes nothing.
-use borrow.Author.Rules.{rules}
 use Rattle.c_api.proofs.FinishLaws.{cull-value, finishes-carried}
 use Rattle.bench_api.proofs.bench_cull.Goals as goal
 

@@ -1,5 +1,4 @@
 -- `bench_finalize_strength_order` meets its contract. Assumes nothing.
-use borrow.Author.Rules.{rules}
 use Rattle.c_api.proofs.FinishLaws.{finalize-value, finishes-carried}
 use Rattle.bench_api.proofs.bench_finalize_strength_order.Goals as goal
 

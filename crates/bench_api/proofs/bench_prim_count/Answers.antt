@@ -1,5 +1,4 @@
 -- `bench_prim_count` meets its contract, case by case. Assumes nothing.
-use borrow.Author.Rules.{rules}
 use mathlib.Core.Path.{ap, sym, ◌∙◌}
 use Rattle.bench_api.specs.Numbers.{count_number}
 use Rattle.bench_api.proofs.bench_prim_count.Goals as goal

@@ -1,5 +1,4 @@
 -- `bench_seed_child` meets its contract. Assumes nothing.
-use borrow.Author.Rules.{rules}
 use Rattle.c_api.proofs.FinishLaws.{finishes-carried}
 use Rattle.bench_api.proofs.ReadLaws.{seed-value}
 use Rattle.bench_api.proofs.bench_seed_child.Goals as goal

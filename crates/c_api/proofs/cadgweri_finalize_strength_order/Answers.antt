@@ -1,5 +1,4 @@
 -- `cadgweri_finalize_strength_order` meets its contract. Assumes nothing.
-use borrow.Author.Rules.{rules}
 use Rattle.c_api.proofs.FinishLaws.{finalize-value, finishes-carried}
 use Rattle.c_api.proofs.cadgweri_finalize_strength_order.Goals as goal
 

@@ -1,5 +1,4 @@
 -- `bench_get_propagated_specializes_node` meets its contract. Assumes nothing.
-use borrow.Author.Rules.{rules}
 use Rattle.bench_api.proofs.ReadLaws.{found_number}
 use Rattle.bench_api.proofs.reading.bench_get_propagated_specializes_node.Goals as goal
 

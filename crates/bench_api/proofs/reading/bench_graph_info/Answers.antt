@@ -1,5 +1,4 @@
 -- `bench_graph_info` meets its contract, case by case. Assumes nothing.
-use borrow.Author.Rules.{rules}
 use mathlib.Core.Path.{sym, ap, ◌∙◌}
 use Rattle.model.specs.Answers.{node_number}
 use Rattle.nodes.specs.Queries.{graph_read_refusal, graph_read_value}
@@ -11,7 +10,7 @@ returns-in-Graph c =
     let answer = c.graph_info-read.ensures in
     let case = c.in-Graph.is in
     accepted-number (sym (ap graph_read_refusal case) ∙ answer.refused)
-    (c.number.ensures ∙ ap node_number (answer.graph _ (ap graph_read_value case)).local_root)
+    (c.number.ensures ∙ ap node_number (answer.graph _ (ap graph_read_value case)).local-root)
 
 pub returns-in-Refused : goal.returns-in-Refused
 returns-in-Refused c =

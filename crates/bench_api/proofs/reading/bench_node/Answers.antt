@@ -1,5 +1,4 @@
 -- `bench_node` meets its contract, case by case. Assumes nothing.
-use borrow.Author.Rules.{rules}
 use mathlib.Core.Path.{sym, ap, ◌∙◌}
 use Rattle.nodes.specs.Queries.{node_read_refusal, node_read_value}
 use Rattle.bench_api.proofs.ReadLaws.{accepted-number, refused-number}
@@ -9,7 +8,7 @@ pub returns-in-Node : goal.returns-in-Node
 returns-in-Node c =
     let answer = c.node-read.ensures in
     let case = c.in-Node.is in
-    accepted-number (sym (ap node_read_refusal case) ∙ answer.refused) (answer.node _ (ap node_read_value case)).first_child
+    accepted-number (sym (ap node_read_refusal case) ∙ answer.refused) (answer.node _ (ap node_read_value case)).first-child
 
 pub returns-in-Refused : goal.returns-in-Refused
 returns-in-Refused c =

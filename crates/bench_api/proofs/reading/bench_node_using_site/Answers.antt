@@ -1,5 +1,4 @@
 -- `bench_node_using_site` meets its contract. Assumes nothing.
-use borrow.Author.Rules.{rules}
 use Rattle.bench_api.proofs.ReadLaws.{found_number}
 use Rattle.bench_api.proofs.reading.bench_node_using_site.Goals as goal
 

@@ -1,5 +1,4 @@
 -- `bench_path` meets its contract: its buffer has 255 bytes. Assumes nothing.
-use borrow.Author.Rules.{rules}
 use mathlib.Core.Path.{refl}
 use lib.ListN.{replicate}
 use Rattle.model.specs.Arena.{decode}

@@ -1,5 +1,4 @@
 -- `bench_starting_node_of_class_hierarchy` meets its contract, case by case. Assumes nothing.
-use borrow.Author.Rules.{rules}
 use mathlib.Core.Path.{sym, ap, ◌∙◌}
 use Rattle.strength.specs.Hierarchies.{hierarchy_refusal, hierarchy_class}
 use Rattle.bench_api.proofs.ReadLaws.{accepted-number, refused-number, optional-number}

@@ -1,5 +1,4 @@
 -- `bench_mark` meets its contract. Assumes nothing.
-use borrow.Author.Rules.{rules}
 use Rattle.c_api.proofs.FinishLaws.{mark-value, finishes-carried}
 use Rattle.bench_api.proofs.setting.bench_mark.Goals as goal
 

@@ -1,5 +1,4 @@
 -- `bench_set_first_spec` meets its contract. Assumes nothing.
-use borrow.Author.Rules.{rules}
 use Rattle.c_api.proofs.FinishLaws.{first-spec-value, finishes-carried}
 use Rattle.bench_api.proofs.setting.bench_set_first_spec.Goals as goal
 

@@ -1,5 +1,4 @@
 -- `bench_set_has_specs` meets its contract. Assumes nothing.
-use borrow.Author.Rules.{rules}
 use Rattle.c_api.proofs.FinishLaws.{has-specs-value, finishes-carried}
 use Rattle.bench_api.proofs.setting.bench_set_has_specs.Goals as goal
 

@@ -1,5 +1,4 @@
 -- `bench_set_restriction_depth` meets its contract. Assumes nothing.
-use borrow.Author.Rules.{rules}
 use Rattle.c_api.proofs.FinishLaws.{restriction-value, finishes-carried}
 use Rattle.bench_api.proofs.setting.bench_set_restriction_depth.Goals as goal
 

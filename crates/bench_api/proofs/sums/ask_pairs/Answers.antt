@@ -2,7 +2,7 @@
 -- refused. The measure is what is left of the pairs. Assumes nothing.
 use native.Mathlib.Omega.{arith}
 use mathlib.Core.Path.{◌≡◌, refl, sym, ap, ◌∙◌}
-use Prim.Native.Nat.{◌-◌, ◌/◌, ◌≤◌}
+use Prim.Native.Nat.{◌/◌}
 use lib.ListN.{length}
 use Rattle.bench_api.specs.Pairs.{pair_refused, pairs_refused}
 use Rattle.bench_api.proofs.PairLaws.{one-more-asked, refusal-stays}

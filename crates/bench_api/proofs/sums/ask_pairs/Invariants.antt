@@ -1,11 +1,8 @@
 -- `ask_pairs` meets its contract. The invariant of its loop: none of the first `i` pairs is
 -- refused. The measure is what is left of the pairs. Assumes nothing.
-use native.Mathlib.Omega.{arith}
-use mathlib.Core.Path.{◌≡◌, refl, sym, ap, ◌∙◌}
-use Prim.Native.Nat.{◌-◌, ◌/◌, ◌≤◌}
-use lib.ListN.{length}
+use mathlib.Core.Path.{◌≡◌}
+use Prim.Native.Nat.{◌-◌, ◌≤◌}
 use Rattle.bench_api.specs.Pairs.{pair_refused, pairs_refused}
-use Rattle.bench_api.proofs.PairLaws.{one-more-asked, refusal-stays}
 use Rattle.bench_api.proofs.sums.ask_pairs.Given as goal
 
 abbrev pub invariant-loop-i : goal.invariant-loop-i

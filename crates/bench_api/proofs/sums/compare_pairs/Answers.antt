@@ -1,5 +1,4 @@
 -- `compare_pairs` meets its contract. Assumes nothing.
-use borrow.Author.Rules.{rules}
 use mathlib.Core.Path.{◌∙◌}
 use Rattle.bench_api.proofs.PairLaws.{refused-number, not-refused, sum_number}
 use Rattle.bench_api.proofs.sums.compare_pairs.Goals as goal

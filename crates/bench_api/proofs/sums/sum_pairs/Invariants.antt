@@ -1,13 +1,9 @@
 -- `sum_pairs` meets its contract. The invariant of its loop: `sum` is the sum of the first `i`
 -- pairs, each of which adds less than 256. The measure is what is left of the pairs. Assumes
 -- nothing.
-use borrow.Author.Rules.{rules}
-use native.Mathlib.Omega.{arith}
-use mathlib.Core.Path.{◌≡◌, refl, ap, ap₂, ◌∙◌}
-use Prim.Native.Nat.{◌*◌, ◌-◌, ◌/◌, ◌≤◌}
-use lib.ListN.{length}
-use Rattle.bench_api.specs.Pairs.{pair_refused, comparison, pair_sum}
-use Rattle.bench_api.proofs.PairLaws.{passed, each-passed, one-more-added}
+use mathlib.Core.Path.{◌≡◌}
+use Prim.Native.Nat.{◌*◌, ◌-◌, ◌≤◌}
+use Rattle.bench_api.specs.Pairs.{comparison, pair_sum}
 use Rattle.bench_api.proofs.sums.sum_pairs.Given as goal
 
 abbrev pub invariant-loop-i : goal.invariant-loop-i

@@ -1,5 +1,4 @@
 -- `carry_finish` meets its contract, case by case. Assumes nothing.
-use borrow.Author.Rules.{rules}
 use mathlib.Core.Path.{sym, ap, ◌∙◌}
 use Rattle.c_api.specs.Carried.{carried_finish}
 use Rattle.c_api.proofs.carried.carry_finish.Goals as goal

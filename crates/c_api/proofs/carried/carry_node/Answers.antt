@@ -1,5 +1,4 @@
 -- `carry_node` meets its contract, case by case. Assumes nothing.
-use borrow.Author.Rules.{rules}
 use mathlib.Core.Path.{sym, ap, ◌∙◌}
 use Rattle.c_api.specs.Carried.{carried_node}
 use Rattle.c_api.proofs.carried.carry_node.Goals as goal

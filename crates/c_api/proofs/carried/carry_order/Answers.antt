@@ -1,5 +1,4 @@
 -- `carry_order` meets its contract, case by case. Assumes nothing.
-use borrow.Author.Rules.{rules}
 use mathlib.Core.Path.{sym, ap, ◌∙◌}
 use native.Mathlib.Nat.{zero-add}
 use Rattle.c_api.specs.Carried.{carried_order}

@@ -1,13 +1,28 @@
--- `read_input` is safe and ends, and what it answers lies within the buffer. The loop's invariant:
--- the buffer keeps its length, and holds what was read. The measure is what is left of the buffer.
--- Assumes nothing.
-use Prim.Native.Nat.{◌-◌, ◌≤◌}
-use mathlib.Core.Path.{◌≡◌}
-use borrow.Author.Rules.{rules}
-use lib.ListN.{length}
-use Rattle.command_io.proofs.InputLaws.{held_more}
+-- What a read put behind what is held is what it took from the input.
+use Rattle.std.proofs.Common.{◌≡◌, ℕ, ◌+◌, ◌-◌, ◌≤◌, List, ◌++◌, rules, arith, length, take, slice_range, sym, ap, ◌∙◌, subst, le_refl, drop_at, length-take-le}
+use Rattle.std.proofs.lemmas.Slice.{take-put_mid_below}
+use Rattle.std.specs.Io.KnownBytes.{Consumes}
+use Rattle.std.proofs.KnownBytes.{Consumes-trans}
+use borrow.Rule.Slice.PartMut.{put_mid, post_of}
+use lib.Seq.{take-add, take-append-le}
 use Rattle.command_io.proofs.input.read_input.Goals as goal
 
-pub returns : goal.returns
-returns c =
-    held_more c.loop-held.held (length c.args.bytes.now) c.read_end.result c.loop-held.invariant.1 c.read_end.ensures
+take_split : (a b : ℕ) (old new : List ℕ) → a ≤ b → take a new ≡ take a old → take a old ++ slice_range new a b ≡ take b new
+take_split a b old new h front =
+    let same : a + (b - a) ≡ b = omega arith in
+    ap (λ l. l ++ slice_range new a b) (sym front) ∙ sym (take-add a (b - a) new) ∙ ap (λ n. take n new) same
+
+slice_range-put_mid : (a k n : ℕ) (xs ys : List ℕ) → a ≤ length xs → n ≤ length ys → slice_range (put_mid a k xs ys) a (a + n) ≡ take n ys
+slice_range-put_mid a k n xs ys within fits =
+    let same : (a + n) - a ≡ n = omega arith in
+    let after = post_of a k xs in
+    ap (take ((a + n) - a)) (drop_at (take a xs) (ys ++ after) a (length-take-le a xs within)) ∙ ap (λ m. take m (ys ++ after)) same ∙ take-append-le n ys after fits
+
+pub loop-held-preserved : goal.loop-held-preserved
+loop-held-preserved g c =
+    let held = c.loop-held.held in
+    let room = length c.loop-held.bytes - held in
+    let within = c.loop-held.invariant.1 in
+    let part = slice_range-put_mid held room c.in-Ok.count c.loop-held.bytes c.read.new.buf within c.in-Ok.ensures.bound.0 in
+    let joined = take_split held (held + c.in-Ok.count) c.loop-held.bytes (put_mid held room c.loop-held.bytes c.read.new.buf) (omega arith) (take-put_mid_below _ _ _ _ _ (le_refl _) within) in
+    (search rules, search rules, subst (Consumes _ _) (ap (λ l. take held c.loop-held.bytes ++ l) (sym part) ∙ joined) (Consumes-trans _ _ _ _ _ c.loop-held.invariant.2 c.in-Ok.ensures.bytes.0))

@@ -1,6 +1,5 @@
 -- `finalize_strength_order` meets its contract: where questions 1 to 3 pass, question 9 is left,
 -- and not put where the graph is finalized. Assumes nothing.
-use borrow.Author.Rules.{rules}
 use mathlib.Core.Path.{◌≡◌, sym, ◌∙◌}
 use Prim.Native.Nat.{◌<◌}
 use borrow.Author.Tests.{not-true, not-false}

@@ -1,5 +1,4 @@
 -- `is_ordered` meets its contract: the header's mark is the graph's. Assumes nothing.
-use borrow.Author.Rules.{rules}
 use mathlib.Core.Path.{ap, ◌∙◌}
 use Prim.Native.Nat.{ℕ}
 use lib.Dec.{eqb}

@@ -1,6 +1,5 @@
 -- `order_entry` meets its contract: where the place is that of a node, question 10 is left. Assumes
 -- nothing.
-use borrow.Author.Rules.{rules}
 use mathlib.Core.Path.{sym, ◌∙◌}
 use mathlib.Core.List.{[], ◌∷◌}
 use borrow.Author.Tests.{not-true, not-false}

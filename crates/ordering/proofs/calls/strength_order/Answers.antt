@@ -1,6 +1,5 @@
 -- `strength_order` meets its contract: question 1 of the buffer, and where questions 1 to 3 of the
 -- arena pass, question 10 is left. Assumes nothing.
-use borrow.Author.Rules.{rules}
 use mathlib.Core.Path.{◌≡◌, sym, ◌∙◌}
 use Prim.Native.Nat.{◌<◌}
 use lib.ListN.{length}

@@ -1,14 +1,13 @@
 -- `write_entries` meets its contract. The loop's invariant is `Listed`: the first n entries are
 -- written. The measure is how many are left. Assumes nothing.
-use borrow.Author.Rules.{rules}
 use mathlib.Core.Path.{sym, ap, ◌∙◌}
-use Prim.Native.Nat.{ℕ, ◌*◌, ◌-◌, ◌<◌}
+use Prim.Native.Nat.{ℕ, ◌*◌, ◌<◌}
 use native.Mathlib.Omega.{arith}
 use Rattle.model.specs.Arena.{count_in}
 use Rattle.model.specs.Bytes.{stored}
 use Rattle.model.specs.Snapshot.{big_endian}
 use Rattle.arena.proofs.ReadNodes.{has-slot}
-use Rattle.ordering.proofs.OrderEntries.{few, Listed, listed-none, listed-length, listed-all, listed_more}
+use Rattle.ordering.proofs.OrderEntries.{few, listed-none, listed-length, listed-all, listed_more}
 use Rattle.ordering.proofs.calls.write_entries.Goals as goal
 
 pub loop-n-init : goal.loop-n-init

@@ -1,8 +1,8 @@
 -- `walking::climb` meets its contract. The invariant of its loop: climbing from the node leads
 -- where climbing from the start does. The measure is the node, since a parent is lower. Assumes
 -- nothing.
-use mathlib.Core.Path.{◌≡◌, refl, sym, ap, ◌∙◌}
-use Prim.Native.Nat.{ℕ, ◌+◌, ◌≤◌}
+use mathlib.Core.Path.{refl, sym, ap, ◌∙◌}
+use Prim.Native.Nat.{ℕ, ◌+◌}
 use native.Mathlib.Omega.{arith}
 use Rattle.model.specs.Arena.{next_sibling_in}
 use Rattle.arena.specs.Slot.{parent_in, HasSlot}

@@ -1,13 +1,11 @@
 -- `walking::climb` meets its contract. The invariant of its loop: climbing from the node leads
 -- where climbing from the start does. The measure is the node, since a parent is lower. Assumes
 -- nothing.
-use mathlib.Core.Path.{◌≡◌, refl, sym, ap, ◌∙◌}
-use Prim.Native.Nat.{ℕ, ◌+◌, ◌≤◌}
-use native.Mathlib.Omega.{arith}
+use mathlib.Core.Path.{◌≡◌}
+use Prim.Native.Nat.{◌+◌, ◌≤◌}
 use Rattle.model.specs.Arena.{next_sibling_in}
-use Rattle.arena.specs.Slot.{parent_in, HasSlot}
+use Rattle.arena.specs.Slot.{parent_in}
 use Rattle.ordering.specs.Ordering.{onward}
-use Rattle.ordering.proofs.ClimbLaws.{onward-up, onward-out, onward-root}
 use Rattle.ordering.proofs.walking.climb.Given as goal
 
 abbrev pub invariant-loop-node : goal.invariant-loop-node

@@ -1,6 +1,5 @@
 -- `walking::look_ahead` meets its contract: climbing from a node leads to its sibling, or where it
 -- does from its parent. Assumes nothing.
-use borrow.Author.Rules.{rules}
 use mathlib.Core.Path.{sym, ap, ◌∙◌}
 use Prim.Native.Nat.{ℕ, ◌+◌}
 use native.Mathlib.Omega.{arith}

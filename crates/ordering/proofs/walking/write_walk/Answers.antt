@@ -2,10 +2,9 @@
 -- nodes up to it are stored, and what is kept is true. The measure is how many are left. Assumes
 -- nothing.
 use mathlib.Core.Path.{refl, sym, ◌∙◌}
-use Prim.Native.Nat.{◌-◌, ◌≤◌}
 use native.Mathlib.Omega.{arith}
-use Rattle.ordering.specs.Ordering.{Knows, Walkable}
-use Rattle.ordering.proofs.WayLaws.{walk-begun, walk-ended, Walking, walking_start, walking-climbs, walking-knows, walking-learns, walking-step, walking-end}
+use Rattle.ordering.specs.Ordering.{Walkable}
+use Rattle.ordering.proofs.WayLaws.{walk-begun, walk-ended, walking_start, walking-climbs, walking-knows, walking-learns, walking-step, walking-end}
 use Rattle.ordering.proofs.walking.write_walk.Goals as goal
 
 pub write_order_entry-requires : goal.write_order_entry-requires

@@ -1,11 +1,9 @@
 -- `walking::write_walk` meets its contract. The invariant of its loop: `at` steps lead to x, all
 -- nodes up to it are stored, and what is kept is true. The measure is how many are left. Assumes
 -- nothing.
-use mathlib.Core.Path.{refl, sym, ◌∙◌}
 use Prim.Native.Nat.{◌-◌, ◌≤◌}
-use native.Mathlib.Omega.{arith}
-use Rattle.ordering.specs.Ordering.{Knows, Walkable}
-use Rattle.ordering.proofs.WayLaws.{walk-begun, walk-ended, Walking, walking_start, walking-climbs, walking-knows, walking-learns, walking-step, walking-end}
+use Rattle.ordering.specs.Ordering.{Knows}
+use Rattle.ordering.proofs.WayLaws.{Walking}
 use Rattle.ordering.proofs.walking.write_walk.Given as goal
 
 abbrev pub invariant-loop-at : goal.invariant-loop-at

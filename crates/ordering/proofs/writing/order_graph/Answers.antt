@@ -3,7 +3,6 @@
 use mathlib.Core.Path.{sym, subst}
 use mathlib.Core.Bool.{true}
 use native.Mathlib.Omega.{arith}
-use borrow.Author.Rules.{rules}
 use Rattle.model.specs.Arena.{decode}
 use Rattle.laws.proofs.StoredLaws.{bytes-by-place}
 use Rattle.sorting.specs.Standing.{Stands}

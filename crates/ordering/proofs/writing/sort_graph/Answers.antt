@@ -2,7 +2,6 @@
 -- graph; else nothing is written. Assumes nothing.
 use mathlib.Core.Path.{refl, sym, subst, ◌∙◌}
 use Prim.Native.Nat.{ℕ}
-use borrow.Author.Rules.{rules}
 use borrow.Author.Tests.{not-true, not-false}
 use Rattle.model.specs.Arena.{decode}
 use Rattle.model.specs.Order.{sorted_children}

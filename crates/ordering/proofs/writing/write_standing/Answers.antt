@@ -3,7 +3,6 @@
 use mathlib.Core.Path.{◌≡◌, sym, ap, subst, ◌∙◌}
 use mathlib.Core.List.{List}
 use Prim.Native.Nat.{ℕ}
-use borrow.Author.Rules.{rules}
 use Rattle.laws.proofs.StoredLaws.{bytes-by-place}
 use Rattle.ordering.specs.Ordering.{Walkable, walk_stored}
 use Rattle.ordering.proofs.OrderingLaws.{Orderable, standing-has-order, linked, walkable, walk-written, links-stand}

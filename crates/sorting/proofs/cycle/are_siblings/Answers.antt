@@ -1,6 +1,5 @@
 -- `are_siblings` meets its contract: the second and the third are children of the first one's
 -- parent. Assumes nothing.
-use borrow.Author.Rules.{rules}
 use native.Mathlib.Omega.{arith}
 use mathlib.Core.Path.{sym}
 use mathlib.Core.Bool.{false≢true}
@@ -8,19 +7,19 @@ use borrow.Author.Tests.{not-false}
 use Rattle.sorting.proofs.cycle.are_siblings.Goals as goal
 
 pub returns-then-a-eq0 : goal.returns-then-a-eq0
-returns-then-a-eq0 c =
+returns-then-a-eq0 c e =
     absurd (false≢true e)
 
 pub returns-then-count-a : goal.returns-then-count-a
-returns-then-count-a c =
+returns-then-count-a c e =
     absurd (false≢true e)
 
 pub returns-then-not-is_child : goal.returns-then-not-is_child
-returns-then-not-is_child c =
+returns-then-not-is_child c e =
     absurd (false≢true e)
 
 pub returns : goal.returns
-returns c =
+returns c e =
     let some = c.if-a-eq0.false in
     record {
       parent = _;

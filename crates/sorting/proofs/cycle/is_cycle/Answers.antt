@@ -1,5 +1,4 @@
 -- `is_cycle` meets its contract: three comparisons show the cycle. Assumes nothing.
-use borrow.Author.Rules.{rules}
 use mathlib.Core.Path.{sym, ◌∙◌}
 use mathlib.Core.Bool.{false≢true}
 use borrow.Author.Tests.{not-false}
@@ -9,7 +8,7 @@ use Rattle.sorting.proofs.CycleRefutes.{siblings-pair, cycle-refutes}
 use Rattle.sorting.proofs.cycle.is_cycle.Goals as goal
 
 pub returns-then-not-are_siblings : goal.returns-then-not-are_siblings
-returns-then-not-are_siblings c =
+returns-then-not-are_siblings c e =
     absurd (false≢true e)
 
 pub is_stronger-requires : goal.is_stronger-requires
@@ -18,7 +17,7 @@ is_stronger-requires c =
     siblings-pair c.args.arena.now c.requires.0 _ three.parent _ _ c.requires.1 three.first three.second
 
 pub returns-then-not-is_stronger : goal.returns-then-not-is_stronger
-returns-then-not-is_stronger c =
+returns-then-not-is_stronger c e =
     absurd (false≢true e)
 
 pub is_stronger-requires-2 : goal.is_stronger-requires-2
@@ -27,7 +26,7 @@ is_stronger-requires-2 c =
     siblings-pair c.args.arena.now c.requires.0 _ three.parent _ _ c.requires.1 three.second three.third
 
 pub returns-then-not-is_stronger-2 : goal.returns-then-not-is_stronger-2
-returns-then-not-is_stronger-2 c =
+returns-then-not-is_stronger-2 c e =
     absurd (false≢true e)
 
 pub is_stronger-requires-3 : goal.is_stronger-requires-3
@@ -36,7 +35,7 @@ is_stronger-requires-3 c =
     siblings-pair c.args.arena.now c.requires.0 _ three.parent _ _ c.requires.1 three.third three.first
 
 pub returns : goal.returns
-returns c =
+returns c e =
     let bs = c.args.arena.now in
     let tree = tree-read bs (bytes-by-place bs (λ k. (c.type_inv.arena k).fits)) c.requires.0 in
     let three = c.are_siblings.ensures (not-false _ c.if-not-are_siblings.false-raw) in

@@ -1,5 +1,4 @@
 -- `standing::is_before` meets its contract: the first line that differs decides. Assumes nothing.
-use borrow.Author.Rules.{rules}
 use mathlib.Core.Path.{◌≡◌, sym, ap₂, ◌∙◌}
 use lib.Dec.{ltb}
 use Rattle.strength.proofs.VerdictNumbers.{read_same, read-other}

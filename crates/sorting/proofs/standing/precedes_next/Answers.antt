@@ -13,7 +13,7 @@ next_sibling-y-requires c =
     has-slot _ _ c.requires
 
 pub returns-then-y : goal.returns-then-y
-returns-then-y c =
+returns-then-y c e some =
     absurd (some (sym c.next_sibling-y.ensures ∙ c.if-y.true))
 
 pub precedes-requires : goal.precedes-requires
@@ -27,5 +27,5 @@ precedes-requires c =
     )
 
 pub returns : goal.returns
-returns c =
+returns c e some =
     subst (Precedes (view_in c.args.arena.now) c.args.x) c.next_sibling-y.ensures (c.precedes.ensures e)

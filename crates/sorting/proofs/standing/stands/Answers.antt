@@ -1,11 +1,10 @@
 -- `standing::stands` meets its contract. The invariant of its loop: each node below x that has a
 -- next sibling precedes it. The measure is how many nodes are left. Assumes nothing.
 use mathlib.Core.Bool.{false≢true}
-use Prim.Native.Nat.{◌-◌}
 use native.Mathlib.Omega.{arith}
 use borrow.Author.Tests.{not-false}
 use Rattle.laws.proofs.StoredLaws.{bytes-by-place}
-use Rattle.sorting.proofs.StandingLaws.{ValidNodeAndRoot, standing-step, standing-ends}
+use Rattle.sorting.proofs.StandingLaws.{standing-step, standing-ends}
 use Rattle.sorting.proofs.standing.stands.Goals as goal
 
 pub loop-x-init : goal.loop-x-init

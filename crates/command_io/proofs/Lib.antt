@@ -1,2 +1,0 @@
--- What was read, within its buffer.
-pub mod InputLaws
