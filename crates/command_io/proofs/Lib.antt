@@ -1,0 +1,2 @@
+-- What was read, within its buffer.
+pub mod InputLaws
