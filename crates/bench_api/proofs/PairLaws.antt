@@ -16,7 +16,7 @@ use Rattle.model.specs.Arena.{arena_bytes, count_in, local_root_in, holds_graph}
 use Rattle.model.specs.ArenaCalls.{is_arena, ValidArena, value_unless}
 use Rattle.model.specs.Refusals.{refusal}
 use Rattle.model.specs.Strength.{compare_node_strength, compare_sibling_node_strength}
-use Rattle.model.specs.declared.Ordering.{Ordering}
+use Rattle.std.specs.declared.cmp.Ordering.{Ordering}
 use Rattle.c_api.specs.Carried.{carried}
 use Rattle.laws.proofs.AcceptedQuestions.{Accepted, none-refused-accepted}
 use Rattle.view.specs.View.{view_in, ValidNodeAndRoot}

@@ -1,8 +1,10 @@
 -- The number of a call that gives more than a number: a node that there may not be, a path in a
 -- buffer; and of seeding, which gives no value. Assumes nothing.
+use Rattle.std.specs.Prelude.{None, Option, Some}
+use Rattle.std.specs.Prelude.{Err, Ok, Result}
+use Rattle.model.specs.declared.NodeId.{NodeId}
 use mathlib.Core.Path.{◌≡◌, refl, sym, ap, ◌∙◌}
 use mathlib.Core.Bool.{Bool, true, false, cond}
-use mathlib.Core.Option.{Option, none, some}
 use mathlib.Core.List.{List}
 use Prim.Native.Nat.{ℕ, zero, suc}
 use native.Mathlib.Nat.{zero-add}
@@ -19,9 +21,6 @@ use Rattle.model.specs.Calls.{unchanged, deepen_questions, seed_child}
 use Rattle.model.specs.Arena.{decode, holds_graph}
 use Rattle.model.specs.ArenaCalls.{is_arena, into_arena, ask_arena, value_unless, AnsweredNode, is_path_buffer, ask_path, PutPath}
 use Rattle.model.specs.declared.Refusal.{Refusal}
-use Rattle.model.specs.declared.NodeResult.{NodeResult}
-use Rattle.model.specs.declared.NodeResult.TheVariants.{Found, Refused}
-use Rattle.model.specs.declared.NumberResult.{NumberResult}
 use Rattle.laws.proofs.ArenaCallLaws.{refusal-some, buffer-passed}
 use Rattle.c_api.specs.Carried.{carried, carried_number, carried_node, carried_answer}
 use Rattle.c_api.proofs.FinishLaws.{no_value}
@@ -44,24 +43,24 @@ refused-number {k} {n} answer r e v = go k e
 pub number-of-optional : (n : ℕ) → node_number (optional n) ≡ n
 number-of-optional n = go (eqb n invalid) refl
   where
-    go : (b : Bool) → eqb n invalid ≡ b → node_number (cond b none (some n)) ≡ n
+    go : (b : Bool) → eqb n invalid ≡ b → node_number (cond b None (Some n)) ≡ n
     go true e = sym (eqb-true n invalid e)
     go false e = refl
 
 -- the option of an accepted call
-pub optional-number : (k answer : ℕ) (o : Option ℕ) → 0 ≡ k → o ≡ cond (eqb k 0) (optional answer) none → node_number o ≡ answer
+pub optional-number : (k answer : ℕ) (o : Option ℕ) → 0 ≡ k → o ≡ cond (eqb k 0) (optional answer) None → node_number o ≡ answer
 optional-number zero answer o e v = ap node_number v ∙ number-of-optional answer
 optional-number (suc k) answer o e v = absurd (omega (arith, e))
 
-pub found_number : (questions : List Question) (answer n : ℕ) (r : NodeResult) → AnsweredNode questions answer r → n ≡ carried_node r
+pub found_number : (questions : List Question) (answer n : ℕ) (r : Result (Option NodeId) Refusal) → AnsweredNode questions answer r → n ≡ carried_node r
     → n ≡ carried_answer questions answer
-found_number questions answer n (Found node) a v =
+found_number questions answer n (Ok node) a v =
     accepted-number a.refused (v ∙ optional-number (refusal questions) answer (node_option node) a.refused a.value)
-found_number questions answer n (Refused r) a v = refused-number answer r a.refused v
+found_number questions answer n (Err r) a v = refused-number answer r a.refused v
 
 -- ---- A path, in a buffer of 255 bytes
 
-pub path-number : (bs buffer : List ℕ) (questions : List Question) (path before after : List ℕ) (r : NumberResult) (n : ℕ)
+pub path-number : (bs buffer : List ℕ) (questions : List Question) (path before after : List ℕ) (r : Result ℕ Refusal) (n : ℕ)
     → length buffer ≡ 255 → PutPath (ask_path bs buffer questions) path before r after → n ≡ carried_number r
     → n ≡ carried_answer (ask_arena bs questions) (length path)
 path-number bs buffer questions path before after r n sized put v =

@@ -1,7 +1,7 @@
 -- What the programs in bench/ give and get, where crates/c_api has no word for it: three numbers
 -- that carry no refusal, what two calls leave of a buffer, and the node that is added.
+use Rattle.std.specs.Prelude.{None, Option, Some}
 use Rattle.std.specs.Prelude.{◌≡◌, ◌&&◌, cond, List, ℕ, eqb, length}
-use Rattle.std.proofs.Math.Option.{none, some}
 use Rattle.model.specs.Lists.{bit}
 use Rattle.model.specs.Bytes.{stored}
 use Rattle.model.specs.Refusals.{refusal}
@@ -11,15 +11,13 @@ use Rattle.model.specs.Snapshot.{write_snapshot}
 use Rattle.model.specs.Arena.{decode, holds_graph}
 use Rattle.model.specs.ArenaCalls.{is_arena}
 use Rattle.model.specs.Calls as calls
-use Rattle.model.specs.declared.PrimCount.{PrimCount}
-use Rattle.model.specs.declared.PrimCount.TheVariants.{Names, Malformed}
 use Rattle.c_api.specs.Carried.{carried, carried_answer}
 use Rattle.snapshot.specs.Snapshots.{write_questions}
 use Rattle.erasing.specs.Erasures.{set_questions}
 
-abbrev pub count_number : PrimCount → ℕ
-count_number (Names n) = n
-count_number Malformed = 65536
+abbrev pub count_number : Option ℕ → ℕ
+count_number (Some n) = n
+count_number None = 65536
 
 abbrev pub graph_number : List ℕ → ℕ
 graph_number bs = bit (is_arena bs && holds_graph bs)
@@ -57,7 +55,7 @@ reference_desc parent path = record {
     has_specs = 0;
     path = path;
   };
-  parent = some parent;
-  origin = none;
-  depth = none;
+  parent = Some parent;
+  origin = None;
+  depth = None;
 }

@@ -7,7 +7,7 @@ use Rattle.model.specs.ArenaCalls.{is_arena, value_unless}
 use Rattle.model.specs.Refusals.{Question, ask, refusal}
 use Rattle.model.specs.Snapshot.{field}
 use Rattle.model.specs.Strength.{compare_node_strength, compare_sibling_node_strength}
-use Rattle.model.specs.declared.Ordering.{Ordering}
+use Rattle.std.specs.declared.cmp.Ordering.{Ordering}
 use Rattle.c_api.specs.Carried.{carried}
 use Rattle.view.specs.View.{view_in}
 

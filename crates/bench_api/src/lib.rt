@@ -24,7 +24,7 @@ ghost use Rattle.bench_api.specs.Numbers.{count_number, graph_number, order_numb
 ghost use Rattle.bench_api.specs.Numbers.{ErasableCarried};
 ghost use Rattle.bench_api.specs.Pairs.{asked_number, pairs_number};
 
-use model::{NodeId, NodeOption, PrimCount, U16Option};
+use model::NodeId;
 use prim_graph::NodeDesc;
 
 // The prim count, or 65,536 where the bytes are no path.
@@ -34,8 +34,8 @@ pub extern "C" fn bench_prim_count(path: &[u8]) -> u32
 {
     let count = path::prim_count(path);
     match count {
-        PrimCount::Names(names) => names as u32,
-        PrimCount::Malformed => 65536,
+        Some(names) => names as u32,
+        None => 65536,
     }
 }
 
@@ -89,9 +89,9 @@ pub extern "C" fn bench_add_child(arena: &mut [u8], parent: u32, path: &[u8]) ->
         flags: 0,
         stack: 0,
         layer: 0,
-        parent: NodeOption::Some(NodeId(parent)),
-        origin: NodeOption::None,
-        depth: U16Option::None,
+        parent: Some(NodeId(parent)),
+        origin: None,
+        depth: None,
         sibling: 0,
         restriction: 0,
         spec_from: 0,

@@ -14,7 +14,6 @@ ghost use Rattle.model.specs.Strength.{view, is_propagated_specializes};
 ghost use Rattle.c_api.specs.Carried.{carried_answer};
 ghost use Rattle.nodes.specs.Queries.{local_root_option};
 
-use prim_graph::{GraphRead, HierarchyRead, NodeRead};
 
 // `graph_info`: the local root, 4,294,967,295 for none.
 #[unsafe(no_mangle)]
@@ -24,11 +23,11 @@ pub extern "C" fn bench_graph_info(arena: &[u8]) -> u64
 {
     let read = prim_graph::graph_info(arena);
     match read {
-        GraphRead::Graph(info) => {
+        Ok(info) => {
             let root = info.local_root;
             root.number() as u64
         }
-        GraphRead::Refused(refusal) => c_api::carry_refusal(refusal),
+        Err(refusal) => c_api::carry_refusal(refusal),
     }
 }
 
@@ -40,8 +39,8 @@ pub extern "C" fn bench_node(arena: &[u8], n: u32) -> u64
 {
     let read = prim_graph::node(arena, n);
     match read {
-        NodeRead::Node(node) => node.first_child.0 as u64,
-        NodeRead::Refused(refusal) => c_api::carry_refusal(refusal),
+        Ok(node) => node.first_child.0 as u64,
+        Err(refusal) => c_api::carry_refusal(refusal),
     }
 }
 
@@ -148,6 +147,6 @@ pub extern "C" fn bench_starting_node_of_class_hierarchy(arena: &[u8], n: u32) -
     let read = prim_graph::starting_node_of_class_hierarchy(arena, n);
     match read {
         HierarchyRead::Hierarchy(_, class_node) => class_node.number() as u64,
-        HierarchyRead::Refused(refusal) => c_api::carry_refusal(refusal),
+        Err(refusal) => c_api::carry_refusal(refusal),
     }
 }

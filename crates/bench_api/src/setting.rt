@@ -1,10 +1,9 @@
 // The calls that set fields of one node.
-ghost use Rattle.std.proofs.Math.Option.{some};
+ghost use Rattle.std.specs.Prelude.{Some};
 ghost use Rattle.model.specs.ArenaCalls.{on_arena};
 ghost use Rattle.model.specs.Calls.{mark, set_first_spec, set_has_specs, set_restriction_depth};
 ghost use Rattle.c_api.specs.Carried.{WroteCarried};
 
-use model::U16Option;
 
 // `mark`.
 #[unsafe(no_mangle)]
@@ -18,10 +17,10 @@ pub extern "C" fn bench_mark(arena: &mut [u8], n: u32, flags: u8) -> u64
 // `set_first_spec`, with a position.
 #[unsafe(no_mangle)]
 pub extern "C" fn bench_set_first_spec(arena: &mut [u8], n: u32, first: u16) -> u64
-    ensures { WroteCarried (on_arena (set_first_spec n (some first)) arena.old) arena.old result
+    ensures { WroteCarried (on_arena (set_first_spec n (Some first)) arena.old) arena.old result
         arena.new }
 {
-    c_api::carry_finish(prim_graph::set_first_spec(arena, n, U16Option::Some(first)))
+    c_api::carry_finish(prim_graph::set_first_spec(arena, n, Some(first)))
 }
 
 // `set_has_specs`.

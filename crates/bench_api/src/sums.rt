@@ -6,7 +6,8 @@ ghost use Rattle.model.specs.ArenaCalls.{ValidArena, ValidNode};
 ghost use Rattle.bench_api.specs.Pairs.{are_siblings, pair_refused, pairs_refused, call_refused, comparison, pair_sum};
 ghost use Rattle.bench_api.specs.Pairs.{asked_number, pairs_number, most_pair_bytes};
 
-use model::Ordering;
+use std::cmp::Ordering;
+
 
 // Whether two nodes have one parent, and neither is node 0.
 fn are_siblings(arena: &[u8], a: u32, b: u32) -> bool

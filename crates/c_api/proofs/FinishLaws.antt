@@ -1,8 +1,10 @@
 -- Ordering, culling, setting fields of one node and appending a child's name give no value, whether
 -- they are refused or not: their number is their refusal alone. Assumes nothing.
+use Rattle.std.specs.Prelude.{None, Option, Some}
+use Rattle.std.specs.Prelude.{Result, ⊤}
+use Rattle.model.specs.declared.Refusal.{Refusal}
 use mathlib.Core.Path.{◌≡◌, refl, sym, ap, ◌∙◌}
 use mathlib.Core.Bool.{Bool, true, false, ◌||◌, cond}
-use mathlib.Core.Option.{Option, none, some}
 use mathlib.Core.List.{List, [], ◌∷◌}
 use Prim.Native.Nat.{ℕ, zero, suc}
 use lib.Dec.{ltb}
@@ -16,7 +18,6 @@ use Rattle.model.specs.Refusals.{Question, ask, refusal}
 use Rattle.model.specs.Calls.{Outcome, unchanged, settled, decided, has_node_zero, sets, mark, set_first_spec, set_has_specs, set_restriction_depth, finalize_strength_order, cull, deepen_questions, append_child_name}
 use Rattle.model.specs.Arena.{decode, holds_graph}
 use Rattle.model.specs.ArenaCalls.{is_arena, on_arena, Finishes}
-use Rattle.model.specs.declared.UnitResult.{UnitResult}
 use Rattle.c_api.specs.Carried.{carried, carried_finish, WroteCarried}
 
 pub no_value : (questions : List Question) (g result : Graph) → (decided questions g 0 result).value ≡ 0
@@ -64,7 +65,7 @@ first-spec-value n first = on-arena-no-value (set_first_spec n first) (sets-valu
 pub has-specs-value : (n : ℕ) (authored : Bool) (bs : List ℕ) → (on_arena (set_has_specs n authored) bs).value ≡ 0
 unfolding set_has_specs set_first_spec
 has-specs-value n authored =
-    on-arena-no-value (set_has_specs n authored) (sets-value n [] (with_first_spec (cond authored (some 0) none)))
+    on-arena-no-value (set_has_specs n authored) (sets-value n [] (with_first_spec (cond authored (Some 0) None)))
 
 pub restriction-value : (n depth : ℕ) (bs : List ℕ) → (on_arena (set_restriction_depth n depth) bs).value ≡ 0
 unfolding set_restriction_depth
@@ -75,7 +76,7 @@ unfolding append_child_name
 append-value child = on-arena-no-value (append_child_name child) (λ g. no_value (deepen_questions child g) g (append_child_name_to_all_sites child g))
 
 -- the number of such a call, and the arena after it
-pub finishes-carried : {o : Outcome} {before after : List ℕ} {r : UnitResult} {n : ℕ} → o.value ≡ 0 → n ≡ carried_finish r → Finishes o before r after
+pub finishes-carried : {o : Outcome} {before after : List ℕ} {r : Result ⊤ Refusal} {n : ℕ} → o.value ≡ 0 → n ≡ carried_finish r → Finishes o before r after
     → WroteCarried o before n after
 finishes-carried {o} valueless number finishes =
     record { number = number ∙ ap (λ (k : ℕ). carried k 0) finishes.refused ∙ ap (carried o.refused) (sym valueless); arena = finishes.arena }

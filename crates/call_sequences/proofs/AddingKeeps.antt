@@ -1,9 +1,9 @@
 -- Starting a graph and adding to it leave it encodable where the numbers that are given fit their
 -- widths (`starting-keeps`, `adding-keeps`). Assumes nothing.
+use Rattle.std.specs.Prelude.{None, Option, Some}
 use mathlib.Core.Path.{◌≡◌, refl}
 use mathlib.Core.Logic.{◌⊎◌, inl, inr}
 use mathlib.Core.Bool.{true, ◌&&◌}
-use mathlib.Core.Option.{Option, none, some}
 use mathlib.Core.List.{List, [], ◌∷◌}
 use Prim.Native.Nat.{ℕ, zero, suc, ◌^◌, ◌≤◌, ◌<◌}
 use native.Mathlib.Nat.{eq-or-lt_of_le}
@@ -79,8 +79,8 @@ starting-keeps stack layer path s l bytes g ok =
 
 -- a depth that is given fits
 abbrev pub DepthFits : Option ℕ → Type 0
-DepthFits none = Unit {0}
-DepthFits (some d) = d < 256 ^ 2
+DepthFits None = Unit {0}
+DepthFits (Some d) = d < 256 ^ 2
 
 module _ (d : NodeDesc) (fit : NumbersFit d.fields) (deep : DepthFits d.depth) (g : Graph) (ok : Encodable g) where
   -- a missing depth is a prim count: of the path that is given, or of a node's
@@ -88,12 +88,12 @@ module _ (d : NodeDesc) (fit : NumbersFit d.fields) (deep : DepthFits d.depth) (
   default-fits e = go d.parent
     where
       go : (parent : Option ℕ) → prims_over g.nodes parent d.fields.path < 256 ^ 2
-      go (some parent) = prims-fit (node_at g.nodes parent).path (path-short g.nodes ok.fit parent)
-      go none = prims-fit d.fields.path ((well-formed-decides d.fields.path).0 e).2
+      go (Some parent) = prims-fit (node_at g.nodes parent).path (path-short g.nodes ok.fit parent)
+      go None = prims-fit d.fields.path ((well-formed-decides d.fields.path).0 e).2
 
   depth-fits : (o : Option ℕ) → DepthFits o → well_formed d.fields.path ≡ true → given_or o (default_depth g d) < 256 ^ 2
-  depth-fits none f e = default-fits e
-  depth-fits (some n) f e = f
+  depth-fits None f e = default-fits e
+  depth-fits (Some n) f e = f
 
   numbers-added : well_formed d.fields.path ≡ true → NumbersFit (added_node g d)
   numbers-added e = record {

@@ -3,9 +3,10 @@
 -- ordered, finalized and has a node to erase, so every clause of demand 3 says something of it. An
 -- arena that its snapshot is read into and one that is seeded from it are starts (`sample-read`,
 -- `sample-seeded`). Assumes nothing.
+use Rattle.std.specs.Prelude.{None, Option, Some}
+use Rattle.model.specs.declared.NodeId.{NodeId}
 use mathlib.Core.Path.{◌≡◌, refl, sym, ap, subst, ◌∙◌}
 use mathlib.Core.Bool.{Bool, true, false}
-use mathlib.Core.Option.{none, some}
 use mathlib.Core.List.{List, [], ◌∷◌, map}
 use Prim.Native.Nat.{ℕ, ◌<◌}
 use native.Mathlib.Omega.{arith}
@@ -30,10 +31,6 @@ use Rattle.model.proofs.Text.{bytes}
 use Rattle.laws.specs.Demand3Clauses.{Deepened}
 use Rattle.laws.proofs.SnapshotLaws.{written-bytes}
 use Rattle.laws.proofs.ListLaws.{all-imp, every-all}
-use Rattle.model.specs.declared.NodeOption.{NodeOption}
-use Rattle.model.specs.declared.NodeOption.TheVariants.{Some as SomeNode, None as NoNode}
-use Rattle.model.specs.declared.U16Option.{U16Option}
-use Rattle.model.specs.declared.U16Option.TheVariants.{Some as SomeNumber, None as NoNumber}
 use Rattle.snapshot.proofs.ReadBack.{written-reads-back}
 use Rattle.call_sequences.proofs.KeepEncodable.{Arena, arena-encodable, ArenaOf}
 use Rattle.call_sequences.specs.Demand3.{Below, Slice, NodeFits, DepthFits, Write, starting, adding, ordering, culling, erasing, deepening, reading, marking, setting_first_spec, setting_has_specs, setting_restriction, step, steps, Lent, seeding, Start, empty, read, seeded, rest, Demand3}
@@ -53,7 +50,7 @@ abbrev number : {m : ℕ} (n : ℕ) → ltb n m ≡ true → Below m
 number {m} n e = record { number = n; small = ltb-true n m e }
 
 -- a node of stack 0 without flags, with its parent for origin
-abbrev add : (parent : NodeOption) (arc has_specs : ℕ) (depth : U16Option) → NodeFits parent × (arc < 256) × (has_specs < 256) × DepthFits depth
+abbrev add : (parent : Option NodeId) (arc has_specs : ℕ) (depth : Option ℕ) → NodeFits parent × (arc < 256) × (has_specs < 256) × DepthFits depth
     → Slice → Write
 add parent arc has_specs depth fits path = adding (record {
   arc = arc;
@@ -61,7 +58,7 @@ add parent arc has_specs depth fits path = adding (record {
   stack = 0;
   layer = 0;
   parent = parent;
-  origin = NoNode;
+  origin = None;
   depth = depth;
   sibling = 0;
   restriction = 0;
@@ -82,8 +79,8 @@ add parent arc has_specs depth fits path = adding (record {
 }) path
 
 -- the local root
-abbrev local : NodeOption
-local = SomeNode (record { 0 = 1 })
+abbrev local : Option NodeId
+local = Some (record { 0 = 1 })
 
 -- Nodes 0 and 1 `/M/a`; under 1 the References 2 and 3, of which 2 has no specs, and the Inherit 4.
 -- Culling marks 2. An erase set with node 1, the parent of the others, is refused 11, bytes that
@@ -91,10 +88,10 @@ local = SomeNode (record { 0 = 1 })
 unfoldable sample : List Write
 sample =
     starting (number 0 refl) (number 0 refl) (slice (bytes "/M/a") refl)
-    ∷ add NoNode 0 1 NoNumber (tt, omega arith, omega arith, tt) (slice (bytes "/M/a") refl)
-    ∷ add local 4 0 (SomeNumber 1) (omega arith, omega arith, omega arith, omega arith) (slice (bytes "/R/a") refl)
-    ∷ add local 4 1 (SomeNumber 1) (omega arith, omega arith, omega arith, omega arith) (slice (bytes "/Q/a") refl)
-    ∷ add local 1 1 (SomeNumber 1) (omega arith, omega arith, omega arith, omega arith) (slice (bytes "/C/a") refl)
+    ∷ add None 0 1 None (tt, omega arith, omega arith, tt) (slice (bytes "/M/a") refl)
+    ∷ add local 4 0 (Some 1) (omega arith, omega arith, omega arith, omega arith) (slice (bytes "/R/a") refl)
+    ∷ add local 4 1 (Some 1) (omega arith, omega arith, omega arith, omega arith) (slice (bytes "/Q/a") refl)
+    ∷ add local 1 1 (Some 1) (omega arith, omega arith, omega arith, omega arith) (slice (bytes "/C/a") refl)
     ∷ ordering
     ∷ culling
     ∷ erasing (slice (0 ∷ 1 ∷ replicate 1022 0) refl)
@@ -102,8 +99,8 @@ sample =
     ∷ reading (slice (bytes "no snapshot") refl)
     ∷ marking (number 3 refl) (number 5 refl)
     ∷ marking (number 1 refl) (number 2 refl)
-    ∷ setting_first_spec (number 4 refl) (some (number 2 refl))
-    ∷ setting_first_spec (number 2 refl) none
+    ∷ setting_first_spec (number 4 refl) (Some (number 2 refl))
+    ∷ setting_first_spec (number 2 refl) None
     ∷ setting_has_specs (number 3 refl) true
     ∷ setting_restriction (number 1 refl) (number 1 refl)
     ∷ []

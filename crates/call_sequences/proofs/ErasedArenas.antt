@@ -5,6 +5,9 @@
 -- before (`left-bytes`, `left-count`, `left-stands`); that graph is the one that the arena holds,
 -- and question 2 passes (`erased-opened`, `erased-count`, `erased-stands`). Each law asks that the
 -- arena has bytes only, as every lent buffer has. Assumes nothing.
+use Rattle.std.specs.Prelude.{Ok, Result}
+use mathlib.Core.Unit.{tt}
+use Rattle.model.specs.declared.Refusal.{Refusal}
 use mathlib.Core.Path.{◌≡◌, refl, sym, ap, ◌∙◌, subst}
 use mathlib.Core.Bool.{Bool, true, false, not, and-eq-true_iff}
 use mathlib.Core.List.{List, map}
@@ -20,13 +23,10 @@ use Rattle.model.specs.Strength.{view_of, compare_sibling_node_strength}
 use Rattle.model.specs.Culling.{is_erasable}
 use Rattle.model.specs.Erasing.{stays, erasable, can_erase, new_number, erase}
 use Rattle.model.specs.Refusals.{Question, refusal}
-use Rattle.model.specs.Answers.{number_refusal}
+use Rattle.model.specs.Answers.{answer_refusal}
 use Rattle.model.specs.Calls.{Outcome, settled, decided, erase_set, erasing}
 use Rattle.model.specs.Arena.{arena_bytes, count_in, decode, encode, holds_graph}
 use Rattle.model.specs.ArenaCalls.{is_arena, ValidArena, Wrote}
-use Rattle.model.specs.declared.UnitResult.TheVariants.{Done}
-use Rattle.model.specs.declared.NumberResult.{NumberResult}
-use Rattle.model.specs.declared.NumberResult.TheVariants.{Number}
 use Rattle.laws.specs.Demand3Clauses.{Stand}
 use Rattle.laws.proofs.BigEndianLaws.{Bytes}
 use Rattle.laws.proofs.AcceptedQuestions.{Accepted, none-refused-accepted}
@@ -70,7 +70,7 @@ not-not : (b : Bool) → not (not b) ≡ b
 not-not true = refl
 not-not false = refl
 
-module _ (bs set after : List ℕ) (bytes : Bytes bs) (done : ErasableWritten bs set Done after) where
+module _ (bs set after : List ℕ) (bytes : Bytes bs) (done : ErasableWritten bs set (Ok tt) after) where
   passed : Accepted (set_questions bs set)
   passed = none-refused-accepted (set_questions bs set) refl (sym done.refused)
 
@@ -104,7 +104,7 @@ module _ (bs set after : List ℕ) (bytes : Bytes bs) (done : ErasableWritten bs
       spares = erasable-spared (decode bs).nodes legal.links some-node
 
   -- question 11 passes, and every other question of `erase`
-  pub written-accepted : (r : NumberResult) (left : List ℕ) → Erased after bs r left → number_refusal r ≡ 0
+  pub written-accepted : (r : Result ℕ Refusal) (left : List ℕ) → Erased after bs r left → answer_refusal r ≡ 0
   written-accepted r left erased =
       erased.refused
       ∙ ap (λ (o : Outcome). o.refused) (erase-asks after bs ∙ decided-accepted (erase_all after bs) (decode bs) _ _ passes)
@@ -133,22 +133,22 @@ pub record Stands (set : List ℕ) (g left : Graph) : Type 0 where
   pub marks : (left.ordered ≡ g.ordered) × (left.finalized ≡ g.finalized) × (left.shallow ≡ g.shallow)
 
 -- a number is answered where every question passes
-number-accepted : (qs : List Question) (g result : Graph) (value n : ℕ) (bs after : List ℕ) → Wrote (decided qs g value result) bs (Number n) after
+number-accepted : (qs : List Question) (g result : Graph) (value n : ℕ) (bs after : List ℕ) → Wrote (decided qs g value result) bs (Ok n) after
     → (refusal qs ≡ 0) × (n ≡ value) × (after ≡ encode result bs)
 number-accepted qs g result value n bs after = go (refusal qs) refl
   where
-    go : (k : ℕ) → refusal qs ≡ k → Wrote (settled k g value result) bs (Number n) after → (refusal qs ≡ 0) × (n ≡ value) × (after ≡ encode result bs)
+    go : (k : ℕ) → refusal qs ≡ k → Wrote (settled k g value result) bs (Ok n) after → (refusal qs ≡ 0) × (n ≡ value) × (after ≡ encode result bs)
     go zero e wrote = (e, wrote.value, wrote.arena)
     go (suc k) e wrote = let z : 0 ≡ suc k = wrote.refused in absurd (omega arith)
 
-module _ (set bs after : List ℕ) (n : ℕ) (bytes : Bytes bs) (erased : Erased set bs (Number n) after) where
+module _ (set bs after : List ℕ) (n : ℕ) (bytes : Bytes bs) (erased : Erased set bs (Ok n) after) where
   abbrev graph_left : Graph
   graph_left = erase set (decode bs)
 
   accepts : (refusal (erase_all set bs) ≡ 0) × (n ≡ kept_count set bs) × (after ≡ encode graph_left bs)
   accepts =
       number-accepted (erase_all set bs) (decode bs) graph_left (kept_count set bs) n bs after
-      (subst (λ (o : Outcome). Wrote o bs (Number n) after) (erase-asks set bs) erased)
+      (subst (λ (o : Outcome). Wrote o bs (Ok n) after) (erase-asks set bs) erased)
 
   asked : Accepted (erase_all set bs)
   asked = none-refused-accepted (erase_all set bs) refl accepts.0

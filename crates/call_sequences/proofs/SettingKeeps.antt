@@ -1,9 +1,9 @@
 -- Setting fields of one node leaves a graph encodable where what is set fits its field
 -- (`marking-keeps`, `first-spec-keeps`, `has-specs-keeps`, `restriction-keeps`): flags joined are
 -- still a byte, whatever is given. Assumes nothing.
+use Rattle.std.specs.Prelude.{None, Option, Some}
 use mathlib.Core.Path.{◌≡◌, refl}
 use mathlib.Core.Bool.{Bool, true, false, cond}
-use mathlib.Core.Option.{Option, none, some}
 use mathlib.Core.List.{[], ◌∷◌}
 use Prim.Native.Nat.{ℕ, ◌+◌, ◌/◌, ◌%◌, ◌^◌, ◌<◌}
 use native.Mathlib.Omega.{arith}
@@ -99,13 +99,13 @@ module _ (n : ℕ) (g : Graph) (ok : Encodable g) where
           (numbers n).restriction s
 
       fits : (o : Option ℕ) → DepthFits o → NumbersFit (with_first_spec o x)
-      fits none h = with-specs 0 0 (omega arith)
-      fits (some k) h = with-specs k 1 h
+      fits None h = with-specs 0 0 (omega arith)
+      fits (Some k) h = with-specs k 1 h
 
   pub has-specs-keeps : (authored : Bool) → Keeps g (set_has_specs n authored g)
   unfolding set_has_specs
-  has-specs-keeps true = first-spec-keeps (some 0) (omega arith)
-  has-specs-keeps false = first-spec-keeps none tt
+  has-specs-keeps true = first-spec-keeps (Some 0) (omega arith)
+  has-specs-keeps false = first-spec-keeps None tt
 
   pub restriction-keeps : (depth : ℕ) → depth < 256 ^ 2 → Keeps g (set_restriction_depth n depth g)
   unfolding set_restriction_depth with_record

@@ -1,9 +1,10 @@
 -- What each call of specs/Demand3.antt does to the graph: it is a call of model/specs/Calls.antt,
 -- but that an erase set of another size is refused (`graph_step`); and the arena after a list of
 -- them holds what they make of the graph: `steps-arena`. Assumes nothing.
+use Rattle.std.specs.Prelude.{Option}
+use Rattle.std.specs.Prelude.{None, Some}
 use mathlib.Core.Path.{◌≡◌, refl, sym, ap, subst, ◌∙◌}
 use mathlib.Core.Bool.{Bool, true, false, cond}
-use mathlib.Core.Option.{Option, none, some}
 use mathlib.Core.List.{List, [], ◌∷◌}
 use Prim.Native.Nat.{ℕ, zero, suc}
 use native.Mathlib.Omega.{arith}
@@ -17,8 +18,6 @@ use Rattle.model.specs.Arena.{arena_bytes, decode, encode}
 use Rattle.model.specs.ArenaCalls.{on_arena, into_arena, arena_after}
 use Rattle.laws.proofs.SnapshotReadLaws.{accepted-read, grown-read, refused-read-keeps}
 use Rattle.model.specs.Answers.{number_option}
-use Rattle.model.specs.declared.U16Option.{U16Option}
-use Rattle.model.specs.declared.U16Option.TheVariants.{Some as SomeNumber, None as NoNumber}
 use Rattle.nodes.specs.Describing.{desc_of}
 use Rattle.nodes.specs.declared.description.NodeDesc.{NodeDesc}
 use Rattle.erasing.specs.Erasures.{erase_in}
@@ -79,13 +78,13 @@ desc-fits d fits path = (
   deep d.depth fits.depth,
 )
   where
-    deep : (x : U16Option) → bytes.DepthFits x → DepthFits (number_option x)
-    deep (SomeNumber n) h = h
-    deep NoNumber h = tt
+    deep : (x : Option ℕ) → bytes.DepthFits x → DepthFits (number_option x)
+    deep (Some n) h = h
+    deep None h = tt
 
 first_fits : (first : Option U16) → DepthFits (number_in first)
-first_fits none = tt
-first_fits (some n) = n.small
+first_fits None = tt
+first_fits (Some n) = n.small
 
 pub call_fits : (c : Write) → CallFits (call_of c)
 call_fits (starting stack layer path) = (stack.small, layer.small, path.each)

@@ -3,18 +3,15 @@
 -- words, are those of laws/specs/Demand3Clauses.antt. Each call is the one function that its
 -- contract cites (crates/call_sequences); what an arena holds is `decode`. The theorem is `demand3`
 -- in proofs/Demand3Proof.antt.
+use Rattle.std.specs.Prelude.{None, Option, Some}
+use Rattle.model.specs.declared.NodeId.{NodeId}
 use Rattle.std.specs.Prelude.{◌≡◌, Bool, true, List, [], ◌∷◌, ℕ, ◌<◌, length}
-use Rattle.std.proofs.Math.Option.{Option, none, some}
 use Rattle.model.specs.Lists.{All}
 use Rattle.model.specs.Graph.{empty_graph, size}
 use Rattle.model.specs.Erasing.{erasable}
 use Rattle.model.specs.Calls.{Outcome, init_root, add_child, finalize_strength_order, cull, append_child_name, read_into, mark, set_first_spec, set_has_specs, set_restriction_depth}
 use Rattle.model.specs.Arena.{arena_bytes, count_in, decode, holds_graph}
 use Rattle.model.specs.ArenaCalls.{ValidArena, on_arena, into_arena, arena_after}
-use Rattle.model.specs.declared.NodeOption.{NodeOption}
-use Rattle.model.specs.declared.NodeOption.TheVariants.{Some as SomeNode, None as NoNode}
-use Rattle.model.specs.declared.U16Option.{U16Option}
-use Rattle.model.specs.declared.U16Option.TheVariants.{Some as SomeNumber, None as NoNumber}
 use Rattle.laws.specs.Demand3Clauses.{Listed, Erased, Deepened}
 use Rattle.nodes.specs.Describing.{desc_of}
 use Rattle.nodes.specs.declared.description.NodeDesc.{NodeDesc}
@@ -38,20 +35,20 @@ U32 = Below 4294967296
 
 -- a number that may be missing
 abbrev pub number_in : Option U16 → Option ℕ
-number_in none = none
-number_in (some n) = some n.number
+number_in None = None
+number_in (Some n) = Some n.number
 
 pub record Slice : Type 0 where
   pub bytes : List ℕ
   pub each : All (λ b. b < 256) bytes
 
-abbrev pub NodeFits : NodeOption → Type 0
-NodeFits (SomeNode n) = n.0 < 4294967296
-NodeFits NoNode = Unit {0}
+abbrev pub NodeFits : Option NodeId → Type 0
+NodeFits (Some n) = n.0 < 4294967296
+NodeFits None = Unit {0}
 
-abbrev pub DepthFits : U16Option → Type 0
-DepthFits (SomeNumber d) = d < 65536
-DepthFits NoNumber = Unit {0}
+abbrev pub DepthFits : Option ℕ → Type 0
+DepthFits (Some d) = d < 65536
+DepthFits None = Unit {0}
 
 -- crates/nodes's `NodeDesc`
 pub record DescFits (d : NodeDesc) : Type 0 where

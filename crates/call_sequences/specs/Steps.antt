@@ -1,12 +1,11 @@
 -- That a function of the code makes a call of specs/Demand3.antt: whatever arguments of `Write`
 -- have these numbers and bytes, the arena after it is the step; and of seeding, which fills a
 -- second arena, that it ends as `seeding` does.
+use Rattle.std.specs.Prelude.{Option, Result, ⊤}
+use Rattle.model.specs.declared.Refusal.{Refusal}
 use Rattle.std.specs.Prelude.{◌≡◌, Bool, List, ℕ}
-use Rattle.std.proofs.Math.Option.{Option}
 use Rattle.model.specs.Answers.{number_option}
 use Rattle.model.specs.ArenaCalls.{Finishes}
-use Rattle.model.specs.declared.U16Option.{U16Option}
-use Rattle.model.specs.declared.UnitResult.{UnitResult}
 use Rattle.nodes.specs.declared.description.NodeDesc.{NodeDesc}
 use Rattle.call_sequences.specs.Demand3.{U8, U16, U32, number_in, Slice, DescFits, starting, adding, ordering, culling, erasing, deepening, reading, marking, setting_first_spec, setting_has_specs, setting_restriction, step, seeding}
 
@@ -35,7 +34,7 @@ Reads snapshot before after = (s : Slice) → s.bytes ≡ snapshot → after ≡
 abbrev pub Marks : ℕ → ℕ → List ℕ → List ℕ → Type 0
 Marks n flags before after = (m : U32) (f : U8) → m.number ≡ n → f.number ≡ flags → after ≡ step (marking m f) before
 
-abbrev pub SetsFirstSpec : ℕ → U16Option → List ℕ → List ℕ → Type 0
+abbrev pub SetsFirstSpec : ℕ → Option ℕ → List ℕ → List ℕ → Type 0
 SetsFirstSpec n first before after =
     (m : U32) (f : Option U16) → m.number ≡ n → number_in f ≡ number_option first → after ≡ step (setting_first_spec m f) before
 
@@ -46,5 +45,5 @@ abbrev pub SetsRestriction : ℕ → ℕ → List ℕ → List ℕ → Type 0
 SetsRestriction n depth before after =
     (m : U32) (d : U16) → m.number ≡ n → d.number ≡ depth → after ≡ step (setting_restriction m d) before
 
-abbrev pub Seeds : List ℕ → List ℕ → List ℕ → UnitResult → List ℕ → Type 0
+abbrev pub Seeds : List ℕ → List ℕ → List ℕ → Result ⊤ Refusal → List ℕ → Type 0
 Seeds child from before r after = (c : Slice) → c.bytes ≡ child → Finishes (seeding c from before) before r after

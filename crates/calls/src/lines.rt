@@ -2,7 +2,6 @@
 // saved. The lines about more than one arena are here; the others are answered by the crates
 // `calls_read` and `calls_write`.
 use calls_text::{Answered, bad_line, is_call, put, put_refusal, word};
-use model::UnitResult;
 use std::io::Write;
 
 // What goes on from line to line: how many bytes of the output are used, and whether the second
@@ -88,11 +87,11 @@ fn seed_line<W: Write>(
 ) -> State {
     let seeded = prim_graph::seed_child(current, other, word(line, 1));
     match seeded {
-        UnitResult::Done => State {
+        Ok(()) => State {
             used: put(to, out, used, b"ok"),
             swapped: !swapped,
         },
-        UnitResult::Refused(refusal) => State {
+        Err(refusal) => State {
             used: put_refusal(to, out, used, refusal),
             swapped,
         },

@@ -1,7 +1,6 @@
 // The line `chains`: each node's child list (document 01: chain).
+use model::Refusal;
 use calls_text::{put_between, put_number, put_refusal};
-use model::NumberResult;
-use prim_graph::NodeRead;
 use std::io::Write;
 
 // `chains`: each node's children in their order, joined by `,`, the nodes joined by `;`.
@@ -13,8 +12,8 @@ pub(crate) fn chains_line<W: Write>(
 ) -> usize {
     let read = prim_graph::count(arena);
     match read {
-        NumberResult::Number(count) => put_lists(arena, count, to, out, used),
-        NumberResult::Refused(refusal) => put_refusal(to, out, used, refusal),
+        Ok(count) => put_lists(arena, count, to, out, used),
+        Err(refusal) => put_refusal(to, out, used, refusal),
     }
 }
 
@@ -33,8 +32,8 @@ fn read_links(arena: &[u8], count: u32, first: &mut [usize], next: &mut [usize])
     }
 }
 
-fn set_links(read: NodeRead, n: usize, first: &mut [usize], next: &mut [usize]) {
-    if let NodeRead::Node(node) = read {
+fn set_links(read: Result<arena::Node, Refusal>, n: usize, first: &mut [usize], next: &mut [usize]) {
+    if let Ok(node) = read {
         set(first, n, node.first_child.0);
         set(next, n, node.next_sibling.0);
     }

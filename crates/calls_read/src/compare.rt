@@ -1,7 +1,8 @@
 // The lines that compare nodes, or put the questions that the comparison puts.
+use model::Refusal;
 use calls_text::{Answered, Number, bad_line, is_call, put, put_refusal, read_number, word};
-use model::{Ordering, OrderingResult};
 use std::io::Write;
+use std::cmp::Ordering;
 
 // The two nodes of a line, or that a word is no number.
 #[derive(Clone, Copy)]
@@ -83,14 +84,14 @@ fn sibling_line<W: Write>(
 }
 
 fn put_compared<W: Write>(
-    compared: OrderingResult,
+    compared: Result<Ordering, Refusal>,
     to: &mut W,
     out: &mut [u8],
     used: usize,
 ) -> usize {
     match compared {
-        OrderingResult::As(order) => put_order(order, to, out, used),
-        OrderingResult::Refused(refusal) => put_refusal(to, out, used, refusal),
+        Ok(order) => put_order(order, to, out, used),
+        Err(refusal) => put_refusal(to, out, used, refusal),
     }
 }
 

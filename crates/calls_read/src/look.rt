@@ -1,10 +1,5 @@
 // The lines that look at a graph.
-use calls_text::{
-    Answered, Number, bad_line, front, is_call, put, put_bytes, put_found, put_numbered, put_path,
-    put_refusal, put_tested, read_number, word,
-};
-use model::NumberResult;
-use prim_graph::GraphRead;
+use calls_text::{Answered, Number, bad_line, front, is_call, put, put_bytes, put_found, put_numbered, put_path, put_refusal, put_tested, read_number, word};
 use std::io::Write;
 
 // The answer to a line that looks at the whole graph, or at its nodes.
@@ -83,8 +78,8 @@ fn write_line<W: Write>(arena: &[u8], to: &mut W, out: &mut [u8], used: usize) -
     let mut snapshot = io::large_buffer();
     let written = prim_graph::write_snapshot(arena, &mut snapshot);
     match written {
-        NumberResult::Number(length) => put_bytes(to, out, used, front(&snapshot, length as usize)),
-        NumberResult::Refused(refusal) => put_refusal(to, out, used, refusal),
+        Ok(length) => put_bytes(to, out, used, front(&snapshot, length as usize)),
+        Err(refusal) => put_refusal(to, out, used, refusal),
     }
 }
 
@@ -92,7 +87,7 @@ fn write_line<W: Write>(arena: &[u8], to: &mut W, out: &mut [u8], used: usize) -
 fn marks_line<W: Write>(arena: &[u8], to: &mut W, out: &mut [u8], used: usize) -> usize {
     let read = prim_graph::graph_info(arena);
     match read {
-        GraphRead::Graph(graph) => put_marks(
+        Ok(graph) => put_marks(
             graph.ordered,
             graph.finalized,
             graph.shallow,
@@ -100,7 +95,7 @@ fn marks_line<W: Write>(arena: &[u8], to: &mut W, out: &mut [u8], used: usize) -
             out,
             used,
         ),
-        GraphRead::Refused(refusal) => put_refusal(to, out, used, refusal),
+        Err(refusal) => put_refusal(to, out, used, refusal),
     }
 }
 

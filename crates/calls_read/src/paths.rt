@@ -1,8 +1,6 @@
 // The lines on paths.
-use calls_text::{
-    Answered, ShortNumber, bad_line, is_call, put, put_number, put_refusal, read_short_number, word,
-};
-use model::{Appended, PrimCount, Refusal};
+use calls_text::{Answered, ShortNumber, bad_line, is_call, put, put_number, put_refusal, read_short_number, word};
+use model::Refusal;
 use std::io::Write;
 
 // The answer to a line on paths.
@@ -33,8 +31,8 @@ fn path_line<W: Write>(line: &[u8], to: &mut W, out: &mut [u8], used: usize) -> 
     let path = word(line, 1);
     let count = path::prim_count(path);
     match count {
-        PrimCount::Names(names) => put_path(to, out, used, path, names),
-        PrimCount::Malformed => put_refusal(to, out, used, Refusal::Path),
+        Some(names) => put_path(to, out, used, path, names),
+        None => put_refusal(to, out, used, Refusal::Path),
     }
 }
 
@@ -65,7 +63,7 @@ fn join_line<W: Write>(line: &[u8], to: &mut W, out: &mut [u8], used: usize) -> 
     let mut joined = [0u8; 255];
     let appended = path::append_child_name(word(line, 1), word(line, 2), &mut joined);
     match appended {
-        Appended::Length(length) => put(to, out, used, calls_text::front(&joined, length)),
-        Appended::Refused(refusal) => put_refusal(to, out, used, refusal),
+        Ok(length) => put(to, out, used, calls_text::front(&joined, length)),
+        Err(refusal) => put_refusal(to, out, used, refusal),
     }
 }

@@ -1,8 +1,6 @@
 // The line `dump`: each node's record.
 use arena::Node;
 use calls_text::{put, put_between, put_number, put_path, put_refusal};
-use model::NumberResult;
-use prim_graph::NodeRead;
 use std::io::Write;
 
 // `dump`: `arc,flags,stack,layer,parent,origin,depth,sibling,restriction,specfrom,hasspecs,path` of
@@ -10,8 +8,8 @@ use std::io::Write;
 pub(crate) fn dump_line<W: Write>(arena: &[u8], to: &mut W, out: &mut [u8], used: usize) -> usize {
     let read = prim_graph::count(arena);
     match read {
-        NumberResult::Number(count) => put_nodes(arena, count, to, out, used),
-        NumberResult::Refused(refusal) => put_refusal(to, out, used, refusal),
+        Ok(count) => put_nodes(arena, count, to, out, used),
+        Err(refusal) => put_refusal(to, out, used, refusal),
     }
 }
 
@@ -27,11 +25,11 @@ fn put_nodes<W: Write>(arena: &[u8], count: u32, to: &mut W, out: &mut [u8], use
 fn put_node<W: Write>(arena: &[u8], n: u32, to: &mut W, out: &mut [u8], used: usize) -> usize {
     let read = prim_graph::node(arena, n);
     match read {
-        NodeRead::Node(node) => {
+        Ok(node) => {
             let start = put_record(node, to, out, used);
             put_node_path(arena, n, to, out, start)
         }
-        NodeRead::Refused(refusal) => put_refusal(to, out, used, refusal),
+        Err(refusal) => put_refusal(to, out, used, refusal),
     }
 }
 

@@ -1,12 +1,10 @@
 // The lines on what the comparison asks of nodes. They are lines of our own: document 01 has no
 // sentence for these calls of the Rust.
+use model::Refusal;
 use crate::compare::{Pair, read_pair};
-use calls_text::{
-    Answered, Number, bad_line, is_call, put, put_found, put_node, put_number, put_refusal,
-    put_tested, read_number, word,
-};
+use calls_text::{Answered, Number, bad_line, is_call, put, put_found, put_node, put_number, put_refusal, put_tested, read_number, word};
 use std::io::Write;
-use strength::calls::HierarchyRead;
+use strength::calls::Result<(NodeId, Option<NodeId>), Refusal>;
 
 // The answer to such a line.
 pub(crate) fn answer<W: Write>(
@@ -130,6 +128,6 @@ fn class_line<W: Write>(
             let next = put(to, out, end, b" ");
             put_node(to, out, next, class_node)
         }
-        HierarchyRead::Refused(refusal) => put_refusal(to, out, used, refusal),
+        Err(refusal) => put_refusal(to, out, used, refusal),
     }
 }

@@ -6,8 +6,9 @@ ghost use Rattle.model.specs.ArenaCalls.{ValidArena};
 ghost use Rattle.view.specs.View.{ValidNodeAndRoot};
 
 use calls_text::{put, put_between, put_refusal};
-use model::{NumberResult, Ordering, Refusal};
+use model::Refusal;
 use std::io::Write;
+use std::cmp::Ordering;
 
 // `compares`: a word for each node, a letter in it for each node.
 pub(crate) fn compares_line<W: Write>(
@@ -18,8 +19,8 @@ pub(crate) fn compares_line<W: Write>(
 ) -> usize {
     let read = prim_graph::count(arena);
     match read {
-        NumberResult::Number(count) => put_rows(arena, count, to, out, used),
-        NumberResult::Refused(refusal) => put_refusal(to, out, used, refusal),
+        Ok(count) => put_rows(arena, count, to, out, used),
+        Err(refusal) => put_refusal(to, out, used, refusal),
     }
 }
 

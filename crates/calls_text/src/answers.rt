@@ -1,6 +1,6 @@
 // The answers that every kind of line shares.
 use crate::output::{front, put, put_number};
-use model::{BoolResult, NodeOption, NodeResult, NumberResult, Refusal, UnitResult};
+use model::Refusal;
 use std::io::Write;
 
 // What a crate that answers some kinds of lines says to any line: how many bytes of the output are
@@ -27,11 +27,11 @@ pub fn put_finished<W: Write>(
     to: &mut W,
     out: &mut [u8],
     used: usize,
-    answer: UnitResult,
+    answer: Result<(), Refusal>,
 ) -> usize {
     match answer {
-        UnitResult::Done => put(to, out, used, b"ok"),
-        UnitResult::Refused(refusal) => put_refusal(to, out, used, refusal),
+        Ok(()) => put(to, out, used, b"ok"),
+        Err(refusal) => put_refusal(to, out, used, refusal),
     }
 }
 
@@ -40,35 +40,35 @@ pub fn put_numbered<W: Write>(
     to: &mut W,
     out: &mut [u8],
     used: usize,
-    answer: NumberResult,
+    answer: Result<u32, Refusal>,
 ) -> usize {
     match answer {
-        NumberResult::Number(number) => put_number(to, out, used, number as u64),
-        NumberResult::Refused(refusal) => put_refusal(to, out, used, refusal),
+        Ok(number) => put_number(to, out, used, number as u64),
+        Err(refusal) => put_refusal(to, out, used, refusal),
     }
 }
 
 // A node's number, `-` for none.
-pub fn put_node<W: Write>(to: &mut W, out: &mut [u8], used: usize, node: NodeOption) -> usize {
+pub fn put_node<W: Write>(to: &mut W, out: &mut [u8], used: usize, node: Option<NodeId>) -> usize {
     match node {
-        NodeOption::Some(found) => put_number(to, out, used, found.0 as u64),
-        NodeOption::None => put(to, out, used, b"-"),
+        Some(found) => put_number(to, out, used, found.0 as u64),
+        None => put(to, out, used, b"-"),
     }
 }
 
 // The answer to a call that looks for a node.
-pub fn put_found<W: Write>(to: &mut W, out: &mut [u8], used: usize, answer: NodeResult) -> usize {
+pub fn put_found<W: Write>(to: &mut W, out: &mut [u8], used: usize, answer: Result<Option<NodeId>, Refusal>) -> usize {
     match answer {
-        NodeResult::Found(node) => put_node(to, out, used, node),
-        NodeResult::Refused(refusal) => put_refusal(to, out, used, refusal),
+        Ok(node) => put_node(to, out, used, node),
+        Err(refusal) => put_refusal(to, out, used, refusal),
     }
 }
 
 // The answer to a test: 1 for yes and 0 for no.
-pub fn put_tested<W: Write>(to: &mut W, out: &mut [u8], used: usize, answer: BoolResult) -> usize {
+pub fn put_tested<W: Write>(to: &mut W, out: &mut [u8], used: usize, answer: Result<bool, Refusal>) -> usize {
     match answer {
-        BoolResult::Is(test) => put_number(to, out, used, test as u64),
-        BoolResult::Refused(refusal) => put_refusal(to, out, used, refusal),
+        Ok(test) => put_number(to, out, used, test as u64),
+        Err(refusal) => put_refusal(to, out, used, refusal),
     }
 }
 
@@ -77,11 +77,11 @@ pub fn put_path<W: Write>(
     to: &mut W,
     out: &mut [u8],
     used: usize,
-    answer: NumberResult,
+    answer: Result<u32, Refusal>,
     path: &[u8],
 ) -> usize {
     match answer {
-        NumberResult::Number(length) => put(to, out, used, front(path, length as usize)),
-        NumberResult::Refused(refusal) => put_refusal(to, out, used, refusal),
+        Ok(length) => put(to, out, used, front(path, length as usize)),
+        Err(refusal) => put_refusal(to, out, used, refusal),
     }
 }

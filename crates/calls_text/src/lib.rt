@@ -11,13 +11,8 @@ mod input;
 mod output;
 mod words;
 
-pub use answers::{
-    Answered, bad_line, put_finished, put_found, put_node, put_numbered, put_path, put_refusal,
-    put_tested,
-};
+pub use answers::{Answered, bad_line, put_finished, put_found, put_node, put_numbered, put_path, put_refusal, put_tested};
 pub use hex::{Bytes, put_bytes, read_bytes};
 pub use input::turns_left;
 pub use output::{flush, front, put, put_between, put_number};
-pub use words::{
-    Number, ShortNumber, find, is_call, is_dash, read_number, read_short_number, word,
-};
+pub use words::{Number, ShortNumber, find, is_call, is_dash, read_number, read_short_number, word};

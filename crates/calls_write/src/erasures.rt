@@ -1,6 +1,6 @@
 // The lines on sets of nodes that may be erased.
+use model::Refusal;
 use calls_text::{bad_line, put_number, put_numbered, put_refusal, word};
-use model::{NumberResult, UnitResult};
 use std::io::Write;
 
 // `erasable`: a digit for each node, 1 for one that may go.
@@ -13,8 +13,8 @@ pub(crate) fn erasable_line<W: Write>(
     let mut set = [0u8; 1024];
     let found = prim_graph::erasable(arena, &mut set);
     match found {
-        UnitResult::Done => put_set(&set, prim_graph::count(arena), to, out, used),
-        UnitResult::Refused(refusal) => put_refusal(to, out, used, refusal),
+        Ok(()) => put_set(&set, prim_graph::count(arena), to, out, used),
+        Err(refusal) => put_refusal(to, out, used, refusal),
     }
 }
 
@@ -25,12 +25,12 @@ fn put_byte<W: Write>(to: &mut W, out: &mut [u8], used: usize, byte: u8) -> usiz
 // The bytes of the first nodes, as many as were counted.
 fn put_set<W: Write>(
     set: &[u8],
-    counted: NumberResult,
+    counted: Result<u32, Refusal>,
     to: &mut W,
     out: &mut [u8],
     used: usize,
 ) -> usize {
-    let NumberResult::Number(count) = counted else {
+    let Ok(count) = counted else {
         return used;
     };
     let mut end = used;

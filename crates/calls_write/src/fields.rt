@@ -1,7 +1,7 @@
 // The eleven numbers of an `add` line, in the order of the line: parent, arc, flags, stack, layer,
 // origin, depth, sibling, restriction, spec_from, has-specs.
 use calls_text::{Number, find, is_dash, read_number};
-use model::{NodeId, NodeOption, U16Option};
+use model::NodeId;
 use prim_graph::NodeDesc;
 
 // What is read of a field's word: a number, `MISSING` for `-`, or that it is none.
@@ -90,19 +90,19 @@ fn short32(number: u64) -> u32 {
 }
 
 // A node, or that it is missing.
-fn node(number: u64) -> NodeOption {
+fn node(number: u64) -> Option<NodeId> {
     if number == MISSING {
-        return NodeOption::None;
+        return None;
     }
-    NodeOption::Some(NodeId(short32(number)))
+    Some(NodeId(short32(number)))
 }
 
 // A depth, or that it is missing.
-fn depth(number: u64) -> U16Option {
+fn depth(number: u64) -> Option<u16> {
     if number == MISSING {
-        return U16Option::None;
+        return None;
     }
-    U16Option::Some(short16(number))
+    Some(short16(number))
 }
 
 // The node that the numbers describe.

@@ -1,7 +1,5 @@
 // The lines that make graphs.
-use calls_text::{
-    Answered, Bytes, Number, bad_line, front, is_call, put_numbered, read_bytes, read_number, word,
-};
+use calls_text::{Answered, Bytes, Number, bad_line, front, is_call, put_numbered, read_bytes, read_number, word};
 use std::io::Write;
 
 // The answer to a line that makes a graph.

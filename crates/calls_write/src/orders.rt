@@ -1,6 +1,5 @@
 // The line that lists an order.
 use calls_text::{put_between, put_number, put_refusal};
-use model::NumberResult;
 use std::io::Write;
 
 // `list`: the order.
@@ -8,8 +7,8 @@ pub(crate) fn list_line<W: Write>(arena: &[u8], to: &mut W, out: &mut [u8], used
     let mut order = io::buffer();
     let read = prim_graph::strength_order(arena, &mut order);
     match read {
-        NumberResult::Number(count) => put_entries(&order, count, to, out, used),
-        NumberResult::Refused(refusal) => put_refusal(to, out, used, refusal),
+        Ok(count) => put_entries(&order, count, to, out, used),
+        Err(refusal) => put_refusal(to, out, used, refusal),
     }
 }
 

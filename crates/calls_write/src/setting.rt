@@ -1,9 +1,5 @@
 // The lines that set fields of one node: its flags, its specs and its restriction depth.
-use calls_text::{
-    Answered, Number, ShortNumber, bad_line, is_call, is_dash, put_finished, read_number,
-    read_short_number, word,
-};
-use model::U16Option;
+use calls_text::{Answered, Number, ShortNumber, bad_line, is_call, is_dash, put_finished, read_number, read_short_number, word};
 use std::io::Write;
 
 // The node that a line names and a number that it gives, or that one of them is none.
@@ -86,7 +82,7 @@ fn spec_line<W: Write>(
         to,
         out,
         used,
-        prim_graph::set_first_spec(arena, n, U16Option::Some(first)),
+        prim_graph::set_first_spec(arena, n, Some(first)),
     )
 }
 
@@ -105,7 +101,7 @@ fn no_spec_line<W: Write>(
         to,
         out,
         used,
-        prim_graph::set_first_spec(arena, n, U16Option::None),
+        prim_graph::set_first_spec(arena, n, None),
     )
 }
 

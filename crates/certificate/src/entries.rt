@@ -5,7 +5,8 @@ ghost use Rattle.certificate.specs.Certificate.{place_in, Placed, IsBefore, Same
 ghost use Rattle.certificate.specs.Certificate.{FollowsBy, NextBy, RisesOver};
 
 use line_table::Entry;
-use model::{Ordering, Verdict};
+use model::Verdict;
+use std::cmp::Ordering;
 
 // A place, as wide as the numbers that are compared.
 pub(crate) fn wide(place: u16) -> u32

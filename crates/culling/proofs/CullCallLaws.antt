@@ -1,5 +1,7 @@
 -- The ways that the call that culls ends: refused (`cull-refused`) and done (`cull-done`). Assumes
 -- nothing.
+use Rattle.std.specs.Prelude.{Err, Ok}
+use mathlib.Core.Unit.{tt}
 use mathlib.Core.Path.{◌≡◌, refl}
 use mathlib.Core.List.{List, [], ◌∷◌}
 use Prim.Native.Nat.{ℕ}
@@ -10,7 +12,6 @@ use Rattle.model.specs.Calls.{decided, has_node_zero, cull}
 use Rattle.model.specs.Arena.{decode}
 use Rattle.model.specs.ArenaCalls.{on_arena, ask_arena}
 use Rattle.model.specs.declared.Refusal.{Refusal}
-use Rattle.model.specs.declared.UnitResult.TheVariants.{Done, Refused}
 use Rattle.laws.proofs.ArenaCallLaws.{on-arena-asks, finishes-refused, finishes-done}
 use Rattle.culling.specs.Culled.{CulledArena}
 use Rattle.culling.specs.CullCalls.{Culled}
@@ -27,8 +28,8 @@ module _ (bs : List ℕ) where
   unfolding cull
   cull-asks = on-arena-asks bs cull (has_node_zero (decode bs) ∷ []) 0 culled_graph refl
 
-  pub cull-refused : (r : Refusal) → refusal_number r ≡ refusal asked → Culled bs (Refused r) bs
+  pub cull-refused : (r : Refusal) → refusal_number r ≡ refusal asked → Culled bs (Err r) bs
   cull-refused r e = rw cull-asks (finishes-refused asked (decode bs) 0 culled_graph bs r e)
 
-  pub cull-done : refusal asked ≡ 0 → (after : List ℕ) → CulledArena bs after → Culled bs Done after
+  pub cull-done : refusal asked ≡ 0 → (after : List ℕ) → CulledArena bs after → Culled bs (Ok tt) after
   cull-done e after a = rw cull-asks (finishes-done asked (decode bs) 0 culled_graph bs after e a)

@@ -3,18 +3,19 @@
 // byte is as it was. specs/CullCalls.antt says what it answers and leaves.
 ghost use Rattle.culling.specs.CullCalls.{Culled};
 
-use model::UnitResult;
+use model::Refusal;
+
 
 // Marks CULLED what contributes nothing, children first. Refused 1, 2 and 3.
-pub fn cull_subtrees_without_opinions(arena: &mut [u8]) -> UnitResult
+pub fn cull_subtrees_without_opinions(arena: &mut [u8]) -> Result<(), Refusal>
     ensures { Culled arena.old result arena.new }
 {
     let asked = validate::ask_node_zero(arena);
     match asked {
-        UnitResult::Done => {
+        Ok(()) => {
             crate::flags::cull(arena);
-            UnitResult::Done
+            Ok(())
         }
-        UnitResult::Refused(refusal) => UnitResult::Refused(refusal),
+        Err(refusal) => Err(refusal),
     }
 }

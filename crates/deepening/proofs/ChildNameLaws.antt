@@ -2,6 +2,8 @@
 -- (`refused-first` to `refused-no-room`, or `refused_none`), what is known where none does
 -- (`can-deepen`), and the ways that the calls end (`deepen-refused`, `deepen-done`; `seed-refused`,
 -- `seed-done`). Assumes nothing.
+use Rattle.std.specs.Prelude.{Err, Ok}
+use mathlib.Core.Unit.{tt}
 use mathlib.Core.Path.{◌≡◌, refl, sym, ◌∙◌}
 use mathlib.Core.Bool.{Bool, true, false, ◌&&◌, cond, and-eq-true_iff}
 use mathlib.Core.List.{List, [], ◌∷◌}
@@ -18,7 +20,6 @@ use Rattle.model.specs.Arena.{arena_bytes, count_in, decode, encode, holds_graph
 use Rattle.model.specs.ArenaCalls.{is_arena, ValidArena, on_arena, into_arena, ask_arena}
 use Rattle.model.specs.declared.Refusal.{Refusal}
 use Rattle.model.specs.declared.Refusal.TheVariants.{Size}
-use Rattle.model.specs.declared.UnitResult.TheVariants.{Done, Refused}
 use Rattle.laws.proofs.AcceptedQuestions.{Accepted, none-refused-accepted}
 use Rattle.laws.proofs.ArenaCallLaws.{refused-before, on-arena-asks, finishes-refused, finishes-done}
 use Rattle.arena.proofs.ReadNodes.{sizes}
@@ -90,11 +91,11 @@ module _ (child bs : List ℕ) where
   unfolding append_child_name
   deepen-asks = on-arena-asks bs (append_child_name child) (deepen_questions child (decode bs)) 0 (deepened child bs) refl
 
-  pub deepen-refused : (r : Refusal) → refusal_number r ≡ refusal (asked child bs) → Deepened child bs (Refused r) bs
+  pub deepen-refused : (r : Refusal) → refusal_number r ≡ refusal (asked child bs) → Deepened child bs (Err r) bs
   deepen-refused r e = rw deepen-asks (finishes-refused (asked child bs) (decode bs) 0 (deepened child bs) bs r e)
 
   pub deepen-done : 0 ≡ refusal (asked child bs) → (name : List ℕ) → name ≡ last_name child → (after : List ℕ)
-      → after ≡ encode (deepen name (decode bs)) bs → Deepened child bs Done after
+      → after ≡ encode (deepen name (decode bs)) bs → Deepened child bs (Ok tt) after
   deepen-done e name last after a = rw deepen-asks (finishes-done (asked child bs) (decode bs) 0 (deepened child bs) bs after (sym e) (rw last at a))
 
 -- ---- Into a second arena
@@ -119,17 +120,17 @@ module _ (child bs into : List ℕ) where
       go true false h = refl
       go false s h = refl
 
-  pub seed-not-arena : (length into ≡ arena_bytes → ⊥) → Seeded child bs into (Refused Size) into
+  pub seed-not-arena : (length into ≡ arena_bytes → ⊥) → Seeded child bs into (Err Size) into
   seed-not-arena h = rw seed-asks (finishes-refused both empty_graph 0 (deepened child bs) into Size (rw (ne_eqb (length into) arena_bytes h)))
 
   module _ (large : length into ≡ arena_bytes) where
     left-to-ask : refusal (asked child bs) ≡ refusal both
     left-to-ask = rw (eq-eqb (length into) arena_bytes large)
 
-    pub seed-refused : (r : Refusal) → refusal_number r ≡ refusal (asked child bs) → Seeded child bs into (Refused r) into
+    pub seed-refused : (r : Refusal) → refusal_number r ≡ refusal (asked child bs) → Seeded child bs into (Err r) into
     seed-refused r e = rw seed-asks (finishes-refused both empty_graph 0 (deepened child bs) into r (e ∙ left-to-ask))
 
     pub seed-done : 0 ≡ refusal (asked child bs) → (name : List ℕ) → name ≡ last_name child → (after : List ℕ)
-        → after ≡ encode (deepen name (decode bs)) into → Seeded child bs into Done after
+        → after ≡ encode (deepen name (decode bs)) into → Seeded child bs into (Ok tt) after
     seed-done e name last after a =
         rw seed-asks (finishes-done both empty_graph 0 (deepened child bs) into after (sym (e ∙ left-to-ask)) (rw last at a))

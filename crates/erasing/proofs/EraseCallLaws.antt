@@ -1,5 +1,7 @@
 -- The ways that the calls that find the erasable set and erase a set end: refused (`set-refused`,
 -- `erase-refused`) and done (`set-done`, `erase-done`). Assumes nothing.
+use Rattle.std.specs.Prelude.{Err, Ok}
+use mathlib.Core.Unit.{tt}
 use mathlib.Core.Path.{◌≡◌, refl, sym, ap, ◌∙◌}
 use mathlib.Core.Bool.{Bool, true, false, ◌&&◌, cond}
 use mathlib.Core.List.{List, [], ◌∷◌}
@@ -15,8 +17,6 @@ use Rattle.model.specs.Arena.{count_in, decode, holds_graph}
 use Rattle.model.specs.ArenaCalls.{is_arena, ValidArena, ask_arena}
 use Rattle.model.specs.declared.Refusal.{Refusal}
 use Rattle.model.specs.declared.Refusal.TheVariants.{Size, EraseSet}
-use Rattle.model.specs.declared.UnitResult.TheVariants.{Done, Refused as FinishRefused}
-use Rattle.model.specs.declared.NumberResult.TheVariants.{Number, Refused as NumberRefused}
 use Rattle.laws.proofs.ArenaCallLaws.{refusal-some, refused-before, asked-on, ask_both, buffer-refused, buffer-passed, on-arena-asks, wrote-decided-refused, wrote-decided}
 use Rattle.arena.proofs.ReadNodes.{sizes, node-zero}
 use Rattle.erasing.specs.EraseNodes.{ErasedArena}
@@ -52,17 +52,17 @@ module _ (bs set : List ℕ) where
   abbrev set_refusal : ℕ
   set_refusal = refusal (ask_set bs set (needs_node (decode bs)))
 
-  refused_as : (r : Refusal) → refusal_number r ≡ set_refusal → ErasableWritten bs set (FinishRefused r) set
+  refused_as : (r : Refusal) → refusal_number r ≡ set_refusal → ErasableWritten bs set (Err r) set
   refused_as r e = record { refused = e; bytes = rw (ne_eqb set_refusal 0 (λ z. refusal-some r (e ∙ z))) }
 
-  pub set-not-whole : (length set ≡ 1024 → ⊥) → ErasableWritten bs set (FinishRefused Size) set
+  pub set-not-whole : (length set ≡ 1024 → ⊥) → ErasableWritten bs set (Err Size) set
   set-not-whole h = refused_as Size (not_set bs set (needs_node (decode bs)) h)
 
   module _ (large : length set ≡ 1024) where
-    pub set-refused : (r : Refusal) → refusal_number r ≡ refusal (ask_arena bs (needs_node (decode bs))) → ErasableWritten bs set (FinishRefused r) set
+    pub set-refused : (r : Refusal) → refusal_number r ≡ refusal (ask_arena bs (needs_node (decode bs))) → ErasableWritten bs set (Err r) set
     set-refused r e = refused_as r (e ∙ sym (whole_set bs set (needs_node (decode bs)) large))
 
-    pub set-done : refusal (ask_arena bs (needs_node (decode bs))) ≡ 0 → (after : List ℕ) → after ≡ erasable (decode bs) → ErasableWritten bs set Done after
+    pub set-done : refusal (ask_arena bs (needs_node (decode bs))) ≡ 0 → (after : List ℕ) → after ≡ erasable (decode bs) → ErasableWritten bs set (Ok tt) after
     set-done e after a =
         let passes : set_refusal ≡ 0 = whole_set bs set (needs_node (decode bs)) large ∙ e in
         record { refused = sym passes; bytes = rw (eq-eqb set_refusal 0 passes) a }
@@ -90,15 +90,15 @@ module _ (set bs : List ℕ) where
       go true false = refl
       go false t = refl
 
-  refused-by : (r : Refusal) → refusal_number r ≡ refusal erase_all → Erased set bs (NumberRefused r) bs
+  refused-by : (r : Refusal) → refusal_number r ≡ refusal erase_all → Erased set bs (Err r) bs
   refused-by r e = rw erase-asks (wrote-decided-refused erase_all (decode bs) kept_count (erase set (decode bs)) bs r e)
 
-  pub erase-not-whole : (length set ≡ 1024 → ⊥) → Erased set bs (NumberRefused Size) bs
+  pub erase-not-whole : (length set ≡ 1024 → ⊥) → Erased set bs (Err Size) bs
   erase-not-whole h = refused-by Size (not_set bs set (erase_questions set (decode bs)) h)
 
   module _ (large : length set ≡ 1024) where
     -- by the questions that the erasable set is put too
-    pub erase-refused : (r : Refusal) → refusal_number r ≡ refusal (ask_arena bs (needs_node (decode bs))) → Erased set bs (NumberRefused r) bs
+    pub erase-refused : (r : Refusal) → refusal_number r ≡ refusal (ask_arena bs (needs_node (decode bs))) → Erased set bs (Err r) bs
     erase-refused r e =
         refused-by r
         (refused-before r (ask_arena bs (needs_node (decode bs))) (ask 11 (can_erase (decode bs) set) ∷ []) e
@@ -108,10 +108,10 @@ module _ (set bs : List ℕ) where
       set-left : refusal erase_all ≡ refusal (ask 11 (can_erase (decode bs) set) ∷ [])
       set-left = asks-own bs set (erase_questions set (decode bs)) large o ∙ rw (node-zero bs o some)
 
-      pub erase-not-accepted : can_erase (decode bs) set ≡ false → Erased set bs (NumberRefused EraseSet) bs
+      pub erase-not-accepted : can_erase (decode bs) set ≡ false → Erased set bs (Err EraseSet) bs
       erase-not-accepted e = refused-by EraseSet (sym (set-left ∙ rw e))
 
-      pub erase-done : can_erase (decode bs) set ≡ true → (n : ℕ) (after : List ℕ) → ErasedArena set bs n after → Erased set bs (Number n) after
+      pub erase-done : can_erase (decode bs) set ≡ true → (n : ℕ) (after : List ℕ) → ErasedArena set bs n after → Erased set bs (Ok n) after
       erase-done e n after erased =
           rw erase-asks
           (wrote-decided erase_all (decode bs) kept_count (erase set (decode bs)) bs after n (set-left ∙ rw e)

@@ -4,43 +4,43 @@
 // each answers and leaves.
 ghost use Rattle.erasing.specs.Erasures.{ErasableWritten, Erased};
 
-use model::{NumberResult, Refusal, UnitResult};
+use model::Refusal;
 
 // Writes the erasable set to `set`, which has 1,024 bytes: 1 for a node that goes, 0 for one that
 // stays and from the count on. Refused 1, 2 and 3.
-pub fn erasable(arena: &[u8], set: &mut [u8]) -> UnitResult
+pub fn erasable(arena: &[u8], set: &mut [u8]) -> Result<(), Refusal>
     ensures { ErasableWritten arena.now set.old result set.new }
 {
     if set.len() != arena::SET_BYTES {
-        return UnitResult::Refused(Refusal::Size);
+        return Err(Refusal::Size);
     }
     let asked = validate::ask_node_zero(arena);
     match asked {
-        UnitResult::Done => {
+        Ok(()) => {
             crate::sets::erasable(arena, set);
-            UnitResult::Done
+            Ok(())
         }
-        UnitResult::Refused(refusal) => UnitResult::Refused(refusal),
+        Err(refusal) => Err(refusal),
     }
 }
 
 // Erases the nodes whose byte in `set` is 1, renumbers the rest in order, and answers how many are
 // kept. Refused 1, 2, 3, and 11 where the set has another byte below the count, a Root arc, or the
 // parent or origin of a node that stays.
-pub fn erase(arena: &mut [u8], set: &[u8]) -> NumberResult
+pub fn erase(arena: &mut [u8], set: &[u8]) -> Result<u32, Refusal>
     ensures { Erased set.now arena.old result arena.new }
 {
     if set.len() != arena::SET_BYTES {
-        return NumberResult::Refused(Refusal::Size);
+        return Err(Refusal::Size);
     }
     let asked = validate::ask_node_zero(arena);
     match asked {
-        UnitResult::Done => {
+        Ok(()) => {
             if !crate::sets::can_erase(arena, set) {
-                return NumberResult::Refused(Refusal::EraseSet);
+                return Err(Refusal::EraseSet);
             }
-            NumberResult::Number(crate::in_place::erase(arena, set))
+            Ok(crate::in_place::erase(arena, set))
         }
-        UnitResult::Refused(refusal) => NumberResult::Refused(refusal),
+        Err(refusal) => Err(refusal),
     }
 }

@@ -1,6 +1,9 @@
 -- What the first questions of a call say of all of them (`refused-before`, `passed-opened`), and
 -- the answers that are right: one law for each way a call can end, whatever its questions are.
 -- Assumes nothing.
+use Rattle.std.specs.Prelude.{Err, Ok, Option, Result}
+use mathlib.Core.Unit.{tt}
+use Rattle.model.specs.declared.NodeId.{NodeId}
 use mathlib.Core.Path.{◌≡◌, refl, sym, ap, ◌∙◌}
 use mathlib.Core.Bool.{Bool, true, false, ◌&&◌, cond}
 use mathlib.Core.List.{List, [], ◌∷◌, ◌++◌}
@@ -12,17 +15,12 @@ use Rattle.model.specs.Graph.{Graph}
 use Rattle.model.specs.Refusals.{refusal_number, Question, ask, refusal}
 use Rattle.model.specs.Calls.{Outcome, unchanged, settled, decided}
 use Rattle.model.specs.Arena.{arena_bytes, decode, encode, holds_graph}
-use Rattle.model.specs.Answers.{number_refusal, number_value, node_option}
+use Rattle.model.specs.Answers.{answer_refusal, number_value, node_option}
 use Rattle.model.specs.ArenaCalls.{is_arena, ValidArena, on_arena, Wrote, Finishes, ask_arena, value_unless, Answers, Answered, AnsweredNode, PutPath}
 use Rattle.model.specs.Bytes.{stored}
 use Rattle.model.specs.Node.{optional}
 use Rattle.model.specs.declared.Refusal.{Refusal}
 use Rattle.model.specs.declared.Refusal.TheVariants.{Size, NotAGraph, NodeZero, Node as NodeNumber, Path, Kind, Capacity, NotSiblings, NoOrder, NotOrdered, EraseSet, Snapshot}
-use Rattle.model.specs.declared.NodeOption.{NodeOption}
-use Rattle.model.specs.declared.NodeResult.TheVariants.{Found, Refused as NodeRefused}
-use Rattle.model.specs.declared.NumberResult.{NumberResult}
-use Rattle.model.specs.declared.NumberResult.TheVariants.{Number, Refused as NumberRefused}
-use Rattle.model.specs.declared.UnitResult.TheVariants.{Done, Refused as FinishRefused}
 
 -- ---- Refusals
 
@@ -64,22 +62,22 @@ module _ (questions : List Question) (value : ℕ) where
 
 -- of a call that looks for a node
 module _ (questions : List Question) (answer : ℕ) where
-  pub found-refused : (r : Refusal) → refusal_number r ≡ refusal questions → AnsweredNode questions answer (NodeRefused r)
+  pub found-refused : (r : Refusal) → refusal_number r ≡ refusal questions → AnsweredNode questions answer (Err r)
   found-refused r e = record { refused = e; value = rw (ne_eqb (refusal questions) 0 (λ z. refusal-some r (e ∙ z))) }
 
-  pub found-node : (node : NodeOption) → refusal questions ≡ 0 → node_option node ≡ optional answer → AnsweredNode questions answer (Found node)
+  pub found-node : (node : Option NodeId) → refusal questions ≡ 0 → node_option node ≡ optional answer → AnsweredNode questions answer (Ok node)
   found-node node e v = record { refused = sym e; value = rw (eq-eqb (refusal questions) 0 e) v }
 
 -- of a call that puts a path into a buffer
 module _ (questions : List Question) (path before : List ℕ) where
-  pub put_refused : (r : Refusal) → refusal_number r ≡ refusal questions → PutPath questions path before (NumberRefused r) before
+  pub put_refused : (r : Refusal) → refusal_number r ≡ refusal questions → PutPath questions path before (Err r) before
   put_refused r e = record {
     answered = answered-refused questions (length path) r e;
     buffer = rw (ne_eqb (refusal questions) 0 (λ z. refusal-some r (e ∙ z)));
   }
 
-  pub put-done : (r : NumberResult) (after p : List ℕ) → refusal questions ≡ 0 → p ≡ path
-      → (number_refusal r ≡ 0) × (number_value r ≡ length p) → after ≡ stored 0 p before → PutPath questions path before r after
+  pub put-done : (r : Result ℕ Refusal) (after p : List ℕ) → refusal questions ≡ 0 → p ≡ path
+      → (answer_refusal r ≡ 0) × (number_value r ≡ length p) → after ≡ stored 0 p before → PutPath questions path before r after
   put-done r after p e same answer wrote = record {
     answered = record {
       refused = answer.0 ∙ sym e;
@@ -109,7 +107,7 @@ module _ (bs : List ℕ) where
       go false s h q e = absurd (omega arith)
 
   -- what the count's answer says
-  pub count-number : (value n : ℕ) → Answered (ask_arena bs []) value (Number n) → ValidArena bs × (n ≡ value)
+  pub count-number : (value n : ℕ) → Answered (ask_arena bs []) value (Ok n) → ValidArena bs × (n ≡ value)
   count-number value n a = (passed-opened [] (sym a.refused), a.value ∙ ap (λ (k : ℕ). value_unless k value) (sym a.refused))
 
 -- ---- Question 1 of a second buffer
@@ -137,10 +135,10 @@ module _ (bs : List ℕ) (sized : Bool) (qs : List Question) where
 -- ---- The calls that write a graph
 
 -- a call that comes to a refusal, or to a number and a graph
-pub wrote-refused : (bs : List ℕ) (o : Outcome) (r : Refusal) → refusal_number r ≡ o.refused → o.value ≡ 0 → Wrote o bs (NumberRefused r) bs
+pub wrote-refused : (bs : List ℕ) (o : Outcome) (r : Refusal) → refusal_number r ≡ o.refused → o.value ≡ 0 → Wrote o bs (Err r) bs
 wrote-refused bs o r e v = record { refused = e; value = sym v; arena = rw (ne_eqb o.refused 0 (λ z. refusal-some r (e ∙ z))) }
 
-pub wrote-number : (bs after : List ℕ) (o : Outcome) (n : ℕ) → o.refused ≡ 0 → n ≡ o.value → after ≡ encode o.graph bs → Wrote o bs (Number n) after
+pub wrote-number : (bs after : List ℕ) (o : Outcome) (n : ℕ) → o.refused ≡ 0 → n ≡ o.value → after ≡ encode o.graph bs → Wrote o bs (Ok n) after
 wrote-number bs after o n e v a = record { refused = sym e; value = v; arena = rw (eq-eqb o.refused 0 e) a }
 
 module _ (bs : List ℕ) (f : Graph → Outcome) where
@@ -166,21 +164,21 @@ module _ (questions : List Question) (g : Graph) (value : ℕ) (result : Graph) 
   decided-accepted e = rw e
 
   -- by the call's own questions
-  pub wrote-decided-refused : (bs : List ℕ) (r : Refusal) → refusal_number r ≡ refusal questions → Wrote (decided questions g value result) bs (NumberRefused r) bs
+  pub wrote-decided-refused : (bs : List ℕ) (r : Refusal) → refusal_number r ≡ refusal questions → Wrote (decided questions g value result) bs (Err r) bs
   wrote-decided-refused bs r e = go (refusal questions) refl
     where
-      go : (k : ℕ) → refusal questions ≡ k → Wrote (settled k g value result) bs (NumberRefused r) bs
+      go : (k : ℕ) → refusal questions ≡ k → Wrote (settled k g value result) bs (Err r) bs
       go zero q = absurd (refusal-some r (e ∙ q))
       go (suc k) q = wrote-refused bs (unchanged (suc k) g) r (e ∙ q) refl
 
   pub wrote-decided : (bs after : List ℕ) (n : ℕ) → refusal questions ≡ 0 → n ≡ value → after ≡ encode result bs
-      → Wrote (decided questions g value result) bs (Number n) after
+      → Wrote (decided questions g value result) bs (Ok n) after
   wrote-decided bs after n e v a =
       rw (decided-accepted e) (wrote-number bs after (record { refused = 0; value = value; graph = result }) n refl v a)
 
   -- of a call that gives nothing but its refusal
-  pub finishes-refused : (bs : List ℕ) (r : Refusal) → refusal_number r ≡ refusal questions → Finishes (decided questions g value result) bs (FinishRefused r) bs
+  pub finishes-refused : (bs : List ℕ) (r : Refusal) → refusal_number r ≡ refusal questions → Finishes (decided questions g value result) bs (Err r) bs
   finishes-refused bs r e = let wrote = wrote-decided-refused bs r e in record { refused = wrote.refused; arena = wrote.arena }
 
-  pub finishes-done : (bs after : List ℕ) → refusal questions ≡ 0 → after ≡ encode result bs → Finishes (decided questions g value result) bs Done after
+  pub finishes-done : (bs after : List ℕ) → refusal questions ≡ 0 → after ≡ encode result bs → Finishes (decided questions g value result) bs (Ok tt) after
   finishes-done bs after e a = let wrote = wrote-decided bs after value e refl a in record { refused = wrote.refused; arena = wrote.arena }

@@ -1,9 +1,9 @@
 -- A graph that is grown, culled and asked for its erasable set, by computation and by the laws: so
 -- their hypotheses can be met. Among them document 01's "a marked origin of an unmarked node
 -- stays". Assumes nothing.
+use Rattle.std.specs.Prelude.{None, Some}
 use mathlib.Core.Path.{◌≡◌, refl}
 use mathlib.Core.Bool.{Bool, true, false, not, ◌||◌, ◌&&◌, cond, and-eq-true_iff}
-use mathlib.Core.Option.{none, some}
 use mathlib.Core.List.{List, [], ◌∷◌}
 use Prim.Native.Nat.{ℕ, ◌+◌, ◌<◌}
 use Prim.Native.String.{String}
@@ -46,9 +46,9 @@ sample f = record {
 
 abbrev under : ℕ → ℕ → ℕ → ℕ → String → Call
 under parent arc origin has_specs path =
-    adding (record { fields = node arc 0 0 0 0 has_specs path; parent = some parent; origin = optional origin; depth = some 1 })
+    adding (record { fields = node arc 0 0 0 0 has_specs path; parent = Some parent; origin = optional origin; depth = Some 1 })
 
-grown : calls (starting 0 0 (bytes "/M/a") ∷ adding (record { fields = node 0 0 0 0 0 1 "/M/a"; parent = none; origin = none; depth = none })
+grown : calls (starting 0 0 (bytes "/M/a") ∷ adding (record { fields = node 0 0 0 0 0 1 "/M/a"; parent = None; origin = None; depth = None })
     ∷ under 1 4 invalid 0 "/R/a" ∷ under 1 1 2 1 "/C/a" ∷ under 1 4 invalid 0 "/Q/a" ∷ under 4 1 invalid 0 "/K/a" ∷ []) empty_graph ≡ sample 0
 unfolding init_root add_child with_node well_formed prim_count is_name_start is_word_byte is_selection_byte depth_below_introduction is_local_root
 grown = refl
@@ -87,7 +87,7 @@ higher v c m = go (ltb v 6) refl
         ltb-true v c (every-at (ltb v) (get_or (sample 0).children v []) c
         ((all-below (λ v. every (ltb v) (get_or (sample 0).children v [])) 6).0 refl v (ltb-true v 6 e)) m)
     go false e =
-        let none = get_or-eq_default (sample 0).children [] (ltb-false v 6 e) in absurd (omega (arith, rw none at m))
+        let None = get_or-eq_default (sample 0).children [] (ltb-false v 6 e) in absurd (omega (arith, rw None at m))
 
 -- ---- Culling
 

@@ -1,9 +1,9 @@
 -- A list of calls whose graph meets every hypothesis of demand 3, by computation: it is ordered,
 -- finalized, and has a node to erase. Then a start by reading, one by seeding, and an empty one
 -- with marks. Assumes nothing.
+use Rattle.std.specs.Prelude.{None, Option, Some}
 use mathlib.Core.Path.{◌≡◌, refl}
 use mathlib.Core.Bool.{true, false, false≢true}
-use mathlib.Core.Option.{Option, none, some}
 use mathlib.Core.List.{List, [], ◌∷◌}
 use Prim.Native.Nat.{ℕ, ◌<◌}
 use Prim.Native.String.{String}
@@ -32,7 +32,7 @@ add parent arc has_specs depth path =
     adding (record {
       fields = sample_node 0 arc 0 0 0 0 0 has_specs (bytes path);
       parent = optional parent;
-      origin = none;
+      origin = None;
       depth = depth;
     })
 
@@ -40,9 +40,9 @@ add parent arc has_specs depth path =
 -- The second start is refused, and so is the mark of an arc's flag. Culling marks 2.
 abbrev grown : List Call
 grown =
-    starting 0 0 (bytes "/M/a") ∷ starting 0 0 (bytes "/N") ∷ add invalid root_arc 1 none "/M/a" ∷ add 1 4 0 (some 1) "/R/a"
-    ∷ add 1 4 1 (some 1) "/Q/a" ∷ add 1 inherit_arc 1 (some 1) "/C/a" ∷ orders ∷ culls ∷ deepening (bytes "/b")
-    ∷ marking 3 1 ∷ marking 3 8 ∷ setting_first_spec 4 (some 2) ∷ setting_has_specs 3 true ∷ setting_restriction 1 1 ∷ []
+    starting 0 0 (bytes "/M/a") ∷ starting 0 0 (bytes "/N") ∷ add invalid root_arc 1 None "/M/a" ∷ add 1 4 0 (Some 1) "/R/a"
+    ∷ add 1 4 1 (Some 1) "/Q/a" ∷ add 1 inherit_arc 1 (Some 1) "/C/a" ∷ orders ∷ culls ∷ deepening (bytes "/b")
+    ∷ marking 3 1 ∷ marking 3 8 ∷ setting_first_spec 4 (Some 2) ∷ setting_has_specs 3 true ∷ setting_restriction 1 1 ∷ []
 
 abbrev example : Graph
 example = calls grown empty_graph

@@ -2,10 +2,10 @@
 -- `node-more-keeps-legal`): so do starting and adding, and so does reading, record by record from
 -- the empty graph, whatever graph was there before (`reading-legal-or-refused`).
 -- Assumes nothing.
+use Rattle.std.specs.Prelude.{None, Option, Some}
 use mathlib.Core.Path.{◌≡◌, refl, sym, ◌∙◌}
 use mathlib.Core.Logic.{◌⊎◌, inl, inr}
 use mathlib.Core.Bool.{Bool, true, false, not, ◌||◌, ◌&&◌, true≢false, false≢true, and-eq-true_iff}
-use mathlib.Core.Option.{Option, none, some}
 use mathlib.Core.List.{List, [], ◌∷◌, ◌++◌}
 use Prim.Native.Nat.{ℕ, zero, suc, ◌+◌, ◌≤◌, ◌<◌}
 use native.Mathlib.Omega.{arith}
@@ -204,8 +204,8 @@ starting-keeps-legal stack layer path g legal =
 
 -- a link that is missing or below the count, and what stands for it, is below the count
 link-below : (count : ℕ) (link : Option ℕ) (default : ℕ) → given_below count link ≡ true → default < count → given_or link default < count
-link-below count none default e h = h
-link-below count (some n) default e h = ltb-true n count e
+link-below count None default e h = h
+link-below count (Some n) default e h = ltb-true n count e
 
 abbrev add_questions : NodeDesc → Graph → List Question
 add_questions d g =
@@ -298,5 +298,5 @@ unfolding read_into
 reading-legal-or-refused bytes old = go (read_snapshot bytes)
   where
     go : (found : Option (List Node)) → LegalOrRefused old (read_or12 found old)
-    go none = inr (omega arith, refl)
-    go (some xs) = read-on-legal old empty_graph xs empty-legal
+    go None = inr (omega arith, refl)
+    go (Some xs) = read-on-legal old empty_graph xs empty-legal

@@ -1,8 +1,8 @@
 -- The calls that set fields of one node leave a graph legal, ordered and finalized as it was: they
 -- set nothing that a comparison sees. Assumes nothing.
+use Rattle.std.specs.Prelude.{None, Option, Some}
 use mathlib.Core.Path.{◌≡◌, refl, ◌∙◌}
 use mathlib.Core.Bool.{Bool, true, false, ◌&&◌, cond, and-eq-true_iff}
-use mathlib.Core.Option.{Option, none, some}
 use mathlib.Core.List.{List, [], ◌∷◌}
 use Prim.Native.Nat.{ℕ, ◌≤◌, ◌<◌}
 use native.Mathlib.Omega.{arith}
@@ -134,12 +134,12 @@ first-spec-keeps-legal n first g =
     sets-keeps-legal n [] (with_first_spec first) g refl (λ a legal. settable first legal (ltb-true n (size g) (a 4)))
   where
     settable : (o : Option ℕ) → Legal g → n < size g → Settable g n (with_first_spec o (node_at g.nodes n))
-    settable none legal l = site-settable g n (node_at g.nodes n).restriction 0 0 legal l (omega arith)
-    settable (some p) legal l = site-settable g n (node_at g.nodes n).restriction p 1 legal l (omega arith)
+    settable None legal l = site-settable g n (node_at g.nodes n).restriction 0 0 legal l (omega arith)
+    settable (Some p) legal l = site-settable g n (node_at g.nodes n).restriction p 1 legal l (omega arith)
 
 pub has-specs-keeps-legal : (n : ℕ) (authored : Bool) (g : Graph) → Legal g → Legal (set_has_specs n authored g).graph
 unfolding set_has_specs
-has-specs-keeps-legal n authored = first-spec-keeps-legal n (cond authored (some 0) none)
+has-specs-keeps-legal n authored = first-spec-keeps-legal n (cond authored (Some 0) None)
 
 pub restriction-keeps-legal : (n depth : ℕ) (g : Graph) → Legal g → Legal (set_restriction_depth n depth g).graph
 unfolding set_restriction_depth

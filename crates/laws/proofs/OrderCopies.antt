@@ -13,8 +13,8 @@ use Prim.Native.Nat.{ℕ, suc}
 use native.Mathlib.Omega.{arith}
 use lib.Dec.{eqb}
 use borrow.Author.Tests.{eqb-true, eqb-false}
-use Rattle.model.specs.declared.Ordering.{Ordering}
-use Rattle.model.specs.declared.Ordering.TheVariants.{Less, Equal, Greater}
+use Rattle.std.specs.declared.cmp.Ordering.{Ordering}
+use Rattle.std.specs.declared.cmp.Ordering.TheVariants.{Less, Equal, Greater}
 use Rattle.model.specs.Lists.{All, Pairs}
 use Rattle.model.specs.Strength.{View, first, smaller, larger, having, is_authored, is_implied, origin_root_node, origin_hops, origins_are_nested, class_depth, implied_over, same_origin_lines, local_line, same_root_lines, origin_lines, depth_line, specializes_lines, sibling_lines}
 use Rattle.model.specs.Order.{is_less, Sorted}

@@ -12,8 +12,8 @@ use native.Mathlib.Omega.{arith}
 use native.Mathlib.Decide.{dec_lt}
 use lib.Dec.{eqb}
 use borrow.Author.Tests.{eqb-true, eqb-false, eq-eqb, ne_eqb}
-use Rattle.model.specs.declared.Ordering.{Ordering}
-use Rattle.model.specs.declared.Ordering.TheVariants.{Less, Equal, Greater}
+use Rattle.std.specs.declared.cmp.Ordering.{Ordering}
+use Rattle.std.specs.declared.cmp.Ordering.TheVariants.{Less, Equal, Greater}
 use Rattle.model.specs.Lists.{All, Pairs}
 use Rattle.model.specs.Strength.{View, first, smaller, having, follow, is_authored, is_propagated_specializes, origin_root_node, outward, is_nested_under, origins_are_nested, same_origin_lines, origin_lines, depth_line, specializes_lines, plain_lines, sibling_lines, compare_sibling_node_strength, compare_node_strength}
 use Rattle.model.specs.Order.{is_less, Sorted}

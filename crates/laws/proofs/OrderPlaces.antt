@@ -16,8 +16,8 @@ use Prim.Native.Nat.{ℕ, zero, suc, ◌+◌, ◌≤◌, ◌<◌}
 use native.Mathlib.Omega.{arith}
 use lib.Dec.{ltb}
 use borrow.Author.Tests.{lt-ltb, ltb-true}
-use Rattle.model.specs.declared.Ordering.{Ordering}
-use Rattle.model.specs.declared.Ordering.TheVariants.{Less}
+use Rattle.std.specs.declared.cmp.Ordering.{Ordering}
+use Rattle.std.specs.declared.cmp.Ordering.TheVariants.{Less}
 use Rattle.model.specs.Lists.{All, Pairs, count, SameCounts, pick}
 use Rattle.model.specs.Graph.{Graph, size, children_of}
 use Rattle.model.specs.Strength.{View, view_of, origin_root_node, sibling_lines, nodes_by, compare_sibling_node_strength, compare_node_strength}

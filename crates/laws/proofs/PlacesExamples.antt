@@ -2,9 +2,9 @@
 -- OrderRings.antt: document 01's four nodes, whose order places certify without a comparison
 -- through origins; a Specialize with copies and copies of these, in order by neighbours; and
 -- document 01's ring, refused by its cycle of three. Assumes nothing.
+use Rattle.std.specs.Prelude.{None}
 use mathlib.Core.Path.{◌≡◌, refl, sym, ◌∙◌}
 use mathlib.Core.Bool.{false, false≢true}
-use mathlib.Core.Option.{none}
 use mathlib.Core.List.{List, [], ◌∷◌}
 use Prim.Native.Nat.{ℕ, zero, suc, ◌≤◌, ◌<◌}
 use native.Mathlib.Omega.{arith}
@@ -83,8 +83,8 @@ four-order =
 
 abbrev copies : List Call
 copies =
-    line (add 1 specialize_arc 8 0 1 none 0 "/S" ∷ add 1 specialize_arc 8 0 2 none 0 "/S" ∷ add 1 specialize_arc 8 0 2 none 0 "/T"
-    ∷ add 1 specialize_arc 8 0 3 none 0 "/S" ∷ add 1 specialize_arc 8 0 4 none 0 "/T" ∷ [])
+    line (add 1 specialize_arc 8 0 1 None 0 "/S" ∷ add 1 specialize_arc 8 0 2 None 0 "/S" ∷ add 1 specialize_arc 8 0 2 None 0 "/T"
+    ∷ add 1 specialize_arc 8 0 3 None 0 "/S" ∷ add 1 specialize_arc 8 0 4 None 0 "/T" ∷ [])
 
 abbrev copies_view : View
 copies_view = view (from copies).nodes

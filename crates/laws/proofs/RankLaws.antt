@@ -8,7 +8,7 @@ use native.Mathlib.Omega.{arith}
 use lib.Dec.{ltb}
 use borrow.Author.Tests.{ltb-true, eqb-true}
 use Rattle.model.proofs.RankExamples.{answers_alike, forty-nine}
-use Rattle.model.specs.declared.Ordering.{Ordering}
+use Rattle.std.specs.declared.cmp.Ordering.{Ordering}
 use Rattle.model.specs.Lists.{all_below}
 use Rattle.model.specs.Graph.{Graph, size}
 use Rattle.model.specs.Strength.{arc_rank, view_of, first, smaller, specializes_lines, plain_lines, sibling_lines}

@@ -1,10 +1,11 @@
 -- The laws of a snapshot's bytes: a record, and a snapshot, that was written is read back; and
 -- whatever bytes the reader takes at question 12 are those that the writer makes of the nodes read.
 -- So the two are inverse. Assumes nothing.
+use Rattle.std.specs.Prelude.{None, Option, Some, unwrap_or}
+use Rattle.std.proofs.lemmas.Option.{none-some}
 use mathlib.Core.Path.{◌≡◌, refl, sym, ap, ◌∙◌}
 use mathlib.Core.Logic.{◌↔◌}
 use mathlib.Core.Bool.{Bool, true, false, ◌&&◌, cond, and-eq-true_iff}
-use mathlib.Core.Option.{Option, none, some, some-injective, none-ne-some}
 use mathlib.Core.List.{List, [], ◌∷◌, ◌++◌}
 use Prim.Native.Nat.{ℕ, zero, suc, ◌+◌, ◌*◌, ◌^◌, ◌≤◌, ◌<◌}
 use native.Mathlib.Omega.{arith}
@@ -163,7 +164,7 @@ module _ (x : Node) (h : FieldsFit x) (n : ℕ) (rest : List ℕ) where
         drop-append_seam (record_body x) rest,
       )
 
-records-read-back : (xs : List Node) → NodesFit xs → read_records (length xs) (records_bytes xs) ≡ some xs
+records-read-back : (xs : List Node) → NodesFit xs → read_records (length xs) (records_bytes xs) ≡ Some xs
 unfolding read_records
 records-read-back [] h = refl
 records-read-back (x ∷ xs) h =
@@ -176,7 +177,7 @@ records-length (x ∷ xs) h =
 
 -- ---- The snapshot
 
-pub written-reads-back : (g : Graph) → NodesFit g.nodes → size g < 65536 → read_snapshot (write_snapshot g) ≡ some g.nodes
+pub written-reads-back : (g : Graph) → NodesFit g.nodes → size g < 65536 → read_snapshot (write_snapshot g) ≡ Some g.nodes
 unfolding read_snapshot write_snapshot
 written-reads-back g h l =
     let counted : field 0 4 (write_snapshot g) ≡ length (snapshot_body g) =
@@ -229,14 +230,14 @@ written-bytes g h =
 -- ---- What the reader takes
 
 -- a test that guards an answer, and a record before the rest
-guarded : (t : Bool) (o : Option (List Node)) (xs : List Node) → cond t o none ≡ some xs → (t ≡ true) × (o ≡ some xs)
+guarded : (t : Bool) (o : Option (List Node)) (xs : List Node) → cond t o None ≡ Some xs → (t ≡ true) × (o ≡ Some xs)
 guarded true o xs e = (refl, e)
-guarded false o xs e = absurd (none-ne-some xs e)
+guarded false o xs e = absurd (none-some xs e)
 
-after_one : (x : Node) (o : Option (List Node)) (xs : List Node) → before x o ≡ some xs
-    → (ys : List Node) × (o ≡ some ys) × (xs ≡ x ∷ ys)
-after_one x none xs e = absurd (none-ne-some xs e)
-after_one x (some ys) xs e = (ys, refl, cc)
+after_one : (x : Node) (o : Option (List Node)) (xs : List Node) → before x o ≡ Some xs
+    → (ys : List Node) × (o ≡ Some ys) × (xs ≡ x ∷ ys)
+after_one x None xs e = absurd (none-some xs e)
+after_one x (Some ys) xs e = (ys, refl, cc)
 
 pub and_first : (a b : Bool) → (a && b) ≡ true → a ≡ true
 and_first a b e = ((and-eq-true_iff a b).0 e).0
@@ -282,10 +283,10 @@ record AreRecords (n : ℕ) (bs : List ℕ) (xs : List Node) : Type 0 where
   number : length xs ≡ n
   fit : NodesFit xs
 
-records-are-written : (n : ℕ) (bs : List ℕ) (xs : List Node) → Bytes bs → read_records n bs ≡ some xs → AreRecords n bs xs
+records-are-written : (n : ℕ) (bs : List ℕ) (xs : List Node) → Bytes bs → read_records n bs ≡ Some xs → AreRecords n bs xs
 unfolding read_records
-records-are-written zero [] xs h e = rw (some-injective xs [] (sym e)) (record { bytes = refl; number = refl; fit = tt })
-records-are-written zero (b ∷ bs) xs h e = absurd (none-ne-some xs e)
+records-are-written zero [] xs h e = rw (ap (λ (o : Option (List Node)). unwrap_or o xs) (sym e)) (record { bytes = refl; number = refl; fit = tt })
+records-are-written zero (b ∷ bs) xs h e = absurd (none-some xs e)
 records-are-written (suc n) bs xs h e =
     let rest : List ℕ = drop (2 + field 0 2 bs) bs in
     let x : Node = read_record (take (field 0 2 bs) (drop 2 bs)) in
@@ -305,7 +306,7 @@ record Exact (bs : List ℕ) (xs : List Node) : Type 0 where
   version : field 4 1 bs ≡ 1
   records : AreRecords (field 5 2 bs) (drop 7 bs) xs
 
-module _ (bs : List ℕ) (xs : List Node) (h : Bytes bs) (e : read_snapshot bs ≡ some xs) where
+module _ (bs : List ℕ) (xs : List Node) (h : Bytes bs) (e : read_snapshot bs ≡ Some xs) where
   exact : Exact bs xs
   unfolding read_snapshot
   exact =
@@ -336,7 +337,7 @@ module _ (bs : List ℕ) (xs : List Node) (h : Bytes bs) (e : read_snapshot bs �
 
 -- bytes are read as the nodes of g exactly if they are what is written of g, and that fits
 pub read-exactly-written : (bs : List ℕ) (g : Graph) → Bytes bs
-    → (read_snapshot bs ≡ some g.nodes) ↔ (NodesFit g.nodes × (size g < 65536) × (write_snapshot g ≡ bs))
+    → (read_snapshot bs ≡ Some g.nodes) ↔ (NodesFit g.nodes × (size g < 65536) × (write_snapshot g ≡ bs))
 read-exactly-written bs g h = (
   λ e. (read-nodes-fit bs g.nodes h e, read-size bs g.nodes h e, read-is-written bs g.nodes h e g refl),
   λ k. rw (← k.2) (written-reads-back g k.0 k.1),

@@ -2,10 +2,10 @@
 -- graph whose records pass their questions, written and read, comes back as the graph built of its
 -- nodes; that an accepted read leaves such a graph, and a refused one leaves the graph as it was.
 -- Assumes nothing.
+use Rattle.std.specs.Prelude.{None, Option, Some}
 use mathlib.Core.Path.{◌≡◌, refl, sym, ap, ◌∙◌}
 use mathlib.Core.Logic.{◌≢◌}
 use mathlib.Core.Bool.{Bool, true, false, ◌&&◌, ◌||◌, and-eq-true_iff, or_comm}
-use mathlib.Core.Option.{Option, none, some}
 use mathlib.Core.List.{List, [], ◌∷◌, ◌++◌, foldl, append-nil}
 use Prim.Native.Nat.{ℕ, zero, suc, ◌+◌, ◌≤◌, ◌<◌}
 use native.Mathlib.Omega.{arith}
@@ -288,8 +288,8 @@ read-on-refused old g (x ∷ xs) h =
     if-refused (refusal (record_questions g x)) (read_on old (with_node g x) xs) old (read-on-refused old (with_node g x) xs) h
 
 or12-refused : (o : Option (List Node)) (old : Graph) → (read_or12 o old).refused ≢ 0 → read_or12 o old ≡ unchanged (read_or12 o old).refused old
-or12-refused none old h = refl
-or12-refused (some xs) old h = read-on-refused old empty_graph xs h
+or12-refused None old h = refl
+or12-refused (Some xs) old h = read-on-refused old empty_graph xs h
 
 -- "the first no is the answer, with value 0 and every lent byte unchanged"
 pub refused-read-keeps : (bytes : List ℕ) (old : Graph) → (read_into bytes old).refused ≢ 0
@@ -298,7 +298,7 @@ unfolding read_into
 refused-read-keeps bytes old h = or12-refused (read_snapshot bytes) old h
 
 -- records that grow are read
-pub grown-read : (bytes : List ℕ) (old : Graph) (xs : List Node) → read_snapshot bytes ≡ some xs → Grows xs
+pub grown-read : (bytes : List ℕ) (old : Graph) (xs : List Node) → read_snapshot bytes ≡ Some xs → Grows xs
     → read_into bytes old ≡ accepted (built xs)
 unfolding read_into
 grown-read bytes old xs e h = rw (e, read_or12) (read-on-grows old empty_graph xs h)
@@ -306,7 +306,7 @@ grown-read bytes old xs e h = rw (e, read_or12) (read-on-grows old empty_graph x
 -- and there is no other way to be accepted
 pub record AcceptedRead (bytes : List ℕ) (old : Graph) : Type 0 where
   pub nodes : List Node
-  pub read : read_snapshot bytes ≡ some nodes
+  pub read : read_snapshot bytes ≡ Some nodes
   pub grow : Grows nodes
   pub answer : read_into bytes old ≡ accepted (built nodes)
 
@@ -315,8 +315,8 @@ unfolding read_into
 accepted-read bytes old z = go (read_snapshot bytes) refl z
   where
     go : (o : Option (List Node)) → read_snapshot bytes ≡ o → (read_or12 o old).refused ≡ 0 → AcceptedRead bytes old
-    go none e y = absurd (omega arith)
-    go (some xs) e y =
+    go None e y = absurd (omega arith)
+    go (Some xs) e y =
         let grow = read-on-accepted old empty_graph xs y in
         record { nodes = xs; read = e; grow = grow; answer = grown-read bytes old xs e grow }
 

@@ -10,7 +10,7 @@ use native.Mathlib.Omega.{arith}
 use native.Mathlib.Decide.{dec_lt}
 use lib.Dec.{eqb, ltb}
 use borrow.Author.Tests.{eqb-true, eqb-false, eq-eqb, ltb-true, ltb-false, lt-ltb, le-ltb}
-use Rattle.model.specs.declared.Ordering.{Ordering}
+use Rattle.std.specs.declared.cmp.Ordering.{Ordering}
 use Rattle.model.specs.Node.{relocate_arc, specialize_arc}
 use Rattle.model.specs.Strength.{View, smaller, having, follow, is_authored, is_implied, is_propagated_specializes, origin_root_node, origin_hops, outward, is_nested_under, origins_are_nested, replaced, class_hierarchy_from, starting_node_of_class_hierarchy, skip_relocates, namespace_depth_for_class_hierarchy, class_depth, implied_over, same_origin_lines, local_line, same_root_lines, origin_lines, depth_line, specializes_lines, plain_lines, sibling_lines, chain, parting, nodes_by, siblings_up_to, compare_sibling_node_strength, compare_node_strength}
 use Rattle.laws.proofs.Views.{LegalView, LooksLike}

@@ -8,7 +8,7 @@ use mathlib.Core.List.{List, [], ◌∷◌, ◌++◌}
 use Prim.Native.Nat.{ℕ, suc, ◌+◌, ◌<◌}
 use native.Mathlib.Omega.{arith}
 use borrow.Author.Tests.{eq-eqb, ne_eqb, lt-ltb}
-use Rattle.model.specs.declared.Ordering.TheVariants.{Less, Equal, Greater}
+use Rattle.std.specs.declared.cmp.Ordering.TheVariants.{Less, Equal, Greater}
 use Rattle.model.specs.Strength.{View, sibling_lines, chain, parting_by, parting, nodes_by, siblings_up_to, compare_sibling_node_strength, compare_node_strength}
 use Rattle.laws.proofs.Views.{LegalView, LooksLike}
 use Rattle.laws.proofs.StrengthCongruence.{lower-pairs-alike, siblings-up-to-alike}

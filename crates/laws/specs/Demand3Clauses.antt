@@ -2,7 +2,7 @@
 -- and the graph that it leaves are arguments: GraphDemand3.antt asks the clauses of the calls on
 -- graphs, call_sequences/specs/Demand3.antt of the calls on bytes and the graphs that these hold.
 use Rattle.std.specs.Prelude.{◌≡◌, Bool, true, false, map, ℕ, ◌<◌}
-use Rattle.model.specs.declared.Ordering.TheVariants.{Less}
+use Rattle.std.specs.declared.cmp.Ordering.TheVariants.{Less}
 use Rattle.model.specs.Lists.{All, Pairs, count, filter}
 use Rattle.model.specs.Graph.{Graph, size, node_at, children_of}
 use Rattle.model.specs.Strength.{view_of, compare_node_strength}

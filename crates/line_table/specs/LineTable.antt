@@ -1,7 +1,7 @@
 -- What document 01's lines read of a node, as an entry and as a row of the table; what the lines
 -- answer of two entries; and a row of nested nodes.
 use Rattle.std.specs.Prelude.{◌≡◌, ◌⊎◌, Bool, true, cond, List, [], ◌∷◌, ℕ, ◌+◌, ◌*◌, ◌≤◌, ◌<◌, eqb, length, get_or}
-use Rattle.model.specs.declared.Ordering.{Ordering}
+use Rattle.std.specs.declared.cmp.Ordering.{Ordering}
 use Rattle.model.specs.Lists.{bit}
 use Rattle.model.specs.Graph.{depth_below_introduction}
 use Rattle.model.specs.Arena.{count_in, decode}

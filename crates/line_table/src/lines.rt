@@ -5,7 +5,8 @@ ghost use Rattle.strength.proofs.VerdictNumbers.{by_sibling};
 ghost use Rattle.line_table.specs.LineTable.{Always, NestedAtDepths, Orders, Weighs, WeighsBy};
 
 use crate::Entry;
-use model::{Ordering, Verdict};
+use model::Verdict;
+use std::cmp::Ordering;
 
 // "Smaller sibling number, then smaller node number."
 fn by_sibling(a: Entry, b: Entry) -> Ordering

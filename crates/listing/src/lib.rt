@@ -14,7 +14,7 @@ ghost use Rattle.model.specs.Listing.{arc_letters, listing};
 ghost use Rattle.listing.specs.Listings.{ListingWritten};
 ghost use Rattle.listing.specs.Texts.{head_line, line_of, line_front, line_rest, lines_of, Put, CanList};
 
-use model::{NumberResult, Refusal, UnitResult};
+use model::Refusal;
 
 // The letter of each arc: Root, Inherit, Variant, Relocate, Reference, Payload, Specialize.
 const LETTERS: [u8; 7] = [b'L', b'I', b'V', b'E', b'R', b'P', b'S'];
@@ -98,20 +98,20 @@ fn put_listing(arena: &[u8], out: &mut [u8]) -> usize
 
 // Writes the listing to the front of `out`, which has 327,744 bytes, and answers how many it took.
 // Refused 1 (of both), 2, 3 or 10.
-pub fn write_listing(arena: &[u8], out: &mut [u8]) -> NumberResult
+pub fn write_listing(arena: &[u8], out: &mut [u8]) -> Result<u32, Refusal>
     ensures { ListingWritten arena.now out.old result out.new }
 {
     if out.len() != arena::ARENA_BYTES {
-        return NumberResult::Refused(Refusal::Size);
+        return Err(Refusal::Size);
     }
     let asked = validate::ask_node_zero(arena);
     match asked {
-        UnitResult::Done => {
+        Ok(()) => {
             if arena::ordered(arena) != 1 {
-                return NumberResult::Refused(Refusal::NotOrdered);
+                return Err(Refusal::NotOrdered);
             }
-            NumberResult::Number(put_listing(arena, out) as u32)
+            Ok(put_listing(arena, out) as u32)
         }
-        UnitResult::Refused(refusal) => NumberResult::Refused(refusal),
+        Err(refusal) => Err(refusal),
     }
 }

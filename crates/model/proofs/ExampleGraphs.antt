@@ -1,10 +1,10 @@
 -- The graphs of the examples, built by calls. Assumes nothing.
+use Rattle.std.specs.Prelude.{None, Option, Some}
 use Prim.Native.Nat.{ℕ}
 use Prim.Native.String.{String}
-use mathlib.Core.Option.{Option, none, some}
 use mathlib.Core.List.{List, [], ◌∷◌}
 use Rattle.model.proofs.Text.{bytes}
-use Rattle.model.specs.declared.Ordering.{Ordering}
+use Rattle.std.specs.declared.cmp.Ordering.{Ordering}
 use Rattle.model.specs.Node.{invalid, optional, Node}
 use Rattle.model.specs.Graph.{Graph, empty_graph}
 use Rattle.model.specs.Strength.{view_of, compare_sibling_node_strength, compare_node_strength}
@@ -39,7 +39,7 @@ add parent arc flags stack origin depth sibling path =
 
 -- with origin, depth and sibling number missing or 0
 abbrev pub plain : ℕ → ℕ → String → Call
-plain parent arc path = add parent arc 0 0 invalid none 0 path
+plain parent arc path = add parent arc 0 0 invalid None 0 path
 
 abbrev pub from : List Call → Graph
 from cs = calls cs empty_graph
@@ -62,38 +62,38 @@ four = line (plain 1 4 "/R" ∷ plain 1 1 "/C" ∷ [])
 -- HAS_SPECIALIZES, depths 1 and 3; 5 `/U`, no origin, unflagged, depth 2"
 abbrev pub ring : List Call
 ring =
-    line (plain 1 4 "/R" ∷ add 1 6 8 0 2 (some 1) 0 "/S" ∷ add 1 6 8 0 2 (some 3) 0 "/T" ∷ add 1 6 0 0 invalid (some 2) 0 "/U" ∷ [])
+    line (plain 1 4 "/R" ∷ add 1 6 8 0 2 (Some 1) 0 "/S" ∷ add 1 6 8 0 2 (Some 3) 0 "/T" ∷ add 1 6 0 0 invalid (Some 2) 0 "/U" ∷ [])
 
 -- "Parent `/M/a`, depth 1 gives 1; depth 3 gives 0"
 abbrev pub deep : List Call
-deep = starting 0 0 (bytes "/M/a") ∷ add 0 4 0 0 invalid (some 1) 0 "/A" ∷ add 0 4 0 0 invalid (some 3) 0 "/A" ∷ []
+deep = starting 0 0 (bytes "/M/a") ∷ add 0 4 0 0 invalid (Some 1) 0 "/A" ∷ add 0 4 0 0 invalid (Some 3) 0 "/A" ∷ []
 
 -- 2 and 3 have one origin, 1's; 3 is implied, since its site is not its origin's
 abbrev pub one_origin : List Call
-one_origin = line (plain 1 1 "/S" ∷ add 1 6 8 0 2 (some 1) 0 "/S" ∷ add 1 6 8 0 2 (some 1) 0 "/T" ∷ [])
+one_origin = line (plain 1 1 "/S" ∷ add 1 6 8 0 2 (Some 1) 0 "/S" ∷ add 1 6 8 0 2 (Some 1) 0 "/T" ∷ [])
 
 -- where a port goes astray, the smallest graph that tells: two Specialize, the second from the
 -- first, with the larger class depth
 abbrev pub class_depths : List Call
-class_depths = line (add 1 6 8 0 1 (some 1) 1 "/M" ∷ add 1 6 8 1 2 (some 2) 0 "/T" ∷ [])
+class_depths = line (add 1 6 8 0 1 (Some 1) 1 "/M" ∷ add 1 6 8 1 2 (Some 2) 0 "/T" ∷ [])
 
 -- R has another depth than its node
 abbrev pub root_depths : List Call
-root_depths = line (add 1 1 8 0 1 (some 0) 0 "/M/a" ∷ add 1 6 8 0 1 (some 1) 0 "/M/a" ∷ add 1 6 8 0 2 (some 1) 0 "/T" ∷ [])
+root_depths = line (add 1 1 8 0 1 (Some 0) 0 "/M/a" ∷ add 1 6 8 0 1 (Some 1) 0 "/M/a" ∷ add 1 6 8 0 2 (Some 1) 0 "/T" ∷ [])
 
 -- one origin, both implied, sibling numbers against node numbers
 abbrev pub sibling_numbers : List Call
-sibling_numbers = line (add 1 6 8 1 1 (some 2) 0 "/T" ∷ add 1 6 8 0 2 (some 1) 1 "/T" ∷ add 1 6 8 0 2 (some 1) 0 "/M" ∷ [])
+sibling_numbers = line (add 1 6 8 1 1 (Some 2) 0 "/T" ∷ add 1 6 8 0 2 (Some 1) 1 "/T" ∷ add 1 6 8 0 2 (Some 1) 0 "/M" ∷ [])
 
 -- the parent of an origin is propagated, and its origin too
 abbrev pub replaced_once : List Call
 replaced_once =
-    line (add 1 1 8 0 1 (some 0) 0 "/S" ∷ add 1 6 8 0 2 (some 2) 0 "/S" ∷ add 1 6 8 0 3 (some 0) 0 "/S" ∷ add 4 6 8 0 2 (some 0) 0 "/S"
-    ∷ add 1 6 8 0 5 (some 2) 0 "/T/b" ∷ [])
+    line (add 1 1 8 0 1 (Some 0) 0 "/S" ∷ add 1 6 8 0 2 (Some 2) 0 "/S" ∷ add 1 6 8 0 3 (Some 0) 0 "/S" ∷ add 4 6 8 0 2 (Some 0) 0 "/S"
+    ∷ add 1 6 8 0 5 (Some 2) 0 "/T/b" ∷ [])
 
 -- a parent that is shallow
 abbrev pub shallow : List Call
-shallow = line (add 1 4 0 0 invalid (some 2) 0 "/A" ∷ [])
+shallow = line (add 1 4 0 0 invalid (Some 2) 0 "/A" ∷ [])
 
 -- a record as a snapshot brings it, CULLED or not, under `/M/a` and without specs
 abbrev pub found : ℕ → ℕ → Node

@@ -1,14 +1,14 @@
 -- Document 01's examples: the table of "The bond of each call", point 3, and a graph for each way
 -- in which a port goes astray, all by computation. Path's own are in PathExamples.antt, and a line
 -- of this table. Assumes nothing.
+use Rattle.std.specs.Prelude.{Some}
 use mathlib.Core.Path.{◌≡◌, refl}
 use mathlib.Core.Bool.{true, false}
-use mathlib.Core.Option.{some}
 use mathlib.Core.List.{[], ◌∷◌, ◌++◌}
 use Rattle.model.proofs.Text.{bytes}
 use Rattle.model.proofs.PathExamples as path
 use Rattle.model.proofs.ExampleGraphs.{add, plain, from, node, siblings, line, four, ring, deep, one_origin, class_depths, root_depths, sibling_numbers, replaced_once, shallow, marked_origin}
-use Rattle.model.specs.declared.Ordering.TheVariants.{Less, Equal, Greater}
+use Rattle.std.specs.declared.cmp.Ordering.TheVariants.{Less, Equal, Greater}
 use Rattle.model.specs.Path.{is_name_start, is_word_byte, is_selection_byte, well_formed, prim_count, before_name, name_start, last_name, ends_in_name, separator, append_name, path_at_intro_depth, same_path}
 use Rattle.model.specs.Node.{invalid, same_site}
 use Rattle.model.specs.Graph.{empty_graph, with_node, depth_below_introduction, is_local_root, in_local_stack}
@@ -30,7 +30,7 @@ pub record Table : Type 0 where
   pub text-listed : listing (from (four ++ orders ∷ [])) ≡ bytes "order 4\n0 L 1 /M\n1 L 1 /M\n3 I 1 /C\n2 R 1 /R\n"
   pub empty-snapshot : write_snapshot empty_graph ≡ 0 ∷ 0 ∷ 0 ∷ 3 ∷ 1 ∷ 0 ∷ 0 ∷ []
   pub itself : node four 2 2 ≡ Equal
-  pub deeper-reference : node (line (add 1 4 0 0 invalid (some 1) 0 "/R" ∷ add 1 4 0 0 invalid (some 2) 0 "/Q" ∷ [])) 2 3 ≡ Greater
+  pub deeper-reference : node (line (add 1 4 0 0 invalid (Some 1) 0 "/R" ∷ add 1 4 0 0 invalid (Some 2) 0 "/Q" ∷ [])) 2 3 ≡ Greater
   pub ring-first : siblings ring 3 4 ≡ Less
   pub ring-second : siblings ring 4 5 ≡ Less
   pub ring-third : siblings ring 5 3 ≡ Less

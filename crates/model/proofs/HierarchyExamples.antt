@@ -1,8 +1,8 @@
 -- Ancestors, class hierarchies and copies under the local root, on one graph; the oracle gives the
 -- same answers (the stored examples of `calls`). Assumes nothing.
+use Rattle.std.specs.Prelude.{Some}
 use mathlib.Core.Path.{◌≡◌, refl}
 use mathlib.Core.Bool.{true, false}
-use mathlib.Core.Option.{some}
 use mathlib.Core.List.{[], ◌∷◌}
 use Rattle.model.specs.Path.{is_name_start, well_formed, prim_count, same_path}
 use Rattle.model.specs.Node.{invalid, same_site}
@@ -14,7 +14,7 @@ use Rattle.model.proofs.ExampleGraphs.{from, line, plain, add}
 
 -- under the local root 1, Reference 2 with Specialize 3, and 4, a copy of 3
 abbrev copied : Graph
-copied = from (line (plain 1 4 "/R" ∷ plain 2 6 "/S" ∷ add 1 6 0 0 3 (some 1) 0 "/S" ∷ []))
+copied = from (line (plain 1 4 "/R" ∷ plain 2 6 "/S" ∷ add 1 6 0 0 3 (Some 1) 0 "/S" ∷ []))
 
 abbrev seen : View
 seen = view copied.nodes

@@ -1,8 +1,8 @@
 -- What is set of one node, what is read of its introduction, and a given number that no node has,
 -- by computation. Assumes nothing.
+use Rattle.std.specs.Prelude.{None, Option, Some}
 use mathlib.Core.Path.{◌≡◌, refl}
 use mathlib.Core.Bool.{true, false}
-use mathlib.Core.Option.{Option, none, some}
 use mathlib.Core.List.{List, [], ◌∷◌, ◌++◌}
 use Prim.Native.Nat.{ℕ}
 use Rattle.model.proofs.Text.{bytes}
@@ -54,10 +54,10 @@ abbrev specs : Node → List ℕ
 specs x = x.spec_from ∷ x.has_specs ∷ []
 
 pub record Specs : Type 0 where
-  pub first : specs (node_at (after (setting_first_spec 2 (some 7))).nodes 2) ≡ 7 ∷ 1 ∷ []
+  pub first : specs (node_at (after (setting_first_spec 2 (Some 7))).nodes 2) ≡ 7 ∷ 1 ∷ []
   -- where there is none the position is 0
-  pub none_left : specs (node_at (call (setting_first_spec 2 none) (after (setting_first_spec 2 (some 7)))).graph.nodes 2) ≡ 0 ∷ 0 ∷ []
-  pub has : specs (node_at (call (setting_has_specs 2 true) (after (setting_first_spec 2 (some 7)))).graph.nodes 2) ≡ 0 ∷ 1 ∷ []
+  pub none_left : specs (node_at (call (setting_first_spec 2 None) (after (setting_first_spec 2 (Some 7)))).graph.nodes 2) ≡ 0 ∷ 0 ∷ []
+  pub has : specs (node_at (call (setting_has_specs 2 true) (after (setting_first_spec 2 (Some 7)))).graph.nodes 2) ≡ 0 ∷ 1 ∷ []
   pub has-none : specs (node_at (after (setting_has_specs 2 false)).nodes 2) ≡ 0 ∷ 0 ∷ []
   pub restriction : (node_at (after (setting_restriction 2 65535)).nodes 2).restriction ≡ 65535
   pub depth-stays : (node_at (after (setting_restriction 2 65535)).nodes 2).depth ≡ (node_at (from four).nodes 2).depth
@@ -68,7 +68,7 @@ specs-set = record { first = refl; none_left = refl; has = refl; has-none = refl
 
 -- an ordered graph stays ordered and finalized
 abbrev ordered : Graph
-ordered = from (four ++ orders ∷ marking 2 1 ∷ setting_first_spec 3 none ∷ setting_has_specs 3 true ∷ setting_restriction 1 2 ∷ [])
+ordered = from (four ++ orders ∷ marking 2 1 ∷ setting_first_spec 3 None ∷ setting_has_specs 3 true ∷ setting_restriction 1 2 ∷ [])
 
 stays-ordered : (ordered.ordered ≡ true) × (ordered.finalized ≡ true) × (ordered.order ≡ 0 ∷ 1 ∷ 3 ∷ 2 ∷ [])
 unfolding init_root add_child finalize_strength_order mark set_first_spec set_has_specs set_restriction_depth with_node with_record well_formed prim_count
@@ -93,9 +93,9 @@ introduced = record { due = refl; not-due = refl; path = refl; same-path = refl;
 
 abbrev add_under : Option ℕ → Option ℕ → ℕ
 add_under parent origin =
-    refused (adding (record { fields = sample_node 0 4 0 0 0 0 0 1 (bytes "/R"); parent = parent; origin = origin; depth = none }))
+    refused (adding (record { fields = sample_node 0 4 0 0 0 0 0 1 (bytes "/R"); parent = parent; origin = origin; depth = None }))
 
-given_below : (add_under (some invalid) none ≡ 4) × (add_under (some 1) (some invalid) ≡ 4) × (add_under (some 4) none ≡ 4)
-    × (add_under (some 3) (some 3) ≡ 0) × (add_under none none ≡ 0)
+given_below : (add_under (Some invalid) None ≡ 4) × (add_under (Some 1) (Some invalid) ≡ 4) × (add_under (Some 4) None ≡ 4)
+    × (add_under (Some 3) (Some 3) ≡ 0) × (add_under None None ≡ 0)
 unfolding init_root add_child with_node well_formed prim_count is_name_start is_word_byte is_local_root
 given_below = (refl, refl, refl, refl, refl)

@@ -1,8 +1,10 @@
 -- Each call on an arena: questions 1 and 2, then the call's own, and what it leaves of the bytes.
 -- One lifting for the calls that write a graph, one for those that only read; the functions of
 -- prim_graph promise no more and no less.
+use Rattle.std.specs.Prelude.{None, Option, Result, ⊤}
+use Rattle.model.specs.declared.NodeId.{NodeId}
+use Rattle.model.specs.declared.Refusal.{Refusal}
 use Rattle.std.specs.Prelude.{◌≡◌, Bool, true, ◌&&◌, cond, List, ◌∷◌, ℕ, zero, suc, ◌<◌, eqb, length}
-use Rattle.std.proofs.Math.Option.{none}
 use Rattle.model.specs.Graph.{Graph, empty_graph}
 use Rattle.model.specs.Refusals.{Question, ask, refusal}
 use Rattle.model.specs.Calls.{Outcome, unchanged}
@@ -10,13 +12,8 @@ use Rattle.model.specs.Arena.{arena_bytes, count_in, decode, encode, holds_graph
 use Rattle.model.specs.Lists.{bit}
 use Rattle.model.specs.Bytes.{stored}
 use Rattle.model.specs.Node.{optional}
-use Rattle.model.specs.Answers.{unit_refusal, number_refusal, number_value, ordering_number, ordering_refusal, ordering_value, bool_refusal, bool_value, node_refusal, node_value}
-use Rattle.model.specs.declared.Ordering.{Ordering}
-use Rattle.model.specs.declared.UnitResult.{UnitResult}
-use Rattle.model.specs.declared.NumberResult.{NumberResult}
-use Rattle.model.specs.declared.OrderingResult.{OrderingResult}
-use Rattle.model.specs.declared.BoolResult.{BoolResult}
-use Rattle.model.specs.declared.NodeResult.{NodeResult}
+use Rattle.model.specs.Answers.{answer_refusal, number_value, ordering_number, ordering_value, bool_value, node_value}
+use Rattle.std.specs.declared.cmp.Ordering.{Ordering}
 
 -- question 1: "Has each lent buffer the size docs/ gives its use"
 abbrev pub is_arena : List ℕ → Bool
@@ -47,14 +44,14 @@ abbrev pub arena_after : Outcome → List ℕ → List ℕ
 arena_after o bs = cond (eqb o.refused 0) (encode o.graph bs) bs
 
 -- the answer and the arena after a call that came to o
-pub record Wrote (o : Outcome) (before : List ℕ) (r : NumberResult) (after : List ℕ) : Type 0 where
-  pub refused : number_refusal r ≡ o.refused
+pub record Wrote (o : Outcome) (before : List ℕ) (r : Result ℕ Refusal) (after : List ℕ) : Type 0 where
+  pub refused : answer_refusal r ≡ o.refused
   pub value : number_value r ≡ o.value
   pub arena : after ≡ arena_after o before
 
 -- the same where a call gives nothing but its refusal
-pub record Finishes (o : Outcome) (before : List ℕ) (r : UnitResult) (after : List ℕ) : Type 0 where
-  pub refused : unit_refusal r ≡ o.refused
+pub record Finishes (o : Outcome) (before : List ℕ) (r : Result ⊤ Refusal) (after : List ℕ) : Type 0 where
+  pub refused : answer_refusal r ≡ o.refused
   pub arena : after ≡ arena_after o before
 
 -- ---- The calls that only read
@@ -71,19 +68,19 @@ pub record Answers (questions : List Question) (answer number given : ℕ) : Typ
   pub refused : number ≡ refusal questions
   pub value : given ≡ value_unless (refusal questions) answer
 
-abbrev pub Answered : List Question → ℕ → NumberResult → Type 0
-Answered questions answer r = Answers questions answer (number_refusal r) (number_value r)
+abbrev pub Answered : List Question → ℕ → Result ℕ Refusal → Type 0
+Answered questions answer r = Answers questions answer (answer_refusal r) (number_value r)
 
-abbrev pub AnsweredOrder : List Question → Ordering → OrderingResult → Type 0
-AnsweredOrder questions answer r = Answers questions (ordering_number answer) (ordering_refusal r) (ordering_value r)
+abbrev pub AnsweredOrder : List Question → Ordering → Result Ordering Refusal → Type 0
+AnsweredOrder questions answer r = Answers questions (ordering_number answer) (answer_refusal r) (ordering_value r)
 
-abbrev pub AnsweredTest : List Question → Bool → BoolResult → Type 0
-AnsweredTest questions answer r = Answers questions (bit answer) (bool_refusal r) (bool_value r)
+abbrev pub AnsweredTest : List Question → Bool → Result Bool Refusal → Type 0
+AnsweredTest questions answer r = Answers questions (bit answer) (answer_refusal r) (bool_value r)
 
 -- of a call that looks for a node; `invalid` for none
-pub record AnsweredNode (questions : List Question) (answer : ℕ) (r : NodeResult) : Type 0 where
-  pub refused : node_refusal r ≡ refusal questions
-  pub value : node_value r ≡ cond (eqb (refusal questions) 0) (optional answer) none
+pub record AnsweredNode (questions : List Question) (answer : ℕ) (r : Result (Option NodeId) Refusal) : Type 0 where
+  pub refused : answer_refusal r ≡ refusal questions
+  pub value : node_value r ≡ cond (eqb (refusal questions) 0) (optional answer) None
 
 -- ---- The calls that put a path into a lent buffer
 
@@ -96,6 +93,6 @@ ask_path bs buffer questions = ask 1 (is_arena bs && is_path_buffer buffer) ∷ 
 
 -- the answer is the path's length, the path is at the front of the buffer, and past it is what was
 -- there; refused, every byte is as it was
-pub record PutPath (questions : List Question) (path before : List ℕ) (r : NumberResult) (after : List ℕ) : Type 0 where
+pub record PutPath (questions : List Question) (path before : List ℕ) (r : Result ℕ Refusal) (after : List ℕ) : Type 0 where
   pub answered : Answered questions (length path) r
   pub buffer : after ≡ cond (eqb (refusal questions) 0) (stored 0 path before) before

@@ -1,8 +1,8 @@
 -- Each call of document 01 as one function, from its arguments and the graph to its refusal, its
 -- value and the graph. Refused, the value is 0 (or nothing) and the graph is as it was. Questions 1
 -- and 2 are about lent bytes, and come before these.
+use Rattle.std.specs.Prelude.{None, Option, Some}
 use Rattle.std.specs.Prelude.{Bool, true, ◌||◌, ◌&&◌, cond, List, [], ◌∷◌, ℕ, zero, suc, eqb, ltb, leb, length}
-use Rattle.std.proofs.Math.Option.{Option, none, some}
 use Rattle.model.specs.Path.{well_formed, prim_count, ends_in_name}
 use Rattle.model.specs.Node.{invalid, root_arc, inert_flag, Node}
 use Rattle.model.specs.Graph.{Graph, empty_graph, size, node_at, with_node}
@@ -70,8 +70,8 @@ pub record NodeDesc : Type 0 where
 
 -- what is given, or what stands for it
 abbrev pub given_or : Option ℕ → ℕ → ℕ
-given_or none missing = missing
-given_or (some n) missing = n
+given_or None missing = missing
+given_or (Some n) missing = n
 
 -- "`add_child` with no parent is a root site: its parent is node 0"
 abbrev pub struct_parent : NodeDesc → ℕ
@@ -79,8 +79,8 @@ struct_parent d = given_or d.parent 0
 
 -- "A missing depth becomes the parent's prim count, or its own for a root site"
 abbrev pub prims_over : List Node → Option ℕ → List ℕ → ℕ
-prims_over ns none path = prim_count path
-prims_over ns (some parent) path = prim_count (node_at ns parent).path
+prims_over ns None path = prim_count path
+prims_over ns (Some parent) path = prim_count (node_at ns parent).path
 
 abbrev pub default_depth : Graph → NodeDesc → ℕ
 default_depth g d = prims_over g.nodes d.parent d.fields.path
@@ -104,8 +104,8 @@ added_node g d = record {
 
 -- question 4: "Is each given node below the count?"
 abbrev pub given_below : ℕ → Option ℕ → Bool
-given_below count none = true
-given_below count (some n) = ltb n count
+given_below count None = true
+given_below count (Some n) = ltb n count
 
 unfoldable pub add_child : NodeDesc → Graph → Outcome
 add_child d g =
@@ -128,7 +128,7 @@ set_first_spec n first g = sets n [] (with_first_spec first) g
 
 -- "without recording which": the first position
 unfoldable pub set_has_specs : ℕ → Bool → Graph → Outcome
-set_has_specs n authored g = set_first_spec n (cond authored (some 0) none) g
+set_has_specs n authored g = set_first_spec n (cond authored (Some 0) None) g
 
 unfoldable pub set_restriction_depth : ℕ → ℕ → Graph → Outcome
 set_restriction_depth n depth g = sets n [] (restricted_at depth) g
@@ -186,8 +186,8 @@ read_on old g [] = record { refused = 0; value = size g; graph = g }
 read_on old g (x ∷ xs) = read_if (refusal (record_questions g x)) (read_on old (with_node g x) xs) old
 
 abbrev pub read_or12 : Option (List Node) → Graph → Outcome
-read_or12 none old = unchanged 12 old
-read_or12 (some xs) old = read_on old empty_graph xs
+read_or12 None old = unchanged 12 old
+read_or12 (Some xs) old = read_on old empty_graph xs
 
 unfoldable pub read_into : List ℕ → Graph → Outcome
 read_into bytes old = read_or12 (read_snapshot bytes) old

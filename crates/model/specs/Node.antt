@@ -1,6 +1,6 @@
 -- Document 01, "Node and site": the fields of a node, its arcs and flags, and its site.
+use Rattle.std.specs.Prelude.{None, Option, Some}
 use Rattle.std.specs.Prelude.{Bool, ◌&&◌, cond, List, [], ℕ, ◌+◌, ◌/◌, ◌%◌, eqb}
-use Rattle.std.proofs.Math.Option.{Option, none, some}
 use Rattle.model.specs.Path.{same_path}
 
 -- "No node is the number 4,294,967,295 (`NodeId::INVALID`)": in a record it stands for a missing
@@ -10,7 +10,7 @@ invalid = 4294967295
 
 -- the node of that number, or that there is none
 abbrev pub optional : ℕ → Option ℕ
-optional n = cond (eqb n invalid) none (some n)
+optional n = cond (eqb n invalid) None (Some n)
 
 -- "arc 0 to 6 (Root, Inherit, Variant, Relocate, Reference, Payload, Specialize)"
 abbrev pub root_arc : ℕ

@@ -5,12 +5,10 @@
 -- how much the parent keeps of the first k bytes of p.
 -- The laws are in laws/proofs/PathLaws.antt; laws/proofs/PathGrammar.antt has the grammar that
 -- `well_formed` decides, as the paper words it.
+use Rattle.std.specs.Prelude.{Err, None, Ok, Option, Result, Some}
+use Rattle.model.specs.declared.Refusal.{Refusal}
 use Rattle.std.specs.Prelude.{Bool, true, false, not, ◌||◌, ◌&&◌, cond, List, [], ◌∷◌, ◌++◌, ℕ, zero, suc, pred, ◌+◌, min, max, eqb, leb, ltb, length, get_or, take, drop}
 use Rattle.model.specs.declared.Refusal.TheVariants.{Size, Path, Capacity}
-use Rattle.model.specs.declared.PrimCount.{PrimCount}
-use Rattle.model.specs.declared.PrimCount.TheVariants.{Names, Malformed}
-use Rattle.model.specs.declared.Appended.{Appended}
-use Rattle.model.specs.declared.Appended.TheVariants.{Length, Refused}
 
 -- ---- The bytes with a meaning
 
@@ -110,8 +108,8 @@ names q (b ∷ bs) = enters q (step q b) + names (step q b) bs
 unfoldable pub prim_count : List ℕ → ℕ
 prim_count p = names start p
 
-unfoldable pub count_prims : List ℕ → PrimCount
-count_prims p = cond (well_formed p) (Names (prim_count p)) Malformed
+unfoldable pub count_prims : List ℕ → Option ℕ
+count_prims p = cond (well_formed p) (Some (prim_count p)) None
 
 -- ---- The parent
 
@@ -202,13 +200,13 @@ same_path (x ∷ xs) (y ∷ ys) = eqb x y && same_path xs ys
 
 -- Questions 1, 5 and 7: the buffer has 255 bytes; both paths are well formed and the child's ends
 -- in a name; 255 bytes suffice.
-unfoldable pub append_child_name : List ℕ → List ℕ → List ℕ → Appended
+unfoldable pub append_child_name : List ℕ → List ℕ → List ℕ → Result ℕ Refusal
 append_child_name p child out =
-    cond (not (eqb (length out) 255)) (Refused Size)
-    (cond (not (well_formed p && (well_formed child && ends_in_name child))) (Refused Path)
-    (cond (ltb 255 (length (append_name p (last_name child)))) (Refused Capacity) (Length (length (append_name p (last_name child))))))
+    cond (not (eqb (length out) 255)) (Err Size)
+    (cond (not (well_formed p && (well_formed child && ends_in_name child))) (Err Path)
+    (cond (ltb 255 (length (append_name p (last_name child)))) (Err Capacity) (Ok (length (append_name p (last_name child))))))
 
 -- the buffer afterwards: unchanged where refused; else the new path, and past it what was there
-abbrev pub written : Appended → List ℕ → List ℕ → List ℕ → List ℕ
-written (Length n) p child out = append_name p (last_name child) ++ drop n out
-written (Refused r) p child out = out
+abbrev pub written : Result ℕ Refusal → List ℕ → List ℕ → List ℕ → List ℕ
+written (Ok n) p child out = append_name p (last_name child) ++ drop n out
+written (Err r) p child out = out

@@ -3,7 +3,7 @@
 -- strength being read off the places, and the places are those of a walk of these lists, parent
 -- first, then each list is in its order by strength itself (laws/proofs/OrderPlaces.antt).
 use Rattle.std.specs.Prelude.{List, [], ◌∷◌, ℕ, suc, ◌≤◌, ◌<◌}
-use Rattle.model.specs.declared.Ordering.{Ordering}
+use Rattle.std.specs.declared.cmp.Ordering.{Ordering}
 use Rattle.model.specs.Strength.{View, first, smaller, plain_lines, sibling_lines}
 use Rattle.model.specs.Order.{Sorted, is_less}
 

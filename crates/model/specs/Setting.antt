@@ -1,8 +1,8 @@
 -- What the Rust sets of one node after it was added, for which document 01 has no sentence: flags,
 -- the first layer with a spec, and the restriction depth. The Rust's functions are `mark`,
 -- `set_first_spec`, `set_has_specs` and `set_restriction_depth`.
+use Rattle.std.specs.Prelude.{None, Option, Some}
 use Rattle.std.specs.Prelude.{Bool, not, ◌&&◌, cond, ℕ, eqb, ltb, set}
-use Rattle.std.proofs.Math.Option.{Option, none, some}
 use Rattle.model.specs.Node.{root_arc, inert_flag, culled_flag, prohibited_children_flag, has_flag, with_flag, Node}
 use Rattle.model.specs.Graph.{Graph}
 
@@ -44,8 +44,8 @@ may_mark flags arc = ltb flags 8 && not (eqb arc root_arc && has_flag culled_fla
 -- "the position in the node's stack of the strongest layer that authors a spec at its path, `None`
 -- when no layer does"
 abbrev pub with_first_spec : Option ℕ → Node → Node
-with_first_spec none x = with_site x.flags x.restriction 0 0 x
-with_first_spec (some first) x = with_site x.flags x.restriction first 1 x
+with_first_spec None x = with_site x.flags x.restriction 0 0 x
+with_first_spec (Some first) x = with_site x.flags x.restriction first 1 x
 
 abbrev pub restricted_at : ℕ → Node → Node
 restricted_at depth x = with_site x.flags depth x.spec_from x.has_specs x

@@ -1,7 +1,7 @@
 -- Document 01, "Snapshot": how a graph is written as bytes, and how bytes are read as records
 -- (question 12). The questions that each record is put are in Refusals.antt.
+use Rattle.std.specs.Prelude.{None, Option, Some}
 use Rattle.std.specs.Prelude.{Bool, ◌&&◌, cond, List, [], ◌∷◌, ◌++◌, ℕ, zero, suc, ◌+◌, ◌*◌, ◌/◌, ◌%◌, ◌^◌, eqb, leb, length, take, drop}
-use Rattle.std.proofs.Math.Option.{Option, none, some}
 use Rattle.model.specs.Node.{Node}
 use Rattle.model.specs.Graph.{Graph, size}
 
@@ -72,17 +72,17 @@ abbrev pub fits_record : List ℕ → Bool
 fits_record bs = leb 2 (length bs) && (leb 28 (field 0 2 bs) && (leb (field 0 2 bs) 282 && leb (2 + field 0 2 bs) (length bs)))
 
 abbrev pub before : Node → Option (List Node) → Option (List Node)
-before x none = none
-before x (some xs) = some (x ∷ xs)
+before x None = None
+before x (Some xs) = Some (x ∷ xs)
 
 -- n records, and nothing behind them
 unfoldable pub read_records : ℕ → List ℕ → Option (List Node)
-read_records zero [] = some []
-read_records zero (b ∷ bs) = none
+read_records zero [] = Some []
+read_records zero (b ∷ bs) = None
 read_records (suc n) bs =
-    cond (fits_record bs) (before (read_record (take (field 0 2 bs) (drop 2 bs))) (read_records n (drop (2 + field 0 2 bs) bs))) none
+    cond (fits_record bs) (before (read_record (take (field 0 2 bs) (drop 2 bs))) (read_records n (drop (2 + field 0 2 bs) bs))) None
 
 -- question 12: "Are version, count and lengths exact?"
 unfoldable pub read_snapshot : List ℕ → Option (List Node)
 read_snapshot bs =
-    cond (leb 7 (length bs) && (eqb (4 + field 0 4 bs) (length bs) && eqb (field 4 1 bs) 1)) (read_records (field 5 2 bs) (drop 7 bs)) none
+    cond (leb 7 (length bs) && (eqb (4 + field 0 4 bs) (length bs) && eqb (field 4 1 bs) 1)) (read_records (field 5 2 bs) (drop 7 bs)) None

@@ -3,8 +3,8 @@
 -- two graphs compare alike (laws/proofs/StrengthCongruence.antt). Walks and comparisons are by
 -- fuel; laws/proofs/StrengthLaws.antt has the same lines without.
 use Rattle.std.specs.Prelude.{Bool, true, false, not, ◌||◌, ◌&&◌, cond, List, [], ◌∷◌, ◌++◌, ℕ, zero, suc, ◌+◌, eqb, ltb}
-use Rattle.model.specs.declared.Ordering.{Ordering}
-use Rattle.model.specs.declared.Ordering.TheVariants.{Less, Equal, Greater}
+use Rattle.std.specs.declared.cmp.Ordering.{Ordering}
+use Rattle.std.specs.declared.cmp.Ordering.TheVariants.{Less, Equal, Greater}
 use Rattle.model.specs.Node.{root_arc, inherit_arc, variant_arc, relocate_arc, reference_arc, payload_arc, specialize_arc, Node, has_specializes, same_site as same_site_of}
 use Rattle.model.specs.Graph.{Graph, node_at, depth_below_introduction, is_local_root, in_local_stack}
 

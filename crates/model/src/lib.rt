@@ -8,8 +8,10 @@ ghost use Rattle.model.specs.Answers.{ordering_number, node_option, node_number}
 ghost use Rattle.model.specs.Node.{invalid, optional};
 ghost use Rattle.model.specs.Refusals.{refusal_number};
 
+use std::cmp::Ordering;
+
 // A node's number.
-#[derive(Clone, Copy)]
+#[derive(Clone, Copy, PartialEq, Eq)]
 pub struct NodeId(pub u32);
 
 impl NodeId {
@@ -22,6 +24,24 @@ impl NodeId {
         NodeId(number)
     }
 
+    // The node of that number, or none where it is the number that no node has.
+    pub fn from_number(number: u32) -> Option<NodeId>
+        ensures { node_option result ≡ optional number }
+    {
+        let node = NodeId::new(number);
+        if node.is_valid() {
+            return Some(node);
+        }
+        None
+    }
+
+    // The node's number, or the number that no node has.
+    pub fn number_of(node: Option<NodeId>) -> u32
+        ensures { result ≡ node_number (node_option node) }
+    {
+        node.unwrap_or(NodeId::INVALID).0
+    }
+
     // Whether it is a node's number at all.
     pub fn is_valid(self) -> bool
         ensures { result ≡ not (eqb self.0 invalid) }
@@ -30,66 +50,20 @@ impl NodeId {
     }
 }
 
-// A node, or that there is none: the Rust's `Option<NodeId>`.
-#[derive(Clone, Copy)]
-pub enum NodeOption {
-    Some(NodeId),
-    None,
-}
-
-impl NodeOption {
-    // The node of that number, or none where it is the number that no node has.
-    pub fn of(number: u32) -> NodeOption
-        ensures { node_option result ≡ optional number }
-    {
-        let node = NodeId::new(number);
-        if node.is_valid() {
-            return NodeOption::Some(node);
-        }
-        NodeOption::None
-    }
-
-    // The node's number, or the number that no node has.
-    pub fn number(self) -> u32
-        ensures { result ≡ node_number (node_option self) }
-    {
-        match self {
-            NodeOption::Some(node) => node.0,
-            NodeOption::None => NodeId::INVALID.0,
-        }
-    }
-}
-
-// A number of 16 bits, or that there is none: the Rust's `Option<u16>`.
-#[derive(Clone, Copy)]
-pub enum U16Option {
-    Some(u16),
-    None,
-}
-
-// Which of two nodes is the stronger: the first (Less), the second (Greater), or one node twice.
-#[derive(Clone, Copy)]
-pub enum Ordering {
-    Less,
-    Equal,
-    Greater,
-}
-
-impl Ordering {
-    // Less is 0, Equal 1 and Greater 2.
-    pub fn number(self) -> u8
-        ensures { result ≡ ordering_number self }
-    {
-        match self {
-            Ordering::Less => 0,
-            Ordering::Equal => 1,
-            Ordering::Greater => 2,
-        }
+// Which of two nodes is the stronger, as a number: the first is (Less) 0, one node twice (Equal) 1,
+// the second is (Greater) 2.
+pub fn ordering_number(ordering: Ordering) -> u8
+    ensures { result ≡ ordering_number ordering }
+{
+    match ordering {
+        Ordering::Less => 0,
+        Ordering::Equal => 1,
+        Ordering::Greater => 2,
     }
 }
 
 // Why a call was refused: the first of document 01's twelve questions whose answer is no.
-#[derive(Clone, Copy)]
+#[derive(Clone, Copy, Debug, PartialEq, Eq)]
 pub enum Refusal {
     Size,
     NotAGraph,
@@ -125,55 +99,6 @@ impl Refusal {
             Refusal::Snapshot => 12,
         }
     }
-}
-
-// How many names a path has, or that the bytes are no path.
-#[derive(Clone, Copy)]
-pub enum PrimCount {
-    Names(u16),
-    Malformed,
-}
-
-// What appending a child's name answers: the length of the new path, or the refusal.
-#[derive(Clone, Copy)]
-pub enum Appended {
-    Length(usize),
-    Refused(Refusal),
-}
-
-// The answer of a call that gives a number: a node's, a count, a depth.
-#[derive(Clone, Copy)]
-pub enum NumberResult {
-    Number(u32),
-    Refused(Refusal),
-}
-
-// The answer of a call that looks for a node.
-#[derive(Clone, Copy)]
-pub enum NodeResult {
-    Found(NodeOption),
-    Refused(Refusal),
-}
-
-// The answer of a comparison.
-#[derive(Clone, Copy)]
-pub enum OrderingResult {
-    As(Ordering),
-    Refused(Refusal),
-}
-
-// The answer of a test of one node or of two.
-#[derive(Clone, Copy)]
-pub enum BoolResult {
-    Is(bool),
-    Refused(Refusal),
-}
-
-// The answer of a call that gives nothing.
-#[derive(Clone, Copy)]
-pub enum UnitResult {
-    Done,
-    Refused(Refusal),
 }
 
 // What document 01's lines say of two siblings: an answer, or the strength of two nodes with a

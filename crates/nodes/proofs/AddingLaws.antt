@@ -1,8 +1,8 @@
 -- The questions that the two calls put are document 01's: `start-accepted`, `add-accepted`; the
 -- records that they append are the definitions' nodes: `start-node`, `added-node`. Assumes nothing.
+use Rattle.std.specs.Prelude.{Err, None, Ok, Option, Some}
 use mathlib.Core.Path.{◌≡◌, refl, sym, ap, ◌∙◌}
 use mathlib.Core.Bool.{Bool, true, false, not, ◌&&◌, and-eq-true_iff}
-use mathlib.Core.Option.{some}
 use mathlib.Core.List.{List, [], ◌∷◌}
 use Prim.Native.Nat.{ℕ, ◌+◌, ◌≤◌, ◌<◌}
 use native.Mathlib.Omega.{arith}
@@ -20,11 +20,8 @@ use Rattle.model.specs.Calls.{decided, has_node_zero, init_root, given_or, prims
 use Rattle.model.specs.Arena.{count_in, decode, encode}
 use Rattle.model.specs.ArenaCalls.{ValidArena, ValidNode, on_arena, Wrote, ask_arena}
 use Rattle.model.specs.declared.NodeId.{NodeId}
-use Rattle.model.specs.declared.NodeOption.{NodeOption}
-use Rattle.model.specs.declared.NodeOption.TheVariants.{Some as SomeNode, None as NoNode}
 use Rattle.model.specs.declared.Refusal.{Refusal}
 use Rattle.model.specs.declared.Refusal.TheVariants.{NodeZero, Path}
-use Rattle.model.specs.declared.NumberResult.TheVariants.{Number, Refused as NumberRefused}
 use Rattle.laws.proofs.ArenaCallLaws.{refused-before, asked-on, on-arena-asks, wrote-decided-refused, wrote-decided}
 use Rattle.laws.proofs.AcceptedQuestions.{none-refused-accepted}
 use Rattle.laws.proofs.PathGrammar.{well-formed-length}
@@ -42,9 +39,9 @@ use Rattle.nodes.specs.Adding.{start_record}
 
 pub start-accepted : (g : Graph) (stack layer : ℕ) (path : List ℕ) → size g ≡ 0 → path_bytes g.nodes ≡ 0 → well_formed path ≡ true
     → refusal (record_questions g (root_node stack layer path)) ≡ 0
-start-accepted g stack layer path none empty formed =
+start-accepted g stack layer path None empty formed =
     rw (
-      eq-eqb (size g) 0 none,
+      eq-eqb (size g) 0 None,
       formed,
       lt-ltb (size g) 1024 (omega arith),
       le-leb (path_bytes g.nodes + length path) 32768 (omega (arith, well-formed-length path formed)),
@@ -90,28 +87,28 @@ module _ (bs : List ℕ) (o : ValidArena bs) (desc : NodeDesc) (path : List ℕ)
       (none-refused-accepted (add_questions g d) refl e 4)).0
 
   -- a parent that is given is a node
-  parent-below : (parent : NodeId) → given_below (size g) (some parent.0) ≡ true → ValidNode bs parent.0
+  parent-below : (parent : NodeId) → given_below (size g) (Some parent.0) ≡ true → ValidNode bs parent.0
   parent-below parent e =
       record { opened = o; below = omega (arith, ltb-true parent.0 (size g) e, sizes bs o) }
 
   pub parent-slot : refusal (add_questions g d) ≡ 0 → HasSlotIn desc.parent
   parent-slot e = go desc.parent (parent-asked e)
     where
-      go : (parent : NodeOption) → given_below (size g) (node_option parent) ≡ true → HasSlotIn parent
-      go (SomeNode parent) t = (has-slot bs parent.0 (parent-below parent t)).within
-      go NoNode t = tt
+      go : (parent : Option NodeId) → given_below (size g) (node_option parent) ≡ true → HasSlotIn parent
+      go (Some parent) t = (has-slot bs parent.0 (parent-below parent t)).within
+      go None t = tt
 
   -- the depth that a missing one becomes
   default-read : (prims : ℕ) → refusal (add_questions g d) ≡ 0 → prims ≡ prim_count path → prims_read bs desc.parent prims ≡ default_depth g d
   default-read prims e p = go desc.parent (parent-asked e)
     where
-      go : (parent : NodeOption) → given_below (size g) (node_option parent) ≡ true
+      go : (parent : Option NodeId) → given_below (size g) (node_option parent) ≡ true
           → prims_read bs parent prims ≡ prims_over g.nodes (node_option parent) path
-      go (SomeNode parent) t =
+      go (Some parent) t =
           let there = parent-below parent t in
           ((held bs o.holds).node parent.0 there.below).prim-count
           ∙ ap (λ (y : model.Node). prim_count y.path) (sym (node-read bs parent.0 there))
-      go NoNode t = p
+      go None t = p
 
   pub added-node : (prims : ℕ) → refusal (add_questions g d) ≡ 0 → prims ≡ prim_count path
       → node_of (added_record bs desc prims (length path)) path ≡ added_node g d
@@ -159,23 +156,23 @@ module _ (bs : List ℕ) (d : calls.NodeDesc) where
   unfolding add_child
   add-asks = on-arena-asks bs (add_child d) (has_node_zero (decode bs) ∷ add_questions (decode bs) d) (size (decode bs)) added refl
 
-  refused-by : (r : Refusal) → refusal_number r ≡ refusal add_asked → Wrote (on_arena (add_child d) bs) bs (NumberRefused r) bs
+  refused-by : (r : Refusal) → refusal_number r ≡ refusal add_asked → Wrote (on_arena (add_child d) bs) bs (Err r) bs
   refused-by r e = rw add-asks (wrote-decided-refused add_asked (decode bs) (size (decode bs)) added bs r e)
 
   -- by questions 1 to 3
   pub add-refused-first : (r : Refusal) → refusal_number r ≡ refusal (ask_arena bs (has_node_zero (decode bs) ∷ []))
-      → Wrote (on_arena (add_child d) bs) bs (NumberRefused r) bs
+      → Wrote (on_arena (add_child d) bs) bs (Err r) bs
   add-refused-first r e = refused-by r (refused-before r (ask_arena bs (has_node_zero (decode bs) ∷ [])) (add_questions (decode bs) d) e)
 
   module _ (o : ValidArena bs) (some-node : 0 < count_in bs) where
     node-left : refusal add_asked ≡ refusal (add_questions (decode bs) d)
     node-left = node-zero-passed bs (add_questions (decode bs) d) o some-node
 
-    pub add-refused : (r : Refusal) → refusal_number r ≡ refusal (add_questions (decode bs) d) → Wrote (on_arena (add_child d) bs) bs (NumberRefused r) bs
+    pub add-refused : (r : Refusal) → refusal_number r ≡ refusal (add_questions (decode bs) d) → Wrote (on_arena (add_child d) bs) bs (Err r) bs
     add-refused r e = refused-by r (e ∙ sym node-left)
 
     pub add_done : (after : List ℕ) (n : ℕ) → refusal (add_questions (decode bs) d) ≡ 0 → n ≡ count_in bs → after ≡ encode added bs
-        → Wrote (on_arena (add_child d) bs) bs (Number n) after
+        → Wrote (on_arena (add_child d) bs) bs (Ok n) after
     add_done after n e c a =
         rw add-asks (wrote-decided add_asked (decode bs) (size (decode bs)) added bs after n (node-left ∙ e) (c ∙ sym (sizes bs o)) a)
 
@@ -191,30 +188,30 @@ module _ (bs : List ℕ) (stack layer : ℕ) (path : List ℕ) where
   start-asks = on-arena-asks bs (init_root stack layer path) start_questions 0 started refl
 
   refused-start : (r : Refusal) → refusal_number r ≡ refusal (ask_arena bs start_questions)
-      → Wrote (on_arena (init_root stack layer path) bs) bs (NumberRefused r) bs
+      → Wrote (on_arena (init_root stack layer path) bs) bs (Err r) bs
   refused-start r e = rw start-asks (wrote-decided-refused (ask_arena bs start_questions) (decode bs) 0 started bs r e)
 
   -- by questions 1 and 2
-  pub start-refused : (r : Refusal) → refusal_number r ≡ refusal (ask_arena bs []) → Wrote (on_arena (init_root stack layer path) bs) bs (NumberRefused r) bs
+  pub start-refused : (r : Refusal) → refusal_number r ≡ refusal (ask_arena bs []) → Wrote (on_arena (init_root stack layer path) bs) bs (Err r) bs
   start-refused r e = refused-start r (refused-before r (ask_arena bs []) start_questions e)
 
   module _ (o : ValidArena bs) where
-    pub start-over : (count_in bs ≡ 0 → ⊥) → Wrote (on_arena (init_root stack layer path) bs) bs (NumberRefused NodeZero) bs
+    pub start-over : (count_in bs ≡ 0 → ⊥) → Wrote (on_arena (init_root stack layer path) bs) bs (Err NodeZero) bs
     start-over e =
         refused-start NodeZero (sym (asked-on bs start_questions o ∙ rw (ne_eqb (size (decode bs)) 0 (λ z. e (sym (sizes bs o) ∙ z)))))
 
-    module _ (none : count_in bs ≡ 0) where
+    module _ (None : count_in bs ≡ 0) where
       empty : size (decode bs) ≡ 0
-      empty = sizes bs o ∙ none
+      empty = sizes bs o ∙ None
 
       path-left : refusal (ask_arena bs start_questions) ≡ refusal (ask 5 (well_formed path) ∷ [])
       path-left = asked-on bs start_questions o ∙ rw (eq-eqb (size (decode bs)) 0 empty)
 
-      pub start-malformed : well_formed path ≡ false → Wrote (on_arena (init_root stack layer path) bs) bs (NumberRefused Path) bs
+      pub start-malformed : well_formed path ≡ false → Wrote (on_arena (init_root stack layer path) bs) bs (Err Path) bs
       start-malformed e = refused-start Path (sym (path-left ∙ rw e))
 
       pub start-done : (after : List ℕ) → well_formed path ≡ true → after ≡ encode started bs
-          → Wrote (on_arena (init_root stack layer path) bs) bs (Number 0) after
+          → Wrote (on_arena (init_root stack layer path) bs) bs (Ok 0) after
       start-done after e a = rw start-asks (wrote-decided (ask_arena bs start_questions) (decode bs) 0 started bs after 0 (path-left ∙ rw e) refl a)
 
       no_bytes : (ns : List model.Node) → length ns ≡ 0 → path_bytes ns ≡ 0
@@ -224,7 +221,7 @@ module _ (bs : List ℕ) (stack layer : ℕ) (path : List ℕ) where
       pub can-start : (prims : ℕ) → well_formed path ≡ true → prims ≡ prim_count path → CanAppend bs 0 (start_record stack layer prims (length path)) path
       can-start prims e p = record {
         opened = o;
-        counted = sym none;
+        counted = sym None;
         accepted = ap (λ (y : model.Node). refusal (record_questions (decode bs) y)) (start-node stack layer prims path p)
             ∙ start-accepted (decode bs) stack layer path empty (no_bytes (decode bs).nodes empty) e;
         named = p;

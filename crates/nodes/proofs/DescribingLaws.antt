@@ -1,9 +1,11 @@
 -- The questions that a node to be added is put are document 01's: `add-questions`, `desc-checked`;
 -- and the sum of the path bytes, one node after the other: `bytes-start`, `bytes-step`,
 -- `bytes-end`. Assumes nothing.
+use Rattle.std.specs.Prelude.{None, Option, Some}
+use Rattle.std.specs.Prelude.{Result}
+use Rattle.model.specs.declared.Refusal.{Refusal}
 use mathlib.Core.Path.{◌≡◌, refl, sym, ap, ◌∙◌}
 use mathlib.Core.Bool.{Bool, true, false, not, ◌&&◌}
-use mathlib.Core.Option.{Option, none, some}
 use mathlib.Core.List.{List, [], ◌∷◌}
 use Prim.Native.Nat.{ℕ, suc, ◌+◌, ◌-◌, ◌≤◌, ◌<◌}
 use native.Mathlib.Omega.{arith}
@@ -23,7 +25,6 @@ use Rattle.arena.proofs.HeldArenas.{held}
 use Rattle.arena.proofs.ArenaBack.{fresh-legal, fresh-nodes}
 use Rattle.arena.proofs.SlotLaws.{path-length}
 use Rattle.arena.proofs.ReadNodes.{sizes, has-path, root-found, root-held}
-use Rattle.validate.specs.declared.record.Checked.{Checked}
 use Rattle.validate.specs.declared.record.Before.{Before}
 use Rattle.validate.specs.declared.record.RecordNumbers.{RecordNumbers}
 use Rattle.validate.specs.RecordCheck.{numbers_of, before_next, links_at, questions_at, RecordChecked}
@@ -53,8 +54,8 @@ module _ (bs : List ℕ) where
 
   pub bytes-end : (n : ℕ) → count_in bs ≤ n → bytes_from n ≡ 0
   bytes-end n h =
-      let none : count_in bs - n ≡ 0 = omega arith in
-      ap (λ (k : ℕ). path_bytes (tabulate (node_in bs) n k)) none
+      let None : count_in bs - n ≡ 0 = omega arith in
+      ap (λ (k : ℕ). path_bytes (tabulate (node_in bs) n k)) None
 
   pub few_bytes : ValidArena bs → path_bytes (decode bs).nodes ≤ 32768
   few_bytes o =
@@ -82,10 +83,10 @@ module _ (g : Graph) (d : calls.NodeDesc) (some-node : 0 < size g) where
 
       go : (p o : Option ℕ)
           → (ltb (given_or p 0) (size g) && ltb (given_or o (given_or p 0)) (size g)) ≡ (given_below (size g) p && given_below (size g) o)
-      go none none = rw (lt-ltb 0 (size g) some-node)
-      go none (some k) = rw (lt-ltb 0 (size g) some-node)
-      go (some n) none = same (ltb n (size g))
-      go (some n) (some k) = refl
+      go None None = rw (lt-ltb 0 (size g) some-node)
+      go None (Some k) = rw (lt-ltb 0 (size g) some-node)
+      go (Some n) None = same (ltb n (size g))
+      go (Some n) (Some k) = refl
 
   pub add-questions : refusal (questions_at (before_next g false) (numbers_of x) x.path) ≡ refusal (add_questions g d)
   add-questions =
@@ -110,7 +111,7 @@ module _ (bs : List ℕ) (o : ValidArena bs) (desc : NodeDesc) (path : List ℕ)
 
   -- the check of a record, put the node with what was missing put in, has put it `add_child`'s
   -- questions
-  pub desc-checked : (count sum parent origin : ℕ) (root : Bool) (r : Checked) → count ≡ count_in bs → sum ≡ path_bytes g.nodes
+  pub desc-checked : (count sum parent origin : ℕ) (root : Bool) (r : Result ℕ Refusal) → count ≡ count_in bs → sum ≡ path_bytes g.nodes
       → root ≡ not (eqb (local_root_in bs) 0) → parent ≡ given_or d.parent 0 → origin ≡ given_or d.origin parent
       → RecordChecked (questions_at (added count sum root) (numbers parent origin) path) path r → DescChecked g d r
   desc-checked count sum parent origin root r count-is sum_is_lem root_is parent_is origin-is checked =

@@ -1,8 +1,8 @@
 -- What the fields of an arena that holds a graph say of it: of one node (`shown`) and of the header
 -- (`graph-shown`). Assumes nothing.
+use Rattle.std.specs.Prelude.{None, Some}
 use mathlib.Core.Path.{◌≡◌, refl, sym, ap, ◌∙◌}
 use mathlib.Core.Bool.{Bool, true, false, not, cond}
-use mathlib.Core.Option.{none, some}
 use mathlib.Core.List.{List}
 use Prim.Native.Nat.{ℕ}
 use native.Mathlib.Omega.{arith}
@@ -45,27 +45,27 @@ shown bs n r x l =
 
 -- 0 is the number of no local root
 none-or-found : (ns : List model.Node) (k : ℕ)
-    → cond (eqb (local_root_below ns k) 0) none (some (local_root_below ns k)) ≡ cond (any_below (is_local_root ns) k) (some (local_root_below ns k)) none
+    → cond (eqb (local_root_below ns k) 0) None (Some (local_root_below ns k)) ≡ cond (any_below (is_local_root ns) k) (Some (local_root_below ns k)) None
 none-or-found ns k = rw (sym (root-found ns k)) (turned (eqb (local_root_below ns k) 0))
   where
-    turned : (t : Bool) → cond t none (some (local_root_below ns k)) ≡ cond (not t) (some (local_root_below ns k)) none
+    turned : (t : Bool) → cond t None (Some (local_root_below ns k)) ≡ cond (not t) (Some (local_root_below ns k)) None
     turned true = refl
     turned false = refl
 
 module _ (bs : List ℕ) (o : ValidArena bs) where
-  pub root-read : (root : ℕ) → root ≡ cond (eqb (count_in bs) 0) 0 (local_root_in bs) → cond (eqb root 0) none (some root) ≡ local_root_option (decode bs)
+  pub root-read : (root : ℕ) → root ≡ cond (eqb (count_in bs) 0) 0 (local_root_in bs) → cond (eqb root 0) None (Some root) ≡ local_root_option (decode bs)
   root-read root e = go (eqb (count_in bs) 0) refl e
     where
       nodes : length (decode bs).nodes ≡ count_in bs
       nodes = sizes bs o
 
-      same : root ≡ local_root_of (decode bs).nodes → cond (eqb root 0) none (some root) ≡ local_root_option (decode bs)
+      same : root ≡ local_root_of (decode bs).nodes → cond (eqb root 0) None (Some root) ≡ local_root_option (decode bs)
       same r = rw r (none-or-found (decode bs).nodes (length (decode bs).nodes))
 
-      go : (t : Bool) → eqb (count_in bs) 0 ≡ t → root ≡ cond t 0 (local_root_in bs) → cond (eqb root 0) none (some root) ≡ local_root_option (decode bs)
+      go : (t : Bool) → eqb (count_in bs) 0 ≡ t → root ≡ cond t 0 (local_root_in bs) → cond (eqb root 0) None (Some root) ≡ local_root_option (decode bs)
       go true c r =
-          let none : length (decode bs).nodes ≡ 0 = nodes ∙ eqb-true (count_in bs) 0 c in
-          same (r ∙ sym (ap (local_root_below (decode bs).nodes) none))
+          let None : length (decode bs).nodes ≡ 0 = nodes ∙ eqb-true (count_in bs) 0 c in
+          same (r ∙ sym (ap (local_root_below (decode bs).nodes) None))
       go false c r = same (r ∙ root-held bs o (omega (arith, eqb-false (count_in bs) 0 c)))
 
   pub graph-shown : (x : GraphInfo) → x.count ≡ count_in bs → x.ordered ≡ eqb (ordered_in bs) 1 → x.finalized ≡ eqb (finalized_in bs) 1

@@ -1,8 +1,10 @@
 -- The ways that the calls that set fields of one node end: refused by questions 1 to 4, `mark` by 6
 -- too, and done, with one part of the node's record stored. Assumes nothing.
+use Rattle.std.specs.Prelude.{None, Option, Some}
+use Rattle.std.specs.Prelude.{Err, Ok}
+use mathlib.Core.Unit.{tt}
 use mathlib.Core.Path.{◌≡◌, refl, sym, ap, ◌∙◌}
 use mathlib.Core.Bool.{true, false}
-use mathlib.Core.Option.{Option, none, some}
 use mathlib.Core.List.{List, [], ◌∷◌}
 use Prim.Native.Nat.{ℕ, ◌<◌}
 use native.Mathlib.Omega.{arith}
@@ -17,7 +19,6 @@ use Rattle.model.specs.Arena.{decode, encode}
 use Rattle.model.specs.ArenaCalls.{ValidNode, on_arena, Finishes, ask_arena}
 use Rattle.model.specs.declared.Refusal.{Refusal}
 use Rattle.model.specs.declared.Refusal.TheVariants.{Kind}
-use Rattle.model.specs.declared.UnitResult.TheVariants.{Done, Refused}
 use Rattle.laws.proofs.BigEndianLaws.{Bytes}
 use Rattle.laws.proofs.ArenaCallLaws.{refused-before, asked-on, on-arena-asks, finishes-refused, finishes-done}
 use Rattle.arena.specs.Slot.{arc_in, flags_in, flags_stored, restriction_stored}
@@ -41,7 +42,7 @@ module _ (bs : List ℕ) (n : ℕ) (f : Graph → Outcome) (own : List Question)
 
   -- by questions 1 to 4
   set-refused-first : (r : Refusal) → refusal_number r ≡ refusal (ask_arena bs (reads_node (decode bs) n))
-      → Finishes (on_arena f bs) bs (Refused r) bs
+      → Finishes (on_arena f bs) bs (Err r) bs
   set-refused-first r e =
       rw set-asks
       (finishes-refused asked (decode bs) 0 result bs r
@@ -56,10 +57,10 @@ module _ (bs : List ℕ) (n : ℕ) (f : Graph → Outcome) (own : List Question)
           lt-ltb n (size (decode bs)) (omega (arith, valid.below, sizes bs valid.opened)),
         )
 
-    set-refused : (r : Refusal) → refusal_number r ≡ refusal own → Finishes (on_arena f bs) bs (Refused r) bs
+    set-refused : (r : Refusal) → refusal_number r ≡ refusal own → Finishes (on_arena f bs) bs (Err r) bs
     set-refused r e = rw set-asks (finishes-refused asked (decode bs) 0 result bs r (e ∙ sym own-left))
 
-    set-done : (after : List ℕ) → refusal own ≡ 0 → after ≡ encode result bs → Finishes (on_arena f bs) bs Done after
+    set-done : (after : List ℕ) → refusal own ≡ 0 → after ≡ encode result bs → Finishes (on_arena f bs) bs (Ok tt) after
     set-done after e a = rw set-asks (finishes-done asked (decode bs) 0 result bs after (own-left ∙ e) a)
 
 -- ---- The calls
@@ -76,7 +77,7 @@ module _ (bs : List ℕ) (n : ℕ) where
     mark_asks = ask 6 (may_mark flags (node_at (decode bs).nodes n).arc) ∷ []
 
     pub mark-refused-first : (r : Refusal) → refusal_number r ≡ refusal (ask_arena bs (reads_node (decode bs) n))
-        → Finishes (on_arena (mark n flags) bs) bs (Refused r) bs
+        → Finishes (on_arena (mark n flags) bs) bs (Err r) bs
     unfolding mark
     mark-refused-first = set-refused-first bs n (mark n flags) mark_asks (marked flags) refl
 
@@ -87,7 +88,7 @@ module _ (bs : List ℕ) (n : ℕ) where
     flags-read valid = ap (λ (x : Node). x.flags) (node-read bs n valid) ∙ (fields_read bs n valid).flags
 
     pub mark-refused : ValidNode bs n → may_mark flags (arc_in bs n) ≡ false
-        → Finishes (on_arena (mark n flags) bs) bs (Refused Kind) bs
+        → Finishes (on_arena (mark n flags) bs) bs (Err Kind) bs
     unfolding mark
     mark-refused valid e =
         set-refused bs n (mark n flags) mark_asks (marked flags) refl valid Kind
@@ -95,7 +96,7 @@ module _ (bs : List ℕ) (n : ℕ) where
 
     pub mark-done : Bytes bs → ValidNode bs n → may_mark flags (arc_in bs n) ≡ true
         → (joined : ℕ) → joined ≡ with_flags flags (flags_in bs n) → (after : List ℕ) → after ≡ flags_stored n joined bs
-        → Finishes (on_arena (mark n flags) bs) bs Done after
+        → Finishes (on_arena (mark n flags) bs) bs (Ok tt) after
     unfolding mark
     mark-done bytes valid may joined e after a =
         set-done bs n (mark n flags) mark_asks (marked flags) refl valid after
@@ -105,28 +106,28 @@ module _ (bs : List ℕ) (n : ℕ) where
 
   module _ (first : Option ℕ) where
     pub first-spec-refused : (r : Refusal) → refusal_number r ≡ refusal (ask_arena bs (reads_node (decode bs) n))
-        → Finishes (on_arena (set_first_spec n first) bs) bs (Refused r) bs
+        → Finishes (on_arena (set_first_spec n first) bs) bs (Err r) bs
     unfolding set_first_spec
     first-spec-refused = set-refused-first bs n (set_first_spec n first) [] (with_first_spec first) refl
 
     pub first-spec-done : Bytes bs → ValidNode bs n → (after : List ℕ) → after ≡ first_spec_stored n first bs
-        → Finishes (on_arena (set_first_spec n first) bs) bs Done after
+        → Finishes (on_arena (set_first_spec n first) bs) bs (Ok tt) after
     unfolding set_first_spec
     first-spec-done bytes valid after a =
         set-done bs n (set_first_spec n first) [] (with_first_spec first) refl valid after refl (a ∙ encoded first)
       where
         encoded : (o : Option ℕ) → first_spec_stored n o bs ≡ encode (with_record (decode bs) n (with_first_spec o old)) bs
-        encoded none = encode-specs bs bytes valid.opened n (here valid) 0 0
-        encoded (some k) = encode-specs bs bytes valid.opened n (here valid) k 1
+        encoded None = encode-specs bs bytes valid.opened n (here valid) 0 0
+        encoded (Some k) = encode-specs bs bytes valid.opened n (here valid) k 1
 
   module _ (depth : ℕ) where
     pub restriction-refused : (r : Refusal) → refusal_number r ≡ refusal (ask_arena bs (reads_node (decode bs) n))
-        → Finishes (on_arena (set_restriction_depth n depth) bs) bs (Refused r) bs
+        → Finishes (on_arena (set_restriction_depth n depth) bs) bs (Err r) bs
     unfolding set_restriction_depth
     restriction-refused = set-refused-first bs n (set_restriction_depth n depth) [] (restricted_at depth) refl
 
     pub restriction-done : Bytes bs → ValidNode bs n → (after : List ℕ) → after ≡ restriction_stored n depth bs
-        → Finishes (on_arena (set_restriction_depth n depth) bs) bs Done after
+        → Finishes (on_arena (set_restriction_depth n depth) bs) bs (Ok tt) after
     unfolding set_restriction_depth
     restriction-done bytes valid after a =
         set-done bs n (set_restriction_depth n depth) [] (restricted_at depth) refl valid after refl

@@ -1,5 +1,7 @@
 -- How the code's `NodeDesc` is document 01's (model/specs/Calls.antt), what its check answers, and
 -- the record that it becomes.
+use Rattle.std.specs.Prelude.{None, Option, Result, Some}
+use Rattle.model.specs.declared.Refusal.{Refusal}
 use Rattle.std.specs.Prelude.{◌≡◌, ◌&&◌, List, [], ◌∷◌, ℕ, ◌+◌, ◌<◌}
 use Rattle.model.specs.Path.{well_formed, prim_count}
 use Rattle.model.specs.Node.{invalid}
@@ -10,10 +12,7 @@ use Rattle.model.specs.Calls.{given_or, given_below, added_node}
 use Rattle.model.specs.Answers.{node_option, number_option}
 use Rattle.model.specs.Arena.{prim_count_in}
 use Rattle.model.specs.declared.NodeId.{NodeId}
-use Rattle.model.specs.declared.NodeOption.{NodeOption}
-use Rattle.model.specs.declared.NodeOption.TheVariants.{Some as SomeNode, None as NoNode}
 use Rattle.arena.specs.declared.Node.{Node}
-use Rattle.validate.specs.declared.record.Checked.{Checked}
 use Rattle.validate.specs.RecordCheck.{checked_refusal, checked_prims}
 use Rattle.nodes.specs.declared.description.NodeDesc.{NodeDesc}
 
@@ -46,21 +45,21 @@ add_questions g d =
     ask 4 (given_below (size g) d.parent && given_below (size g) d.origin) ∷ ask 5 (well_formed d.fields.path) ∷ ask 6 (added_kind g (added_node g d)) ∷ ask 7 (has_room g (added_node g d)) ∷ []
 
 -- the first no of them; an accepted node has its path's prim count
-pub record DescChecked (g : Graph) (d : calls.NodeDesc) (r : Checked) : Type 0 where
+pub record DescChecked (g : Graph) (d : calls.NodeDesc) (r : Result ℕ Refusal) : Type 0 where
   pub refused : checked_refusal r ≡ refusal (add_questions g d)
   pub prims : checked_refusal r ≡ 0 → checked_prims r ≡ prim_count d.fields.path
 
 -- ---- What is missing of it
 
 -- a parent that is given has a slot
-abbrev pub HasSlotIn : NodeOption → Type 0
-HasSlotIn (SomeNode parent) = parent.0 < 1024
-HasSlotIn NoNode = Unit {0}
+abbrev pub HasSlotIn : Option NodeId → Type 0
+HasSlotIn (Some parent) = parent.0 < 1024
+HasSlotIn None = Unit {0}
 
 -- the depth that a missing one becomes, as the arena has it
-abbrev pub prims_read : List ℕ → NodeOption → ℕ → ℕ
-prims_read bs (SomeNode parent) prims = prim_count_in bs parent.0
-prims_read bs NoNode prims = prims
+abbrev pub prims_read : List ℕ → Option NodeId → ℕ → ℕ
+prims_read bs (Some parent) prims = prim_count_in bs parent.0
+prims_read bs None prims = prims
 
 -- ---- The record
 

@@ -1,8 +1,9 @@
 -- What the calls that only read answer, beside model/specs/ArenaCalls.antt's `Answered`: a node,
 -- and what the header tells; for each case of the answer its refusal and its value. The definitions
 -- that they cite are document 01's, in model/specs.
+use Rattle.std.specs.Prelude.{Err, None, Ok, Option, Result, Some}
+use Rattle.model.specs.declared.Refusal.{Refusal}
 use Rattle.std.specs.Prelude.{◌≡◌, cond, List, [], ℕ, ◌+◌, length}
-use Rattle.std.proofs.Math.Option.{Option, none, some}
 use Rattle.model.specs.Path.{prim_count}
 use Rattle.model.specs.Graph.{Graph, size, node_at, children_of, has_local_root}
 use Rattle.model.specs.Answers.{node_option}
@@ -13,20 +14,16 @@ use Rattle.model.specs.ArenaCalls.{ask_arena}
 use Rattle.arena.specs.declared.Node.{Node}
 use Rattle.arena.specs.Slot.{node_of}
 use Rattle.nodes.specs.declared.calls.GraphInfo.{GraphInfo}
-use Rattle.nodes.specs.declared.calls.GraphRead.{GraphRead}
-use Rattle.nodes.specs.declared.calls.GraphRead.TheVariants.{Graph as GraphOf, Refused as GraphRefused}
-use Rattle.nodes.specs.declared.calls.NodeRead.{NodeRead}
-use Rattle.nodes.specs.declared.calls.NodeRead.TheVariants.{Node as NodeRecord, Refused as NodeRefused}
 
 -- ---- A node
 
-abbrev pub node_read_refusal : NodeRead → ℕ
-node_read_refusal (NodeRecord x) = 0
-node_read_refusal (NodeRefused r) = refusal_number r
+abbrev pub node_read_refusal : Result Node Refusal → ℕ
+node_read_refusal (Ok x) = 0
+node_read_refusal (Err r) = refusal_number r
 
-abbrev pub node_read_value : NodeRead → Option Node
-node_read_value (NodeRecord x) = some x
-node_read_value (NodeRefused r) = none
+abbrev pub node_read_value : Result Node Refusal → Option Node
+node_read_value (Ok x) = Some x
+node_read_value (Err r) = None
 
 -- x has the fields of node n and its links: the first and last of its children, and the one after
 -- it among its parent's; `invalid` for none
@@ -38,23 +35,23 @@ pub record NodeShown (g : Graph) (n : ℕ) (x : Node) : Type 0 where
   pub «prim-count» : x.prim_count ≡ prim_count (node_at g.nodes n).path
   pub «record-length» : x.record_length ≡ 27 + length (node_at g.nodes n).path
 
-pub record NodeAnswered (bs : List ℕ) (n : ℕ) (r : NodeRead) : Type 0 where
+pub record NodeAnswered (bs : List ℕ) (n : ℕ) (r : Result Node Refusal) : Type 0 where
   pub refused : node_read_refusal r ≡ refusal (ask_arena bs (reads_node (decode bs) n))
-  pub node : (x : Node) → node_read_value r ≡ some x → NodeShown (decode bs) n x
+  pub node : (x : Node) → node_read_value r ≡ Some x → NodeShown (decode bs) n x
 
 -- ---- What the header tells
 
-abbrev pub graph_read_refusal : GraphRead → ℕ
-graph_read_refusal (GraphOf x) = 0
-graph_read_refusal (GraphRefused r) = refusal_number r
+abbrev pub graph_read_refusal : Result GraphInfo Refusal → ℕ
+graph_read_refusal (Ok x) = 0
+graph_read_refusal (Err r) = refusal_number r
 
-abbrev pub graph_read_value : GraphRead → Option GraphInfo
-graph_read_value (GraphOf x) = some x
-graph_read_value (GraphRefused r) = none
+abbrev pub graph_read_value : Result GraphInfo Refusal → Option GraphInfo
+graph_read_value (Ok x) = Some x
+graph_read_value (Err r) = None
 
 -- the local root's number, where there is one
 abbrev pub local_root_option : Graph → Option ℕ
-local_root_option g = cond (has_local_root g.nodes) (some (local_root_of g.nodes)) none
+local_root_option g = cond (has_local_root g.nodes) (Some (local_root_of g.nodes)) None
 
 pub record GraphShown (g : Graph) (x : GraphInfo) : Type 0 where
   pub count : x.count ≡ size g
@@ -63,6 +60,6 @@ pub record GraphShown (g : Graph) (x : GraphInfo) : Type 0 where
   pub shallow : x.shallow ≡ g.shallow
   pub «local-root» : node_option x.local_root ≡ local_root_option g
 
-pub record GraphAnswered (bs : List ℕ) (r : GraphRead) : Type 0 where
+pub record GraphAnswered (bs : List ℕ) (r : Result GraphInfo Refusal) : Type 0 where
   pub refused : graph_read_refusal r ≡ refusal (ask_arena bs [])
-  pub graph : (x : GraphInfo) → graph_read_value r ≡ some x → GraphShown (decode bs) x
+  pub graph : (x : GraphInfo) → graph_read_value r ≡ Some x → GraphShown (decode bs) x

@@ -15,15 +15,12 @@ ghost use Rattle.nodes.specs.Adding.{start_record};
 ghost use Rattle.model.specs.Arena.{decode, count_in, local_root_in, node_in};
 ghost use Rattle.model.specs.Graph.{depth_below_introduction, is_due_to_ancestor, uses_site, node_using_site};
 ghost use Rattle.nodes.specs.Queries.{NodeAnswered, GraphShown, GraphAnswered};
-ghost use Rattle.std.proofs.Math.Option.{none, some};
+ghost use Rattle.std.specs.Prelude.{None, Some};
 ghost use Rattle.model.specs.Node.{has_flag, inert_flag, culled_flag};
 ghost use Rattle.model.specs.Calls as calls;
 
 use crate::description::NodeDesc;
-use model::{
-    BoolResult, NodeId, NodeOption, NodeResult, NumberResult, PrimCount, Refusal, UnitResult,
-};
-use validate::Checked;
+use model::{NodeId, Refusal};
 
 // The record of node 0: arc Root, INERT, with specs, its depth its own prim count.
 fn start_record(stack: u32, layer: u32, prims: u16, path_length: usize) -> arena::Node
@@ -52,19 +49,19 @@ fn start_record(stack: u32, layer: u32, prims: u16, path_length: usize) -> arena
 
 // Starts a graph in an arena that holds the empty one, and answers its number, 0. Refused 1, 2, 3
 // where there is a node 0, 5.
-pub fn init_root(arena: &mut [u8], stack: u32, layer: u32, path: &[u8]) -> NumberResult
+pub fn init_root(arena: &mut [u8], stack: u32, layer: u32, path: &[u8]) -> Result<u32, Refusal>
     ensures { Wrote (on_arena (init_root stack layer path.now) arena.old)
         arena.old result arena.new }
 {
     let asked = validate::ask_graph(arena);
     match asked {
-        UnitResult::Done => {
+        Ok(()) => {
             if arena::count(arena) != 0 {
-                return NumberResult::Refused(Refusal::NodeZero);
+                return Err(Refusal::NodeZero);
             }
             let read = path::prim_count(path);
-            let PrimCount::Names(prims) = read else {
-                return NumberResult::Refused(Refusal::Path);
+            let Some(prims) = read else {
+                return Err(Refusal::Path);
             };
             child_lists::append_node(
                 arena,
@@ -72,67 +69,67 @@ pub fn init_root(arena: &mut [u8], stack: u32, layer: u32, path: &[u8]) -> Numbe
                 start_record(stack, layer, prims, path.len()),
                 path,
             );
-            NumberResult::Number(0)
+            Ok(0)
         }
-        UnitResult::Refused(refusal) => NumberResult::Refused(refusal),
+        Err(refusal) => Err(refusal),
     }
 }
 
 // Adds the node as the last child of its parent and answers its number. Refused 1 to 7.
-pub fn add_child(arena: &mut [u8], desc: NodeDesc, path: &[u8]) -> NumberResult
+pub fn add_child(arena: &mut [u8], desc: NodeDesc, path: &[u8]) -> Result<u32, Refusal>
     ensures { Wrote (on_arena (add_child (desc_of desc path.now)) arena.old)
         arena.old result arena.new }
 {
     let asked = validate::ask_node_zero(arena);
     match asked {
-        UnitResult::Done => {
+        Ok(()) => {
             let count = arena::count(arena);
             let checked = crate::description::check_desc(arena, count, desc, path);
             match checked {
-                Checked::Accepted(prims) => {
+                Ok(prims) => {
                     let node = crate::description::added_record(arena, desc, prims, path.len());
                     child_lists::append_node(arena, count, node, path);
-                    NumberResult::Number(count)
+                    Ok(count)
                 }
-                Checked::Refused(refusal) => NumberResult::Refused(refusal),
+                Err(refusal) => Err(refusal),
             }
         }
-        UnitResult::Refused(refusal) => NumberResult::Refused(refusal),
+        Err(refusal) => Err(refusal),
     }
 }
 
 // The record of node n, with its links. Refused 1 to 4.
-pub fn node(arena: &[u8], n: u32) -> NodeRead
+pub fn node(arena: &[u8], n: u32) -> Result<arena::Node, Refusal>
     ensures { NodeAnswered arena.now n result }
 {
     let asked = validate::ask_node(arena, n);
     match asked {
-        UnitResult::Done => NodeRead::Node(arena::load_node(arena, n)),
-        UnitResult::Refused(refusal) => NodeRead::Refused(refusal),
+        Ok(()) => Ok(arena::load_node(arena, n)),
+        Err(refusal) => Err(refusal),
     }
 }
 
 // The parent's prim count less the node's depth, at least 0. Refused 1 to 4.
-pub fn depth_below_introduction(arena: &[u8], n: u32) -> NumberResult
+pub fn depth_below_introduction(arena: &[u8], n: u32) -> Result<u32, Refusal>
     ensures { Answered (ask_arena arena.now (reads_node (decode arena.now) n))
         (depth_below_introduction (decode arena.now).nodes n) result }
 {
     let asked = validate::ask_node(arena, n);
     match asked {
-        UnitResult::Done => NumberResult::Number(view::depth_below(arena, n) as u32),
-        UnitResult::Refused(refusal) => NumberResult::Refused(refusal),
+        Ok(()) => Ok(view::depth_below(arena, n) as u32),
+        Err(refusal) => Err(refusal),
     }
 }
 
 // Whether node n was introduced above this prim: that depth is not 0. Refused 1 to 4.
-pub fn is_due_to_ancestor(arena: &[u8], n: u32) -> BoolResult
+pub fn is_due_to_ancestor(arena: &[u8], n: u32) -> Result<bool, Refusal>
     ensures { AnsweredTest (ask_arena arena.now (reads_node (decode arena.now) n))
         (is_due_to_ancestor (decode arena.now).nodes n) result }
 {
     let asked = validate::ask_node(arena, n);
     match asked {
-        UnitResult::Done => BoolResult::Is(0 < view::depth_below(arena, n)),
-        UnitResult::Refused(refusal) => BoolResult::Refused(refusal),
+        Ok(()) => Ok(0 < view::depth_below(arena, n)),
+        Err(refusal) => Err(refusal),
     }
 }
 
@@ -143,31 +140,17 @@ pub struct GraphInfo {
     pub ordered: bool,
     pub finalized: bool,
     pub shallow: bool,
-    pub local_root: NodeOption,
-}
-
-// The answer of `graph_info`.
-#[derive(Clone, Copy)]
-pub enum GraphRead {
-    Graph(GraphInfo),
-    Refused(Refusal),
-}
-
-// The answer of `node`.
-#[derive(Clone, Copy)]
-pub enum NodeRead {
-    Node(arena::Node),
-    Refused(Refusal),
+    pub local_root: Option<NodeId>,
 }
 
 // The local root: node 0 is never it, and stands for none in the header.
-fn root_or_none(root: u32) -> NodeOption
-    ensures { node_option result ≡ cond (eqb root 0) none (some root) }
+fn root_or_none(root: u32) -> Option<NodeId>
+    ensures { node_option result ≡ cond (eqb root 0) None (Some root) }
 {
     if root == 0 {
-        return NodeOption::None;
+        return None;
     }
-    NodeOption::Some(NodeId(root))
+    Some(NodeId(root))
 }
 
 // The local root in the header; of an empty graph it is not read.
@@ -196,13 +179,13 @@ fn read_info(arena: &[u8], count: u32) -> GraphInfo
 }
 
 // What the header tells of the graph. Refused 1 or 2.
-pub fn graph_info(arena: &[u8]) -> GraphRead
+pub fn graph_info(arena: &[u8]) -> Result<GraphInfo, Refusal>
     ensures { GraphAnswered arena.now result }
 {
     let counted = validate::count(arena);
     match counted {
-        NumberResult::Number(nodes) => GraphRead::Graph(read_info(arena, nodes)),
-        NumberResult::Refused(refusal) => GraphRead::Refused(refusal),
+        Ok(nodes) => Ok(read_info(arena, nodes)),
+        Err(refusal) => Err(refusal),
     }
 }
 
@@ -246,20 +229,20 @@ fn lowest(arena: &[u8], count: u32, stack: u32, path: &[u8]) -> u32
 }
 
 // The lowest node, neither INERT nor CULLED, that has that stack and path. Refused 1, 2, 3 and 5.
-pub fn node_using_site(arena: &[u8], stack: u32, path: &[u8]) -> NodeResult
+pub fn node_using_site(arena: &[u8], stack: u32, path: &[u8]) -> Result<Option<NodeId>, Refusal>
     ensures { AnsweredNode (ask_arena arena.now
         (calls.uses_site (decode arena.now) path.now))
         (node_using_site stack path.now (decode arena.now)) result }
 {
     let asked = validate::ask_node_zero(arena);
     match asked {
-        UnitResult::Done => {
+        Ok(()) => {
             if !path::is_well_formed(path) {
-                return NodeResult::Refused(Refusal::Path);
+                return Err(Refusal::Path);
             }
             let found = lowest(arena, arena::count(arena), stack, path);
-            NodeResult::Found(NodeOption::of(found))
+            Ok(NodeId::from_number(found))
         }
-        UnitResult::Refused(refusal) => NodeResult::Refused(refusal),
+        Err(refusal) => Err(refusal),
     }
 }

@@ -10,8 +10,8 @@ ghost use Rattle.model.specs.Calls.{given_or};
 ghost use Rattle.model.specs.Refusals.{path_bytes};
 ghost use Rattle.nodes.specs.Describing.{desc_of, DescChecked, HasSlotIn, prims_read, added_record};
 
-use model::{NodeId, NodeOption, U16Option};
-use validate::{Before, Checked, RecordNumbers};
+use model::{NodeId, Refusal};
+use validate::{Before, RecordNumbers};
 
 // A node to be added. Without a parent it is a root site. Its path is handed over beside it.
 #[derive(Clone, Copy)]
@@ -20,9 +20,9 @@ pub struct NodeDesc {
     pub flags: u8,
     pub stack: u32,
     pub layer: u32,
-    pub parent: NodeOption,
-    pub origin: NodeOption,
-    pub depth: U16Option,
+    pub parent: Option<NodeId>,
+    pub origin: Option<NodeId>,
+    pub depth: Option<u16>,
     pub sibling: u16,
     pub restriction: u16,
     pub spec_from: u16,
@@ -30,22 +30,22 @@ pub struct NodeDesc {
 }
 
 // The node's number, or `missing` where there is none.
-fn node_or(node: NodeOption, missing: u32) -> u32
+fn node_or(node: Option<NodeId>, missing: u32) -> u32
     ensures { result ≡ given_or (node_option node) missing }
 {
     match node {
-        NodeOption::Some(given) => given.0,
-        NodeOption::None => missing,
+        Some(given) => given.0,
+        None => missing,
     }
 }
 
 // The depth that is given, or `missing`.
-fn depth_or(depth: U16Option, missing: u16) -> u16
+fn depth_or(depth: Option<u16>, missing: u16) -> u16
     ensures { result ≡ given_or (number_option depth) missing }
 {
     match depth {
-        U16Option::Some(given) => given,
-        U16Option::None => missing,
+        Some(given) => given,
+        None => missing,
     }
 }
 
@@ -65,7 +65,7 @@ fn path_bytes(arena: &[u8], count: u32) -> usize
 
 // Questions 4 to 7 of a node that is to be added to a graph of `count` nodes: its prim count where
 // all pass. A culled node may not be added.
-pub fn check_desc(arena: &[u8], count: u32, desc: NodeDesc, path: &[u8]) -> Checked
+pub fn check_desc(arena: &[u8], count: u32, desc: NodeDesc, path: &[u8]) -> Result<u8, Refusal>
     requires { ValidArena arena.now × (count ≡ count_in arena.now) × (0 < count) }
     ensures { DescChecked (decode arena.now) (desc_of desc path.now) result }
 {
@@ -89,14 +89,14 @@ pub fn check_desc(arena: &[u8], count: u32, desc: NodeDesc, path: &[u8]) -> Chec
 }
 
 // The prim count of the parent's path, or of the node's own for a root site.
-fn default_depth(arena: &[u8], parent: NodeOption, prims: u8) -> u16
+fn default_depth(arena: &[u8], parent: Option<NodeId>, prims: u8) -> u16
     requires valid_arena { ValidArena arena.now }
     requires has_slot_in { HasSlotIn parent }
     ensures { result ≡ prims_read arena.now parent prims }
 {
     match parent {
-        NodeOption::Some(given) => arena::prim_count(arena, given.0) as u16,
-        NodeOption::None => prims as u16,
+        Some(given) => arena::prim_count(arena, given.0) as u16,
+        None => prims as u16,
     }
 }
 

@@ -5,7 +5,7 @@
 // The paths are model/specs/Graph.antt's; what a call leaves is `PutPath` of
 // model/specs/ArenaCalls.antt.
 ghost use Rattle.std.specs.Prelude.{◌≡◌, ◌≤◌, length};
-ghost use Rattle.model.specs.Answers.{unit_refusal, number_refusal, number_value};
+ghost use Rattle.model.specs.Answers.{answer_refusal, answer_refusal, number_value};
 ghost use Rattle.model.specs.Arena.{decode};
 ghost use Rattle.model.specs.ArenaCalls.{ask_path, PutPath};
 ghost use Rattle.model.specs.Bytes.{stored};
@@ -13,71 +13,71 @@ ghost use Rattle.model.specs.Calls.{reads_node};
 ghost use Rattle.model.specs.Graph.{node_at, path_at_introduction, intro_path};
 ghost use Rattle.model.specs.Refusals.{refusal};
 
-use model::{NumberResult, Refusal, UnitResult};
+use model::Refusal;
 
 // Questions 1 to 4, the first of the buffer too.
-fn ask(arena: &[u8], n: u32, buffer: &[u8]) -> UnitResult
-    ensures { unit_refusal result ≡ refusal
+fn ask(arena: &[u8], n: u32, buffer: &[u8]) -> Result<(), Refusal>
+    ensures { answer_refusal result ≡ refusal
         (ask_path arena.now buffer.now (reads_node (decode arena.now) n)) }
 {
     if buffer.len() != arena::PATH_BYTES {
-        return UnitResult::Refused(Refusal::Size);
+        return Err(Refusal::Size);
     }
     validate::ask_node(arena, n)
 }
 
 // Puts the path at the front of the buffer.
-fn put(path: &[u8], buffer: &mut [u8]) -> NumberResult
+fn put(path: &[u8], buffer: &mut [u8]) -> Result<u32, Refusal>
     requires { (length path.now ≤ 255) × (length buffer.old ≡ 255) }
-    ensures result_value { (number_refusal result ≡ 0) × (number_value result ≡ length path.now) }
+    ensures result_value { (answer_refusal result ≡ 0) × (number_value result ≡ length path.now) }
     ensures buffer_after { buffer.new ≡ stored 0 path.now buffer.old }
 {
     big_endian::write_bytes(buffer, 0, path);
-    NumberResult::Number(path.len() as u32)
+    Ok(path.len() as u32)
 }
 
 // The path of node n.
-pub fn path(arena: &[u8], n: u32, buffer: &mut [u8]) -> NumberResult
+pub fn path(arena: &[u8], n: u32, buffer: &mut [u8]) -> Result<u32, Refusal>
     ensures { PutPath
         (ask_path arena.now buffer.old (reads_node (decode arena.now) n))
         (node_at (decode arena.now).nodes n).path buffer.old result buffer.new }
 {
     let asked = ask(arena, n, buffer);
     match asked {
-        UnitResult::Done => put(arena::path(arena, n), buffer),
-        UnitResult::Refused(refusal) => NumberResult::Refused(refusal),
+        Ok(()) => put(arena::path(arena, n), buffer),
+        Err(refusal) => Err(refusal),
     }
 }
 
 // The path of node n at its introduction: taken back by its depth below introduction.
-pub fn path_at_introduction(arena: &[u8], n: u32, buffer: &mut [u8]) -> NumberResult
+pub fn path_at_introduction(arena: &[u8], n: u32, buffer: &mut [u8]) -> Result<u32, Refusal>
     ensures { PutPath
         (ask_path arena.now buffer.old (reads_node (decode arena.now) n))
         (path_at_introduction (decode arena.now).nodes n) buffer.old result buffer.new }
 {
     let asked = ask(arena, n, buffer);
     match asked {
-        UnitResult::Done => {
+        Ok(()) => {
             let depth = view::depth_below(arena, n);
             put(
                 path::path_at_intro_depth(arena::path(arena, n), depth),
                 buffer,
             )
         }
-        UnitResult::Refused(refusal) => NumberResult::Refused(refusal),
+        Err(refusal) => Err(refusal),
     }
 }
 
 // The path of the site that introduced node n: its parent's, taken back by that depth; `/` of node
 // 0, which has no parent.
-pub fn intro_path(arena: &[u8], n: u32, buffer: &mut [u8]) -> NumberResult
+pub fn intro_path(arena: &[u8], n: u32, buffer: &mut [u8]) -> Result<u32, Refusal>
     ensures { PutPath
         (ask_path arena.now buffer.old (reads_node (decode arena.now) n))
         (intro_path (decode arena.now).nodes n) buffer.old result buffer.new }
 {
     let asked = ask(arena, n, buffer);
     match asked {
-        UnitResult::Done => {
+        Ok(()) => {
             if n == 0 {
                 return put(b"/", buffer);
             }
@@ -88,6 +88,6 @@ pub fn intro_path(arena: &[u8], n: u32, buffer: &mut [u8]) -> NumberResult
                 buffer,
             )
         }
-        UnitResult::Refused(refusal) => NumberResult::Refused(refusal),
+        Err(refusal) => Err(refusal),
     }
 }

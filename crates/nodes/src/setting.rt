@@ -13,7 +13,7 @@ ghost use Rattle.model.specs.Setting.{with_given, with_flags, may_mark};
 ghost use Rattle.arena.specs.Slot.{HasSlot};
 ghost use Rattle.nodes.specs.Setting.{first_spec_stored};
 
-use model::{Refusal, U16Option, UnitResult};
+use model::Refusal;
 
 // ---- Flags
 
@@ -82,78 +82,78 @@ fn may_mark(arc: u8, flags: u8) -> bool
 }
 
 // Joins the flags with those of node n by or. Refused 1 to 4 and 6.
-pub fn mark(arena: &mut [u8], n: u32, flags: u8) -> UnitResult
+pub fn mark(arena: &mut [u8], n: u32, flags: u8) -> Result<(), Refusal>
     ensures { Finishes (on_arena (mark n flags) arena.old)
         arena.old result arena.new }
 {
     let asked = validate::ask_node(arena, n);
     match asked {
-        UnitResult::Done => {
+        Ok(()) => {
             if !may_mark(arena::arc(arena, n), flags) {
-                return UnitResult::Refused(Refusal::Kind);
+                return Err(Refusal::Kind);
             }
             let joined = with_flags(flags, arena::flags(arena, n));
             arena::write_flags(arena, n, joined);
-            UnitResult::Done
+            Ok(())
         }
-        UnitResult::Refused(refusal) => UnitResult::Refused(refusal),
+        Err(refusal) => Err(refusal),
     }
 }
 
 // ---- Specs
 
 // Stores the position of the first spec and that there is one, or 0 and that there is none.
-fn write_first_spec(arena: &mut [u8], n: u32, first: U16Option)
+fn write_first_spec(arena: &mut [u8], n: u32, first: Option<u16>)
     requires { HasSlot arena.old n }
     ensures { arena.new ≡ first_spec_stored n (number_option first) arena.old }
 {
     match first {
-        U16Option::Some(position) => arena::write_specs(arena, n, position, 1),
-        U16Option::None => arena::write_specs(arena, n, 0, 0),
+        Some(position) => arena::write_specs(arena, n, position, 1),
+        None => arena::write_specs(arena, n, 0, 0),
     }
 }
 
 // Sets the position in node n's stack of the strongest layer with a spec at its path, or that no
 // layer has one. Refused 1 to 4.
-pub fn set_first_spec(arena: &mut [u8], n: u32, first: U16Option) -> UnitResult
+pub fn set_first_spec(arena: &mut [u8], n: u32, first: Option<u16>) -> Result<(), Refusal>
     ensures { Finishes (on_arena (set_first_spec n (number_option first)) arena.old)
         arena.old result arena.new }
 {
     let asked = validate::ask_node(arena, n);
     match asked {
-        UnitResult::Done => {
+        Ok(()) => {
             write_first_spec(arena, n, first);
-            UnitResult::Done
+            Ok(())
         }
-        UnitResult::Refused(refusal) => UnitResult::Refused(refusal),
+        Err(refusal) => Err(refusal),
     }
 }
 
 // Sets whether node n has specs, without saying which layer has the first: position 0. Refused 1 to
 // 4.
-pub fn set_has_specs(arena: &mut [u8], n: u32, authored: bool) -> UnitResult
+pub fn set_has_specs(arena: &mut [u8], n: u32, authored: bool) -> Result<(), Refusal>
     ensures { Finishes (on_arena (set_has_specs n authored) arena.old)
         arena.old result arena.new }
 {
     if authored {
-        return set_first_spec(arena, n, U16Option::Some(0));
+        return set_first_spec(arena, n, Some(0));
     }
-    set_first_spec(arena, n, U16Option::None)
+    set_first_spec(arena, n, None)
 }
 
 // ---- The restriction depth
 
 // Sets the restriction depth of node n. Refused 1 to 4.
-pub fn set_restriction_depth(arena: &mut [u8], n: u32, depth: u16) -> UnitResult
+pub fn set_restriction_depth(arena: &mut [u8], n: u32, depth: u16) -> Result<(), Refusal>
     ensures { Finishes (on_arena (set_restriction_depth n depth) arena.old)
         arena.old result arena.new }
 {
     let asked = validate::ask_node(arena, n);
     match asked {
-        UnitResult::Done => {
+        Ok(()) => {
             arena::write_restriction(arena, n, depth);
-            UnitResult::Done
+            Ok(())
         }
-        UnitResult::Refused(refusal) => UnitResult::Refused(refusal),
+        Err(refusal) => Err(refusal),
     }
 }

@@ -8,7 +8,7 @@
 #![tactic(auto)]
 
 use command_io::Input;
-use model::{NumberResult, Refusal, UnitResult};
+use model::Refusal;
 use std::io::Write;
 
 // What fails and what is printed, under the command's name.
@@ -29,8 +29,8 @@ fn print_listing<W: Write, E: Write>(out: &mut W, err: &mut E, arena: &[u8]) {
     let mut text = command_io::zeros();
     let listed = listing::write_listing(arena, &mut text);
     match listed {
-        NumberResult::Number(length) => print(out, err, &text[..length as usize]),
-        NumberResult::Refused(refusal) => print_refusal(out, err, refusal),
+        Ok(length) => print(out, err, &text[..length as usize]),
+        Err(refusal) => print_refusal(out, err, refusal),
     }
 }
 
@@ -38,12 +38,12 @@ fn print_listing<W: Write, E: Write>(out: &mut W, err: &mut E, arena: &[u8]) {
 fn order<W: Write, E: Write>(out: &mut W, err: &mut E, snapshot: &[u8]) {
     let mut arena = command_io::zeros();
     let read = prim_graph::read_snapshot(&mut arena, snapshot);
-    if let NumberResult::Refused(refusal) = read {
+    if let Err(refusal) = read {
         print_refusal(out, err, refusal);
         return;
     }
     let ordered = prim_graph::finalize_strength_order(&mut arena);
-    if let UnitResult::Refused(refusal) = ordered {
+    if let Err(refusal) = ordered {
         print_refusal(out, err, refusal);
         return;
     }

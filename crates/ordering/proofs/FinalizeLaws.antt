@@ -1,5 +1,7 @@
 -- The ways that ordering a graph ends: refused (`finalize-refused`, `no-order`) and done
 -- (`finalize-again`, `finalize-done`). Assumes nothing.
+use Rattle.std.specs.Prelude.{Err, Ok}
+use mathlib.Core.Unit.{tt}
 use mathlib.Core.Path.{◌≡◌, refl, sym, ap, ◌∙◌}
 use mathlib.Core.Bool.{Bool, true, false, ◌||◌, cond}
 use mathlib.Core.List.{List, [], ◌∷◌}
@@ -14,7 +16,6 @@ use Rattle.model.specs.Arena.{count_in, finalized_in, decode, encode}
 use Rattle.model.specs.ArenaCalls.{ValidArena, on_arena, ask_arena}
 use Rattle.model.specs.declared.Refusal.{Refusal}
 use Rattle.model.specs.declared.Refusal.TheVariants.{NoOrder}
-use Rattle.model.specs.declared.UnitResult.TheVariants.{Done, Refused}
 use Rattle.laws.proofs.BigEndianLaws.{Bytes}
 use Rattle.laws.proofs.ArenaCallLaws.{refused-before, on-arena-asks, finishes-refused, finishes-done}
 use Rattle.arena.proofs.ArenaBack.{encode-decode}
@@ -41,11 +42,11 @@ module _ (bs : List ℕ) where
   unfolding finalize_strength_order
   finalize-asks = on-arena-asks bs finalize_strength_order (finalize_questions (decode bs)) 0 (result (decode bs).finalized) refl
 
-  refused-by : (r : Refusal) → refusal_number r ≡ refusal asked → Finalized bs (Refused r) bs
+  refused-by : (r : Refusal) → refusal_number r ≡ refusal asked → Finalized bs (Err r) bs
   refused-by r e = rw finalize-asks (finishes-refused asked (decode bs) 0 (result (decode bs).finalized) bs r e)
 
   -- by questions 1 to 3
-  pub finalize-refused : (r : Refusal) → refusal_number r ≡ refusal (ask_arena bs (has_node_zero (decode bs) ∷ [])) → Finalized bs (Refused r) bs
+  pub finalize-refused : (r : Refusal) → refusal_number r ≡ refusal (ask_arena bs (has_node_zero (decode bs) ∷ [])) → Finalized bs (Err r) bs
   finalize-refused r e =
       refused-by r (refused-before r (ask_arena bs (has_node_zero (decode bs) ∷ [])) (ask 9 ((decode bs).finalized || has_order (decode bs)) ∷ []) e)
 
@@ -55,14 +56,14 @@ module _ (bs : List ℕ) (o : ValidArena bs) (some : 0 < count_in bs) where
 
   -- where every question passes
   done : ((decode bs).finalized || has_order (decode bs)) ≡ true → (finalized : Bool) → (decode bs).finalized ≡ finalized → (after : List ℕ)
-      → after ≡ encode (result bs finalized) bs → Finalized bs Done after
+      → after ≡ encode (result bs finalized) bs → Finalized bs (Ok tt) after
   done passes finalized e after a =
       rw (finalize-asks bs)
       (finishes-done (asked bs) (decode bs) 0 (result bs (decode bs).finalized) bs after (order-left ∙ rw passes)
       (a ∙ ap (λ (t : Bool). encode (result bs t) bs) (sym e)))
 
   -- question 9 is not asked, and nothing changes
-  pub finalize-again : Bytes bs → finalized_in bs ≡ 1 → Finalized bs Done bs
+  pub finalize-again : Bytes bs → finalized_in bs ≡ 1 → Finalized bs (Ok tt) bs
   finalize-again bytes f =
       let marked : (decode bs).finalized ≡ true = finalized-read bs ∙ eq-eqb (finalized_in bs) 1 f in
       done (rw marked) true marked bs (sym (encode-decode bs bytes o.whole o.holds))
@@ -79,9 +80,9 @@ module _ (bs : List ℕ) (o : ValidArena bs) (some : 0 < count_in bs) where
       bytes_of : (t : Bool) → answer ≡ t → after ≡ cond t (encode (ordering (decode bs)) bs) bs
       bytes_of t e = ordered.bytes ∙ ap (λ (b : Bool). cond b (encode (ordering (decode bs)) bs) bs) e
 
-      pub no-order : answer ≡ false → Finalized bs (Refused NoOrder) after
+      pub no-order : answer ≡ false → Finalized bs (Err NoOrder) after
       no-order e =
           rw (bytes_of false e) (refused-by bs NoOrder (sym (order-left ∙ rw (order-asked false (sym ordered.answer ∙ e)))))
 
-      pub finalize-done : answer ≡ true → Finalized bs Done after
+      pub finalize-done : answer ≡ true → Finalized bs (Ok tt) after
       finalize-done e = done (order-asked true (sym ordered.answer ∙ e)) false unmarked after (bytes_of true e)

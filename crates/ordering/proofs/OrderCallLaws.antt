@@ -1,6 +1,7 @@
 -- The ways that reading the whole order ends: refused (`list-refused`, `list-not-buffer`,
 -- `list-not-ordered`) and written (`list_done`); and what is left of the questions of reading one
 -- entry (`entry-left`). Assumes nothing.
+use Rattle.std.specs.Prelude.{Err, Ok}
 use mathlib.Core.Path.{◌≡◌, sym, ap, ◌∙◌}
 use mathlib.Core.Bool.{true, false}
 use mathlib.Core.List.{List, [], ◌∷◌}
@@ -17,7 +18,6 @@ use Rattle.model.specs.Arena.{count_in, decode}
 use Rattle.model.specs.ArenaCalls.{ValidArena, ValidNode, ask_arena}
 use Rattle.model.specs.declared.Refusal.{Refusal}
 use Rattle.model.specs.declared.Refusal.TheVariants.{Size, NotOrdered}
-use Rattle.model.specs.declared.NumberResult.TheVariants.{Number, Refused}
 use Rattle.laws.proofs.ArenaCallLaws.{refusal-some, refused-before, answered-refused, answered-number, buffer-refused, buffer-passed}
 use Rattle.arena.proofs.ReadNodes.{sizes}
 use Rattle.validate.proofs.AskingLaws.{node-zero-passed}
@@ -25,13 +25,13 @@ use Rattle.ordering.specs.OrderReading.{entries_in, order_bytes, list_questions,
 use Rattle.ordering.proofs.OrderEntries.{order-entries, order-length}
 
 module _ (bs out : List ℕ) where
-  refused_as : (r : Refusal) → refusal_number r ≡ refusal (list_questions bs out) → OrderWritten bs out (Refused r) out
+  refused_as : (r : Refusal) → refusal_number r ≡ refusal (list_questions bs out) → OrderWritten bs out (Err r) out
   refused_as r e = record {
     answer = answered-refused (list_questions bs out) _ r e;
     bytes = rw (ne_eqb (refusal (list_questions bs out)) 0 (λ z. refusal-some r (e ∙ z)));
   }
 
-  pub list-not-buffer : (length out ≡ 4096 → ⊥) → OrderWritten bs out (Refused Size) out
+  pub list-not-buffer : (length out ≡ 4096 → ⊥) → OrderWritten bs out (Err Size) out
   list-not-buffer h = refused_as Size (buffer-refused bs (eqb (length out) 4096) (reads_order (decode bs)) (ne_eqb (length out) 4096 h))
 
   module _ (large : length out ≡ 4096) where
@@ -40,7 +40,7 @@ module _ (bs out : List ℕ) where
     list-asks = buffer-passed bs (eqb (length out) 4096) (reads_order (decode bs)) (eq-eqb (length out) 4096 large)
 
     -- by questions 1 to 3
-    pub list-refused : (r : Refusal) → refusal_number r ≡ refusal (ask_arena bs (has_node_zero (decode bs) ∷ [])) → OrderWritten bs out (Refused r) out
+    pub list-refused : (r : Refusal) → refusal_number r ≡ refusal (ask_arena bs (has_node_zero (decode bs) ∷ [])) → OrderWritten bs out (Err r) out
     list-refused r e =
         refused_as r (refused-before r (ask_arena bs (has_node_zero (decode bs) ∷ [])) (ask 10 (decode bs).ordered ∷ []) e ∙ sym list-asks)
 
@@ -48,11 +48,11 @@ module _ (bs out : List ℕ) where
       list_left : refusal (list_questions bs out) ≡ refusal (ask 10 (decode bs).ordered ∷ [])
       list_left = list-asks ∙ node-zero-passed bs (ask 10 (decode bs).ordered ∷ []) o some
 
-      pub list-not-ordered : (decode bs).ordered ≡ false → OrderWritten bs out (Refused NotOrdered) out
+      pub list-not-ordered : (decode bs).ordered ≡ false → OrderWritten bs out (Err NotOrdered) out
       list-not-ordered e = refused_as NotOrdered (sym (list_left ∙ rw e))
 
       pub list_done : (decode bs).ordered ≡ true → (n : ℕ) (after : List ℕ) → n ≡ count_in bs → after ≡ stored 0 (order_bytes (entries_in bs)) out
-          → OrderWritten bs out (Number n) after
+          → OrderWritten bs out (Ok n) after
       list_done e n after c a =
           let passes : refusal (list_questions bs out) ≡ 0 = list_left ∙ rw e in
           record {

@@ -1,5 +1,7 @@
 -- What the calls that read the order answer and leave, by model/specs/Calls.antt and
 -- ArenaCalls.antt.
+use Rattle.std.specs.Prelude.{Result}
+use Rattle.model.specs.declared.Refusal.{Refusal}
 use Rattle.std.specs.Prelude.{◌≡◌, ◌&&◌, cond, List, [], ◌∷◌, ◌++◌, ℕ, eqb, length}
 use Rattle.model.specs.Bytes.{stored}
 use Rattle.model.specs.Snapshot.{big_endian}
@@ -7,7 +9,6 @@ use Rattle.model.specs.Refusals.{Question, ask, refusal}
 use Rattle.model.specs.Calls.{reads_order}
 use Rattle.model.specs.Arena.{count_in, order_entry_in, tabulate, decode, holds_graph}
 use Rattle.model.specs.ArenaCalls.{is_arena, Answered}
-use Rattle.model.specs.declared.NumberResult.{NumberResult}
 
 -- the order as bytes: a node's number in 4 bytes each
 abbrev pub order_bytes : List ℕ → List ℕ
@@ -24,6 +25,6 @@ list_questions arena out = ask 1 (is_arena arena && eqb (length out) 4096) ∷ a
 
 -- how many nodes the order has, and its bytes at the front of the buffer, whose other bytes stay;
 -- refused, all of them do
-pub record OrderWritten (arena out : List ℕ) (r : NumberResult) (after : List ℕ) : Type 0 where
+pub record OrderWritten (arena out : List ℕ) (r : Result ℕ Refusal) (after : List ℕ) : Type 0 where
   pub answer : Answered (list_questions arena out) (length (decode arena).order) r
   pub bytes : after ≡ cond (eqb (refusal (list_questions arena out)) 0) (stored 0 (order_bytes (decode arena).order) out) out

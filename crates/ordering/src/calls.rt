@@ -10,24 +10,24 @@ ghost use Rattle.model.specs.Bytes.{stored};
 ghost use Rattle.model.specs.Calls.{reads_entry};
 ghost use Rattle.ordering.specs.OrderReading.{entries_in, order_bytes, OrderWritten};
 
-use model::{NumberResult, Refusal, UnitResult};
+use model::Refusal;
 
 // Sorts each child list and walks them; a finalized graph is left as it is. Refused 1, 2, 3 and 9.
-pub fn finalize_strength_order(arena: &mut [u8]) -> UnitResult
+pub fn finalize_strength_order(arena: &mut [u8]) -> Result<(), Refusal>
     ensures { Finalized arena.old result arena.new }
 {
     let asked = validate::ask_node_zero(arena);
     match asked {
-        UnitResult::Done => {
+        Ok(()) => {
             if arena::finalized(arena) == 1 {
-                return UnitResult::Done;
+                return Ok(());
             }
             if !crate::writing::order_graph(arena) {
-                return UnitResult::Refused(Refusal::NoOrder);
+                return Err(Refusal::NoOrder);
             }
-            UnitResult::Done
+            Ok(())
         }
-        UnitResult::Refused(refusal) => UnitResult::Refused(refusal),
+        Err(refusal) => Err(refusal),
     }
 }
 
@@ -41,23 +41,23 @@ fn is_ordered(arena: &[u8]) -> bool
 
 // Writes the order to the front of `out`, which has 4,096 bytes: a node's number in 4 bytes each,
 // and answers how many nodes it has. Refused 1, 2, 3 and 10.
-pub fn strength_order(arena: &[u8], out: &mut [u8]) -> NumberResult
+pub fn strength_order(arena: &[u8], out: &mut [u8]) -> Result<u32, Refusal>
     ensures { OrderWritten arena.now out.old result out.new }
 {
     if out.len() != arena::ORDER_BYTES {
-        return NumberResult::Refused(Refusal::Size);
+        return Err(Refusal::Size);
     }
     let asked = validate::ask_node_zero(arena);
     match asked {
-        UnitResult::Done => {
+        Ok(()) => {
             if !is_ordered(arena) {
-                return NumberResult::Refused(Refusal::NotOrdered);
+                return Err(Refusal::NotOrdered);
             }
             let count = arena::count(arena);
             write_entries(arena, count, out);
-            NumberResult::Number(count)
+            Ok(count)
         }
-        UnitResult::Refused(refusal) => NumberResult::Refused(refusal),
+        Err(refusal) => Err(refusal),
     }
 }
 
@@ -75,18 +75,18 @@ fn write_entries(arena: &[u8], count: u32, out: &mut [u8])
 
 // The node at a place of the order. Refused 1, 2, 3, 4 where the place is not below the count, and
 // 10.
-pub fn order_entry(arena: &[u8], place: u32) -> NumberResult
+pub fn order_entry(arena: &[u8], place: u32) -> Result<u32, Refusal>
     ensures { Answered (ask_arena arena.now (reads_entry (decode arena.now) place))
         (get_or (decode arena.now).order place 0) result }
 {
     let asked = validate::ask_node(arena, place);
     match asked {
-        UnitResult::Done => {
+        Ok(()) => {
             if !is_ordered(arena) {
-                return NumberResult::Refused(Refusal::NotOrdered);
+                return Err(Refusal::NotOrdered);
             }
-            NumberResult::Number(arena::order_entry(arena, place))
+            Ok(arena::order_entry(arena, place))
         }
-        UnitResult::Refused(refusal) => NumberResult::Refused(refusal),
+        Err(refusal) => Err(refusal),
     }
 }

@@ -1,4 +1,5 @@
 -- Appending a child's name: the questions in their order. Assumes nothing.
+use Rattle.std.specs.Prelude.{Err, Ok}
 use mathlib.Core.Path.{◌≡◌}
 use mathlib.Core.Bool.{Bool, true, false, ◌&&◌, and-eq-true_iff}
 use mathlib.Core.List.{List}
@@ -7,7 +8,6 @@ use native.Mathlib.Omega.{arith}
 use borrow.Author.Tests.{ltb-true, lt-ltb, le-ltb, eq-eqb, ne_eqb}
 use lib.ListN.{length, length-drop}
 use Rattle.model.specs.declared.Refusal.TheVariants.{Size, Path, Capacity}
-use Rattle.model.specs.declared.Appended.TheVariants.{Length, Refused}
 use Rattle.model.specs.Path.{well_formed, name_start, last_name, ends_in_name, separator, append_name, append_child_name}
 use Rattle.laws.proofs.PathGrammar.{well-formed-length}
 use Rattle.path.proofs.JoinLaws.{separator-short}
@@ -33,20 +33,20 @@ joinable-short p child e =
     omega (arith, well-formed-length p l.0, well-formed-length child r.0, separator-short p, last-name-short child)
 
 module _ (p child o : List ℕ) where
-  pub refused-size : (length o ≡ 255 → ⊥) → Refused Size ≡ append_child_name p child o
+  pub refused-size : (length o ≡ 255 → ⊥) → Err Size ≡ append_child_name p child o
   unfolding append_child_name
   refused-size d = rw (ne_eqb (length o) 255 d)
 
-  pub refused-path : length o ≡ 255 → joinable p child ≡ false → Refused Path ≡ append_child_name p child o
+  pub refused-path : length o ≡ 255 → joinable p child ≡ false → Err Path ≡ append_child_name p child o
   unfolding append_child_name
   refused-path e f = rw (eq-eqb (length o) 255 e, f)
 
   pub refused-capacity : length o ≡ 255 → joinable p child ≡ true → 255 < length (append_name p (last_name child))
-      → Refused Capacity ≡ append_child_name p child o
+      → Err Capacity ≡ append_child_name p child o
   unfolding append_child_name
   refused-capacity e f h = rw (eq-eqb (length o) 255 e, f, lt-ltb 255 (length (append_name p (last_name child))) h)
 
   pub accepted : length o ≡ 255 → joinable p child ≡ true → length (append_name p (last_name child)) ≤ 255
-      → Length (length (append_name p (last_name child))) ≡ append_child_name p child o
+      → Ok (length (append_name p (last_name child))) ≡ append_child_name p child o
   unfolding append_child_name
   accepted e f h = rw (eq-eqb (length o) 255 e, f, le-ltb 255 (length (append_name p (last_name child))) h)

@@ -1,5 +1,6 @@
 -- What the tables hold, by one computed test each: bytes of a kind are read alike, and a row takes
 -- the steps of two kinds from each state. Then what a row does to a reading. Assumes nothing.
+use Rattle.std.specs.Prelude.{None, Some}
 use mathlib.Core.Path.{◌≡◌, refl, sym, ap, subst, ◌∙◌}
 use mathlib.Core.Bool.{Bool, true, false, not, ◌||◌, ◌&&◌, cond, and-eq-true_iff}
 use mathlib.Core.List.{List, [], ◌∷◌}
@@ -12,7 +13,6 @@ use lib.Dec.{eqb, ltb}
 use lib.ListN.{length, get_or, drop, drop_of_length-le}
 use Rattle.model.specs.Lists.{all_below}
 use Rattle.model.specs.Path.{State, start, root, slash, name, set_start, set, selection, closed, dead, step, may_end, in_name, enters, is_name_start, is_word_byte, is_selection_byte}
-use Rattle.model.specs.declared.PrimCount.TheVariants.{Names, Malformed}
 use Rattle.laws.proofs.ListLaws.{all-below}
 use Rattle.path.specs.PathReading.{reading}
 use Rattle.path.proofs.ReadingLaws.{goes}
@@ -213,7 +213,7 @@ module _ (p : List ℕ) (at word met : ℕ) (r : Reached p at word met) where
       }
 
   ends : (q : State) → number_of q < 7
-      → cond (eqb (7 * number_of q) 14 || eqb (7 * number_of q) 42) (Names met) Malformed ≡ cond (may_end q) (Names met) Malformed
+      → cond (eqb (7 * number_of q) 14 || eqb (7 * number_of q) 42) (Some met) None ≡ cond (may_end q) (Some met) None
   ends dead h = refl
   ends slash h = refl
   ends name h = refl
@@ -226,7 +226,7 @@ module _ (p : List ℕ) (at word met : ℕ) (r : Reached p at word met) where
 
   pub reached-end : length p ≤ at → ending word met ≡ reading slash 0 (drop 1 p)
   reached-end h =
-      ap (λ (j : ℕ). cond (eqb j 14 || eqb j 42) (Names met) Malformed) r.coded ∙ ends r.state r.low
+      ap (λ (j : ℕ). cond (eqb j 14 || eqb j 42) (Some met) None) r.coded ∙ ends r.state r.low
       ∙ sym (ap (reading r.state met) (drop_of_length-le p h)) ∙ r.same
 
 -- two pairs, one after the other
@@ -248,18 +248,18 @@ pub joined-ends : (word met : ℕ) → ends_as (met * 64 + word % 64) ≡ ending
 joined-ends word met =
     let low : (met * 64 + word % 64) % 64 ≡ word % 64 = omega arith in
     let high : (met * 64 + word % 64) / 64 ≡ met = omega arith in
-    (λ i. cond (eqb (low i) 14 || eqb (low i) 42) (Names (high i)) Malformed)
+    (λ i. cond (eqb (low i) 14 || eqb (low i) 42) (Some (high i)) None)
 
 pub other-names : (n k : ℕ) → (n / 64 ≡ k → ⊥) → is_names k (ends_as n) ≡ false
 other-names n k h = go (eqb (n % 64) 14 || eqb (n % 64) 42)
   where
-    go : (t : Bool) → is_names k (cond t (Names (n / 64)) Malformed) ≡ false
+    go : (t : Bool) → is_names k (cond t (Some (n / 64)) None) ≡ false
     go true = ne_eqb k (n / 64) (λ e. h (sym e))
     go false = refl
 
 pub names-end : (n k : ℕ) → n / 64 ≡ k → is_names k (ends_as n) ≡ (eqb (n % 64) 14 || eqb (n % 64) 42)
 names-end n k e = go (eqb (n % 64) 14 || eqb (n % 64) 42)
   where
-    go : (t : Bool) → is_names k (cond t (Names (n / 64)) Malformed) ≡ t
+    go : (t : Bool) → is_names k (cond t (Some (n / 64)) None) ≡ t
     go true = eq-eqb k (n / 64) (sym e)
     go false = refl

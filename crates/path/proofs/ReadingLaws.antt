@@ -1,6 +1,7 @@
 -- Reading from the front: one byte, a run of bytes, and where the reading fails. Each law is over
 -- the state, so that names, sets and selections share it. Last, that reading a path from its start
 -- is `count_prims`. Assumes nothing.
+use Rattle.std.specs.Prelude.{None, Some}
 use mathlib.Core.Path.{◌≡◌, refl, sym, ap, ◌∙◌}
 use mathlib.Core.Bool.{Bool, true, false, not, ◌&&◌, cond, false≢true, and-eq-true_iff, and-true, and-false}
 use mathlib.Core.List.{List, [], ◌∷◌}
@@ -13,7 +14,6 @@ use lib.Dec.{eqb, ltb}
 use lib.ListN.{length, get_or, drop, drop_of_length-le}
 use lib.Seq.{drop-cons}
 use Rattle.model.specs.Path.{State, start, root, slash, name, set_start, set, selection, closed, dead, step, run, may_end, in_name, names, is_name_start, is_word_byte, is_selection_byte, solidus, open_brace, equals_sign, close_brace, well_formed, prim_count, count_prims}
-use Rattle.model.specs.declared.PrimCount.TheVariants.{Names, Malformed}
 use Rattle.path.specs.declared.scan.Part.{Part}
 use Rattle.path.specs.declared.scan.Part.TheVariants.{To, Malformed as NoPart}
 use Rattle.path.specs.declared.scan.Element.TheVariants.{Name, Selection}
@@ -25,14 +25,14 @@ reading-at : (q : State) (n : ℕ) (p : List ℕ) (at : ℕ) → at < length p
     → reading q n (drop at p) ≡ reading (step q (get_or p at 0)) (counted q (step q (get_or p at 0)) n) (drop (suc at) p)
 reading-at q n p at h = ap (reading q n) (drop-cons p at 0 h)
 
-reading-past : (q : State) (n : ℕ) (p : List ℕ) (at : ℕ) → length p ≤ at → reading q n (drop at p) ≡ cond (may_end q) (Names n) Malformed
+reading-past : (q : State) (n : ℕ) (p : List ℕ) (at : ℕ) → length p ≤ at → reading q n (drop at p) ≡ cond (may_end q) (Some n) None
 reading-past q n p at h = ap (reading q n) (drop_of_length-le p h)
 
 pub goes : (q r : State) (p : List ℕ) (at : ℕ) → at < length p → step q (get_or p at 0) ≡ r
     → (n : ℕ) → reading q n (drop at p) ≡ reading r (counted q r n) (drop (suc at) p)
 goes q r p at h e n = reading-at q n p at h ∙ ap (λ (s : State). reading s (counted q s n) (drop (suc at) p)) e
 
-reading-dead : (n : ℕ) (bs : List ℕ) → reading dead n bs ≡ Malformed
+reading-dead : (n : ℕ) (bs : List ℕ) → reading dead n bs ≡ None
 reading-dead n [] = refl
 reading-dead n (b ∷ bs) = reading-dead n bs
 
@@ -40,9 +40,9 @@ reading-dead n (b ∷ bs) = reading-dead n bs
 pub fails : (q : State) (p : List ℕ) (at : ℕ) → may_end q ≡ false → (at < length p → step q (get_or p at 0) ≡ dead) → Fails p q at
 fails q p at e f n = go (ltb at (length p)) refl
   where
-    go : (t : Bool) → ltb at (length p) ≡ t → reading q n (drop at p) ≡ Malformed
+    go : (t : Bool) → ltb at (length p) ≡ t → reading q n (drop at p) ≡ None
     go true h = goes q dead p at (ltb-true _ _ h) (f (ltb-true _ _ h)) n ∙ reading-dead _ (drop (suc at) p)
-    go false h = reading-past q n p at (ltb-false _ _ h) ∙ ap (λ (t : Bool). cond t (Names n) Malformed) e
+    go false h = reading-past q n p at (ltb-false _ _ h) ∙ ap (λ (t : Bool). cond t (Some n) None) e
 
 -- ---- A run of bytes
 
@@ -246,14 +246,14 @@ no-element p at h stop d e n =
 
 -- ---- The whole path
 
-pub empty-fails : (p : List ℕ) → length p ≡ 0 → Malformed ≡ reading start 0 p
+pub empty-fails : (p : List ℕ) → length p ≡ 0 → None ≡ reading start 0 p
 empty-fails [] e = refl
 empty-fails (b ∷ bs) e = absurd (omega arith)
 
-pub unrooted-fails : (p : List ℕ) → (get_or p 0 0 ≡ solidus → ⊥) → Malformed ≡ reading start 0 p
+pub unrooted-fails : (p : List ℕ) → (get_or p 0 0 ≡ solidus → ⊥) → None ≡ reading start 0 p
 unrooted-fails p d = sym (fails start p 0 refl (λ h. ap (λ (t : Bool). cond t root dead) (ne_eqb _ _ d)) 0)
 
-pub only-root : (p : List ℕ) → length p ≡ 1 → get_or p 0 0 ≡ solidus → Names 0 ≡ reading start 0 p
+pub only-root : (p : List ℕ) → length p ≡ 1 → get_or p 0 0 ≡ solidus → Some 0 ≡ reading start 0 p
 only-root p l e = sym (goes start root p 0 (omega arith) (ap (step start) e) 0 ∙ reading-past root 0 p 1 (omega arith))
 
 -- after the first slash a name is read as after any other
@@ -264,38 +264,38 @@ adds : (t : Bool) (n m : ℕ) → cond t (suc n) n + m ≡ n + (cond t 1 0 + m)
 adds true n m = omega arith
 adds false n m = omega arith
 
-reading-all : (q : State) (n : ℕ) (bs : List ℕ) → reading q n bs ≡ cond (may_end (run q bs)) (Names (n + names q bs)) Malformed
+reading-all : (q : State) (n : ℕ) (bs : List ℕ) → reading q n bs ≡ cond (may_end (run q bs)) (Some (n + names q bs)) None
 reading-all q n [] = rw (add-zero n)
 reading-all q n (b ∷ bs) =
     reading-all (step q b) (counted q (step q b) n) bs
-    ∙ ap (λ (j : ℕ). cond (may_end (run (step q b) bs)) (Names j) Malformed)
+    ∙ ap (λ (j : ℕ). cond (may_end (run (step q b) bs)) (Some j) None)
     (adds (not (in_name q) && in_name (step q b)) n (names (step q b) bs))
 
 pub count-prims-reads : (p : List ℕ) → length p ≤ 255 → reading start 0 p ≡ count_prims p
 unfolding count_prims well_formed prim_count
 count-prims-reads p h =
-    reading-all start 0 p ∙ ap (λ (j : ℕ). cond (may_end (run start p)) (Names j) Malformed) (zero-add (names start p))
-    ∙ ap (λ (t : Bool). cond t (Names (names start p)) Malformed) (sym (ap (λ (t : Bool). may_end (run start p) && t) (le-leb (length p) 255 h) ∙ and-true (may_end (run start p))))
+    reading-all start 0 p ∙ ap (λ (j : ℕ). cond (may_end (run start p)) (Some j) None) (zero-add (names start p))
+    ∙ ap (λ (t : Bool). cond t (Some (names start p)) None) (sym (ap (λ (t : Bool). may_end (run start p) && t) (le-leb (length p) 255 h) ∙ and-true (may_end (run start p))))
 
-pub count-prims-long : (p : List ℕ) → 255 < length p → Malformed ≡ count_prims p
+pub count-prims-long : (p : List ℕ) → 255 < length p → None ≡ count_prims p
 unfolding count_prims well_formed
 count-prims-long p h =
-    ap (λ (t : Bool). cond t (Names (prim_count p)) Malformed) (sym (ap (λ (t : Bool). may_end (run start p) && t) (lt-leb (length p) 255 h) ∙ and-false (may_end (run start p))))
+    ap (λ (t : Bool). cond t (Some (prim_count p)) None) (sym (ap (λ (t : Bool). may_end (run start p) && t) (lt-leb (length p) 255 h) ∙ and-false (may_end (run start p))))
 
 -- the count tells whether the path is well formed
-pub counted-well-formed : (p : List ℕ) (n : ℕ) → count_prims p ≡ Names n → true ≡ well_formed p
+pub counted-well-formed : (p : List ℕ) (n : ℕ) → count_prims p ≡ Some n → true ≡ well_formed p
 unfolding count_prims
 counted-well-formed p n e = go (well_formed p) e
   where
-    go : (t : Bool) → cond t (Names (prim_count p)) Malformed ≡ Names n → true ≡ t
+    go : (t : Bool) → cond t (Some (prim_count p)) None ≡ Some n → true ≡ t
     go true f = refl
     go false f = let z : ◌≡◌ {A = ℕ} 0 1 = cc in absurd (omega arith)
 
-pub uncounted-malformed : (p : List ℕ) → count_prims p ≡ Malformed → false ≡ well_formed p
+pub uncounted-malformed : (p : List ℕ) → count_prims p ≡ None → false ≡ well_formed p
 unfolding count_prims
 uncounted-malformed p e = go (well_formed p) e
   where
-    go : (t : Bool) → cond t (Names (prim_count p)) Malformed ≡ Malformed → false ≡ t
+    go : (t : Bool) → cond t (Some (prim_count p)) None ≡ None → false ≡ t
     go true f = let z : ◌≡◌ {A = ℕ} 0 1 = cc in absurd (omega arith)
     go false f = refl
 
@@ -330,11 +330,11 @@ module _ (p : List ℕ) (from at met : ℕ) (selected : Bool) (r : ReadTo p from
         stops = λ f. absurd (false≢true (sym f));
       }
 
-  pub read-fails : Fails p (standing selected) at → Malformed ≡ reading name 1 (drop from p)
+  pub read-fails : Fails p (standing selected) at → None ≡ reading name 1 (drop from p)
   read-fails f = sym (f met) ∙ r.same
 
-  pub read_all : length p ≤ at → Names met ≡ reading name 1 (drop from p)
-  read_all h = ap (λ (t : Bool). cond t (Names met) Malformed) (sym (ends selected)) ∙ sym (reading-past (standing selected) met p at h) ∙ r.same
+  pub read_all : length p ≤ at → Some met ≡ reading name 1 (drop from p)
+  read_all h = ap (λ (t : Bool). cond t (Some met) None) (sym (ends selected)) ∙ sym (reading-past (standing selected) met p at h) ∙ r.same
     where
       ends : (t : Bool) → may_end (standing t) ≡ true
       ends true = refl

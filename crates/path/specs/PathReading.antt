@@ -1,10 +1,9 @@
 -- What the functions that read a path from its front promise each other. `reading` is the whole of
 -- it: what the reading comes to from a state on, given the names met so far; from the start it is
 -- `count_prims`, but for the limit of 255 bytes (proofs/ReadingLaws.antt).
+use Rattle.std.specs.Prelude.{None, Option, Some}
 use Rattle.std.specs.Prelude.{◌≡◌, Bool, true, false, not, ◌&&◌, cond, List, [], ◌∷◌, ℕ, suc, ◌<◌, ◌≤◌, eqb, ltb, length, get_or, drop}
 use Rattle.model.specs.Path.{State, name, set_start, closed, step, may_end, in_name, is_name_start, is_word_byte, is_selection_byte}
-use Rattle.model.specs.declared.PrimCount.{PrimCount}
-use Rattle.model.specs.declared.PrimCount.TheVariants.{Names, Malformed}
 use Rattle.path.specs.declared.scan.Part.{Part}
 use Rattle.path.specs.declared.scan.Part.TheVariants.{To, Malformed as NoPart}
 use Rattle.path.specs.declared.scan.Element.{Element}
@@ -14,8 +13,8 @@ use Rattle.path.specs.declared.scan.Element.TheVariants.{Name, Selection, Malfor
 abbrev pub counted : State → State → ℕ → ℕ
 counted q r n = cond (not (in_name q) && in_name r) (suc n) n
 
-abbrev pub reading : State → ℕ → List ℕ → PrimCount
-reading q n [] = cond (may_end q) (Names n) Malformed
+abbrev pub reading : State → ℕ → List ℕ → Option ℕ
+reading q n [] = cond (may_end q) (Some n) None
 reading q n (b ∷ bs) = reading (step q b) (counted q (step q b) n) bs
 
 -- a byte of a selection, or else of a name or a set
@@ -50,7 +49,7 @@ pub record GoesOn (p : List ℕ) (q : State) (at : ℕ) (r : State) (more : ℕ 
 
 -- it comes to nothing
 abbrev pub Fails : List ℕ → State → ℕ → Type 0
-Fails p q at = (n : ℕ) → reading q n (drop at p) ≡ Malformed
+Fails p q at = (n : ℕ) → reading q n (drop at p) ≡ None
 
 -- no word byte stands at e
 abbrev pub Stops : List ℕ → ℕ → Type 0

@@ -1,10 +1,9 @@
 -- The tables by which many paths are read, and what the functions that read by them promise each
 -- other. Bytes of one kind are read alike; what a name, a set or a selection may hold of each kind
 -- is in the rows.
+use Rattle.std.specs.Prelude.{None, Option, Some}
 use Rattle.std.specs.Prelude.{◌≡◌, Bool, false, ◌||◌, cond, List, [], ◌∷◌, ◌++◌, ℕ, ◌+◌, ◌*◌, ◌/◌, ◌%◌, ◌≤◌, ◌<◌, eqb, length, get_or, drop}
 use Rattle.model.specs.Path.{State, start, root, slash, name, set_start, set, selection, closed, dead}
-use Rattle.model.specs.declared.PrimCount.{PrimCount}
-use Rattle.model.specs.declared.PrimCount.TheVariants.{Names, Malformed}
 use Rattle.path.specs.PathReading.{reading}
 
 -- the kind of each byte: 0 a letter or `_`, 1 a digit, 2 `/`, 3 `{`, 4 `=`, 5 `}`, 6 `-` or `|`, and
@@ -78,11 +77,11 @@ pub record Reached (p : List ℕ) (at word met : ℕ) : Type 0 where
   pub same : reading state met (drop at p) ≡ reading slash 0 (drop 1 p)
 
 -- what the reading comes to where it ends with this word
-abbrev pub ending : ℕ → ℕ → PrimCount
-ending word met = cond (eqb (word % 64) 14 || eqb (word % 64) 42) (Names met) Malformed
+abbrev pub ending : ℕ → ℕ → Option ℕ
+ending word met = cond (eqb (word % 64) 14 || eqb (word % 64) 42) (Some met) None
 
 -- the same of a number that has the names met 64 times, and the word's last six bits
-abbrev pub ends_as : ℕ → PrimCount
+abbrev pub ends_as : ℕ → Option ℕ
 ends_as n = ending n (n / 64)
 
 -- the reading of what follows the first slash ends with this number
@@ -91,6 +90,6 @@ pub record ReadTo (p : List ℕ) (r : ℕ) : Type 0 where
   pub same : ends_as r ≡ reading slash 0 (drop 1 p)
 
 -- whether what a path was read as is so many names
-abbrev pub is_names : ℕ → PrimCount → Bool
-is_names n (Names m) = eqb n m
-is_names n Malformed = false
+abbrev pub is_names : ℕ → Option ℕ → Bool
+is_names n (Some m) = eqb n m
+is_names n None = false

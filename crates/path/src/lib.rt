@@ -20,26 +20,26 @@ ghost use Rattle.path.specs.Tables.{Tables};
 ghost use Rattle.model.specs.Path.{well_formed, count_prims, parent, last_name, append_child_name};
 ghost use Rattle.model.specs.Path.{written, path_at_intro_depth, same_path};
 
-use model::{Appended, PrimCount, Refusal};
+use model::Refusal;
 
 // How many names the path has, or that the bytes are no path.
-pub fn prim_count(path: &[u8]) -> PrimCount
+pub fn prim_count(path: &[u8]) -> Option<u16>
     ensures { result ≡ count_prims path.now }
 {
     if 255 < path.len() {
-        return PrimCount::Malformed;
+        return None;
     }
     crate::scan::read_path(path)
 }
 
 // The same, by the tables of tables.rt, which the caller makes once for many paths.
-pub fn prim_count_by(kinds: &[u8], pairs: &[u64], path: &[u8]) -> PrimCount
+pub fn prim_count_by(kinds: &[u8], pairs: &[u64], path: &[u8]) -> Option<u16>
     requires { Tables kinds.now pairs.now }
     ensures { result ≡ count_prims path.now }
 {
     let length = path.len();
     if 255 < length {
-        return PrimCount::Malformed;
+        return None;
     }
     crate::tables::read_path(kinds, pairs, path)
 }
@@ -50,8 +50,8 @@ pub fn is_well_formed(path: &[u8]) -> bool
 {
     let count = prim_count(path);
     match count {
-        PrimCount::Names(_) => true,
-        PrimCount::Malformed => false,
+        Some(_) => true,
+        None => false,
     }
 }
 
@@ -100,22 +100,22 @@ pub fn same_path(a: &[u8], b: &[u8]) -> bool
 // Writes the path with the child's last name appended to the front of `out` and answers its length.
 // Refused 1 unless `out` has 255 bytes, 5 where either is no path or the child's ends in no name, 7
 // where the new path passes 255 bytes; a refusal leaves `out` as it was.
-pub fn append_child_name(path: &[u8], child: &[u8], out: &mut [u8]) -> Appended
+pub fn append_child_name(path: &[u8], child: &[u8], out: &mut [u8]) -> Result<usize, Refusal>
     ensures value { result ≡ append_child_name path.now child.now out.old }
     ensures out_after { out.new ≡ written result path.now child.now out.old }
 {
     if out.len() != 255 {
-        return Appended::Refused(Refusal::Size);
+        return Err(Refusal::Size);
     }
     if !joining::can_join(path, child) {
-        return Appended::Refused(Refusal::Path);
+        return Err(Refusal::Path);
     }
     let name = last_name(child);
     let at = crate::join::joint(path);
     let end = at + name.len();
     if 255 < end {
-        return Appended::Refused(Refusal::Capacity);
+        return Err(Refusal::Capacity);
     }
     crate::join::put_joined(path, name, at, out);
-    Appended::Length(end)
+    Ok(end)
 }

@@ -6,7 +6,6 @@ ghost use Rattle.model.specs.Path.{start, slash, name, between, is_name_start, i
 ghost use Rattle.path.specs.PathReading.{Run, Stops, NameRead, SelectionRead, ElementRead, reading};
 ghost use Rattle.path.specs.PathReading.{in_run, standing, begins_name, stands_at, as_name, as_selection};
 
-use model::PrimCount;
 
 // A part of a path: where it ends, or that it is malformed.
 #[derive(Clone, Copy)]
@@ -172,7 +171,7 @@ fn as_selection(part: Part) -> Element
 }
 
 // What follows the first name, which ends at `from`.
-fn read_elements(path: &[u8], from: usize) -> PrimCount
+fn read_elements(path: &[u8], from: usize) -> Option<u16>
     requires from_nonzero { (0 < from) × (from ≤ length path.now) × (length path.now ≤ 255) }
     requires stops { Stops path.now from }
     ensures { result ≡ reading name 1 (drop from path.now) }
@@ -193,30 +192,30 @@ fn read_elements(path: &[u8], from: usize) -> PrimCount
                 selected = true;
             }
             Element::Malformed => {
-                return PrimCount::Malformed;
+                return None;
             }
         }
     }
-    PrimCount::Names(names)
+    Some(names)
 }
 
 // How many names the path has, or that the bytes are no path, where they are at most 255.
-pub fn read_path(path: &[u8]) -> PrimCount
+pub fn read_path(path: &[u8]) -> Option<u16>
     requires { length path.now ≤ 255 }
     ensures { result ≡ reading start 0 path.now }
 {
     if path.len() == 0 {
-        return PrimCount::Malformed;
+        return None;
     }
     if path[0] != b'/' {
-        return PrimCount::Malformed;
+        return None;
     }
     if path.len() == 1 {
-        return PrimCount::Names(0);
+        return Some(0);
     }
     let first = read_name(path, 1);
     match first {
         Part::To(end) => read_elements(path, end),
-        Part::Malformed => PrimCount::Malformed,
+        Part::Malformed => None,
     }
 }

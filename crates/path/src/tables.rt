@@ -11,7 +11,6 @@ ghost use Rattle.path.specs.PathReading.{reading};
 ghost use Rattle.path.specs.Tables.{Tables, kind_of, row_of, no_byte, Reached, ReadTo, ending, ends_as, is_names};
 
 use crate::rows::{kinds, pairs};
-use model::PrimCount;
 
 // The row of two bytes.
 fn row_of_two(kinds: &[u8], pairs: &[u64], a: u8, b: u8) -> u64
@@ -86,34 +85,34 @@ fn read_behind_slash(kinds: &[u8], pairs: &[u64], path: &[u8]) -> u64
 }
 
 // What a reading that ends with this number comes to: it may end in a name and after a selection.
-fn ended(word: u64) -> PrimCount
+fn ended(word: u64) -> Option<u16>
     requires { word < 16384 }
     ensures { result ≡ ends_as word }
 {
     let end = word % 64;
     if end == 14 {
-        return PrimCount::Names((word / 64) as u16);
+        return Some((word / 64) as u16);
     }
     if end == 42 {
-        return PrimCount::Names((word / 64) as u16);
+        return Some((word / 64) as u16);
     }
-    PrimCount::Malformed
+    None
 }
 
 // How many names the path has, or that the bytes are no path, where they are at most 255.
-pub fn read_path(kinds: &[u8], pairs: &[u64], path: &[u8]) -> PrimCount
+pub fn read_path(kinds: &[u8], pairs: &[u64], path: &[u8]) -> Option<u16>
     requires tables { Tables kinds.now pairs.now }
     requires path_len_bound { length path.now ≤ 255 }
     ensures { result ≡ reading start 0 path.now }
 {
     if path.len() == 0 {
-        return PrimCount::Malformed;
+        return None;
     }
     if path[0] != b'/' {
-        return PrimCount::Malformed;
+        return None;
     }
     if path.len() == 1 {
-        return PrimCount::Names(0);
+        return Some(0);
     }
     ended(read_behind_slash(kinds, pairs, path))
 }

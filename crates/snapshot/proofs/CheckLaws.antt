@@ -1,10 +1,12 @@
 -- What the proof of the reader's second pass cites. Its state is `CheckedTo`: the reading from
 -- here, of the graph of the records that passed, is refused as all of it is; and `path_bytes`,
 -- `has_root` and `prims` are those of that graph. Start, step and end. Assumes nothing.
+use Rattle.std.specs.Prelude.{Option}
+use Rattle.std.specs.Prelude.{Err, Ok, Result}
+use mathlib.Core.Unit.{tt}
 use mathlib.Core.Path.{◌≡◌, refl, sym, ap, ◌∙◌}
 use mathlib.Core.Logic.{◌⊎◌, inl, inr}
 use mathlib.Core.Bool.{Bool, false, ◌&&◌, ◌||◌, and-eq-true_iff}
-use mathlib.Core.Option.{Option}
 use mathlib.Core.List.{List, [], ◌∷◌, ◌++◌, foldl}
 use Prim.Native.Nat.{ℕ, zero, suc, ◌+◌, ◌-◌, ◌≤◌, ◌<◌}
 use native.Mathlib.Nat.{eq-or-lt_of_le}
@@ -22,14 +24,11 @@ use Rattle.model.specs.Snapshot.{field, read_record}
 use Rattle.model.specs.Refusals.{refusal_number, refusal, most_nodes, most_path_bytes, path_bytes, record_questions}
 use Rattle.model.specs.Calls.{Outcome, read_if, read_on, read_or12, read_into}
 use Rattle.model.specs.declared.Refusal.{Refusal}
-use Rattle.model.specs.declared.UnitResult.TheVariants.{Done, Refused as FinishRefused}
 use Rattle.laws.proofs.PathLemmas.{length-snoc}
 use Rattle.laws.proofs.ListLaws.{any-below-cong}
 use Rattle.laws.proofs.SnapshotReadLaws.{built, built-nodes, record-passes}
 use Rattle.laws.proofs.LegalAdded.{path-bytes-append}
 use Rattle.laws.proofs.ArenaCallLaws.{refusal-some}
-use Rattle.validate.specs.declared.record.Checked.{Checked}
-use Rattle.validate.specs.declared.record.Checked.TheVariants.{Accepted, Refused}
 use Rattle.validate.specs.declared.record.Before.{Before}
 use Rattle.validate.specs.declared.record.RecordNumbers.{RecordNumbers}
 use Rattle.validate.specs.RecordCheck.{questions_at, checked_refusal, checked_prims, RecordChecked}
@@ -87,7 +86,7 @@ first_byte (b ∷ s) h = omega arith
 -- ---- One record's questions
 
 -- they are put to what its bytes say
-pub one-checked : (body : List ℕ) (b : Before) (x : RecordNumbers) (r : Checked) → 27 ≤ length body
+pub one-checked : (body : List ℕ) (b : Before) (x : RecordNumbers) (r : Result ℕ Refusal) → 27 ≤ length body
     → x.arc ≡ field 0 1 body → x.flags ≡ field 1 1 body → x.parent ≡ field 10 4 body → x.origin ≡ field 14 4 body → x.has_specs ≡ field 26 1 body
     → RecordChecked (questions_at b x (take (length body - 27) (drop 27 body))) (take (length body - 27) (drop 27 body)) r
     → RecordChecked (questions_of b (read_record body)) (read_record body).path r
@@ -133,7 +132,7 @@ module _ (bytes prims : List ℕ) (at paths : ℕ) (root : Bool) (n : ℕ) (to :
   graph = built (take n nodes)
 
   -- the end
-  pub checked-all : length nodes ≤ n → RecordsChecked bytes Done prims
+  pub checked-all : length nodes ≤ n → RecordsChecked bytes (Ok tt) prims
   checked-all end =
       let all : n ≡ length nodes = omega (arith, to.reached.few) in
       let none_left : drop n nodes ≡ [] = ap (λ (k : ℕ). drop k nodes) all ∙ drop-length nodes in
@@ -158,11 +157,11 @@ module _ (bytes prims : List ℕ) (at paths : ℕ) (root : Bool) (n : ℕ) (to :
         ≡ read_if (refusal (record_questions graph x)) (read_on empty_graph (with_node graph x) (drop (suc n) nodes)) empty_graph
     next = ap (read_on empty_graph graph) (drop-cons nodes n no_node h)
 
-    module _ (r : Checked) (checked : RecordChecked (questions_of (before_read n paths root) (read_record piece)) (read_record piece).path r) where
+    module _ (r : Result ℕ Refusal) (checked : RecordChecked (questions_of (before_read n paths root) (read_record piece)) (read_record piece).path r) where
       refused : checked_refusal r ≡ refusal (record_questions graph x)
       refused = checked.refused ∙ ap refusal questions
 
-      pub refused-here : (q : Refusal) → r ≡ Refused q → RecordsChecked bytes (FinishRefused q) prims
+      pub refused-here : (q : Refusal) → r ≡ Err q → RecordsChecked bytes (Err q) prims
       refused-here q s =
           let number : refusal_number q ≡ refusal (record_questions graph x) = ap checked_refusal (sym s) ∙ refused in
           record {
@@ -172,7 +171,7 @@ module _ (bytes prims : List ℕ) (at paths : ℕ) (root : Bool) (n : ℕ) (to :
             named = λ z. absurd (refusal-some q z);
           }
 
-      module _ (p : ℕ) (s : r ≡ Accepted p) where
+      module _ (p : ℕ) (s : r ≡ Ok p) where
         accepted : refusal (record_questions graph x) ≡ 0
         accepted = sym refused ∙ ap checked_refusal s
 

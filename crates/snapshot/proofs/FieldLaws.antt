@@ -1,9 +1,10 @@
 -- What the proofs of the reader's first pass cite: a field that is there and one that is missing; a
 -- record that fits (`RecordAt`); the front of a snapshot (`Front`); and the loop over the records,
 -- that the rest passes question 12 where all of it does (`Asked`). Assumes nothing.
+use Rattle.std.specs.Prelude.{None, Option, Some}
+use Rattle.std.specs.Prelude.{Err, Ok}
 use mathlib.Core.Path.{◌≡◌, refl, sym, ap, ◌∙◌}
 use mathlib.Core.Bool.{Bool, true, false, ◌&&◌, cond, false≢true, true≢false}
-use mathlib.Core.Option.{Option, none, some}
 use mathlib.Core.List.{List, [], ◌∷◌}
 use Prim.Native.Nat.{ℕ, zero, suc, ◌+◌, ◌-◌, ◌≤◌, ◌<◌}
 use native.Mathlib.Nat.{add-zero}
@@ -14,37 +15,36 @@ use lib.Seq.{drop-drop}
 use borrow.Author.Tests.{leb-true, leb-false, le-leb, lt-leb, eqb-true, eq-eqb}
 use Rattle.model.specs.Node.{Node}
 use Rattle.model.specs.Snapshot.{value, field, read_record, fits_record, before, read_records, read_snapshot}
-use Rattle.model.specs.declared.NumberResult.TheVariants.{Number, Refused}
 use Rattle.model.specs.declared.Refusal.TheVariants.{Snapshot}
 use Rattle.laws.proofs.SnapshotLaws.{and_first, and_second}
 use Rattle.snapshot.specs.SnapshotReading.{field_at, length_at, counted_as, RecordAt}
 
 -- ---- One field
 
-picked : (t : Bool) (n v : ℕ) → cond t (some n) none ≡ some v → (t ≡ true) × (v ≡ n)
+picked : (t : Bool) (n v : ℕ) → cond t (Some n) None ≡ Some v → (t ≡ true) × (v ≡ n)
 picked true n v e = (refl, cc)
 picked false n v e = let z : ◌≡◌ {A = ℕ} 0 1 = cc in absurd (omega arith)
 
-not-picked : (t : Bool) (n : ℕ) → cond t (some n) none ≡ none → t ≡ false
+not-picked : (t : Bool) (n : ℕ) → cond t (Some n) None ≡ None → t ≡ false
 not-picked true n e = let z : ◌≡◌ {A = ℕ} 0 1 = cc in absurd (omega arith)
 not-picked false n e = refl
 
 module _ (at w : ℕ) (bytes : List ℕ) where
-  pub field-there : at + w ≤ length bytes → some (field at w bytes) ≡ field_at at w bytes
+  pub field-there : at + w ≤ length bytes → Some (field at w bytes) ≡ field_at at w bytes
   field-there h = rw (le-leb (at + w) (length bytes) h)
 
-  pub field-missing : length bytes < at + w → none ≡ field_at at w bytes
+  pub field-missing : length bytes < at + w → None ≡ field_at at w bytes
   field-missing h = rw (lt-leb (at + w) (length bytes) h)
 
-  pub taken : (v : ℕ) → field_at at w bytes ≡ some v → (at + w ≤ length bytes) × (v ≡ field at w bytes)
+  pub taken : (v : ℕ) → field_at at w bytes ≡ Some v → (at + w ≤ length bytes) × (v ≡ field at w bytes)
   taken v e =
       let both = picked (leb (at + w) (length bytes)) (field at w bytes) v e in
       (leb-true (at + w) (length bytes) both.0, both.1)
 
-  pub not_taken : field_at at w bytes ≡ none → length bytes < at + w
+  pub not_taken : field_at at w bytes ≡ None → length bytes < at + w
   not_taken e = leb-false (at + w) (length bytes) (not-picked (leb (at + w) (length bytes)) (field at w bytes) e)
 
-  pub never-missing : at + w ≤ length bytes → field_at at w bytes ≡ none → ⊥
+  pub never-missing : at + w ≤ length bytes → field_at at w bytes ≡ None → ⊥
   never-missing h e = omega (arith, not_taken e)
 
 field-drop : (at a w : ℕ) (bytes : List ℕ) → field a w (drop at bytes) ≡ field (at + a) w bytes
@@ -79,17 +79,17 @@ module _ (at : ℕ) (bytes : List ℕ) (h : at ≤ length bytes) where
         within = omega (arith, rest-length, leb-true (2 + field at 2 bytes) (length (drop at bytes)) (search (and_first, and_second)));
       }
 
-  pub length-there : RecordAt bytes at → some (field at 2 bytes) ≡ length_at at bytes
+  pub length-there : RecordAt bytes at → Some (field at 2 bytes) ≡ length_at at bytes
   length-there fits = rw (fits-record fits)
 
-  pub length-missing : (RecordAt bytes at → ⊥) → none ≡ length_at at bytes
+  pub length-missing : (RecordAt bytes at → ⊥) → None ≡ length_at at bytes
   length-missing no-fit = go (fits_record (drop at bytes)) refl
     where
-      go : (t : Bool) → fits_record (drop at bytes) ≡ t → none ≡ cond t (some (field at 2 bytes)) none
+      go : (t : Bool) → fits_record (drop at bytes) ≡ t → None ≡ cond t (Some (field at 2 bytes)) None
       go true e = absurd (no-fit (fits-at e))
       go false e = refl
 
-  pub length_taken : (v : ℕ) → length_at at bytes ≡ some v → RecordAt bytes at × (v ≡ field at 2 bytes)
+  pub length_taken : (v : ℕ) → length_at at bytes ≡ Some v → RecordAt bytes at × (v ≡ field at 2 bytes)
   length_taken v e =
       let both = picked (fits_record (drop at bytes)) (field at 2 bytes) v e in
       (fits-at both.0, both.1)
@@ -122,39 +122,39 @@ module _ (bytes : List ℕ) where
         eq-eqb (field 4 1 bytes) 1 front.version,
       )
 
-  pub front-wrong : (Front bytes → ⊥) → Refused Snapshot ≡ counted_as (read_snapshot bytes)
+  pub front-wrong : (Front bytes → ⊥) → Err Snapshot ≡ counted_as (read_snapshot bytes)
   unfolding read_snapshot
   front-wrong wrong = go (front_valid bytes) refl
     where
-      go : (t : Bool) → front_valid bytes ≡ t → Refused Snapshot ≡ counted_as (cond t (read_records (field 5 2 bytes) (drop 7 bytes)) none)
+      go : (t : Bool) → front_valid bytes ≡ t → Err Snapshot ≡ counted_as (cond t (read_records (field 5 2 bytes) (drop 7 bytes)) None)
       go true e = absurd (wrong (front-tested e))
       go false e = refl
 
 -- ---- The records
 
 abbrev pub passes : Option (List Node) → Bool
-passes none = false
-passes (some xs) = true
+passes None = false
+passes (Some xs) = true
 
 passes-before : (x : Node) (o : Option (List Node)) → passes (before x o) ≡ passes o
-passes-before x none = refl
-passes-before x (some xs) = refl
+passes-before x None = refl
+passes-before x (Some xs) = refl
 
-failed-refused : (o : Option (List Node)) → passes o ≡ false → Refused Snapshot ≡ counted_as o
-failed-refused none e = refl
-failed-refused (some xs) e = absurd (true≢false e)
+failed-refused : (o : Option (List Node)) → passes o ≡ false → Err Snapshot ≡ counted_as o
+failed-refused None e = refl
+failed-refused (Some xs) e = absurd (true≢false e)
 
-counted-before : (n : ℕ) (x : Node) (o : Option (List Node)) → (passes o ≡ true → Number n ≡ counted_as o) → passes (before x o) ≡ true
-    → Number (suc n) ≡ counted_as (before x o)
-counted-before n x none rest e = absurd (false≢true e)
-counted-before n x (some xs) rest e = let same = rest refl in cc
+counted-before : (n : ℕ) (x : Node) (o : Option (List Node)) → (passes o ≡ true → Ok n ≡ counted_as o) → passes (before x o) ≡ true
+    → Ok (suc n) ≡ counted_as (before x o)
+counted-before n x None rest e = absurd (false≢true e)
+counted-before n x (Some xs) rest e = let same = rest refl in cc
 
-counted_if : (n : ℕ) (t : Bool) (x : Node) (o : Option (List Node)) → (passes o ≡ true → Number n ≡ counted_as o)
-    → passes (cond t (before x o) none) ≡ true → Number (suc n) ≡ counted_as (cond t (before x o) none)
+counted_if : (n : ℕ) (t : Bool) (x : Node) (o : Option (List Node)) → (passes o ≡ true → Ok n ≡ counted_as o)
+    → passes (cond t (before x o) None) ≡ true → Ok (suc n) ≡ counted_as (cond t (before x o) None)
 counted_if n true x o rest e = counted-before n x o rest e
 counted_if n false x o rest e = absurd (false≢true e)
 
-pub passed_counted : (n : ℕ) (bs : List ℕ) → passes (read_records n bs) ≡ true → Number n ≡ counted_as (read_records n bs)
+pub passed_counted : (n : ℕ) (bs : List ℕ) → passes (read_records n bs) ≡ true → Ok n ≡ counted_as (read_records n bs)
 unfolding read_records
 passed_counted zero [] e = refl
 passed_counted zero (b ∷ bs) e = absurd (false≢true e)
@@ -204,7 +204,7 @@ module _ (bytes : List ℕ) (count at left : ℕ) (asked : Asked bytes count at 
               ∙ ap (λ (m : ℕ). drop (2 + m) (drop at bytes)) (sym (length-here at bytes asked.within))
 
   -- a record that does not fit
-  pub asked-missing : 0 < left → length_at at bytes ≡ none → Refused Snapshot ≡ counted_as (read_records count (drop 7 bytes))
+  pub asked-missing : 0 < left → length_at at bytes ≡ None → Err Snapshot ≡ counted_as (read_records count (drop 7 bytes))
   unfolding read_records
   asked-missing some_left e = failed-refused (read_records count (drop 7 bytes)) (sym asked.same ∙ go left some_left)
     where
@@ -213,13 +213,13 @@ module _ (bytes : List ℕ) (count at left : ℕ) (asked : Asked bytes count at 
       go (suc k) l = rw (not-picked (fits_record (drop at bytes)) (field at 2 bytes) e)
 
   -- the end
-  pub asked-all : left ≤ 0 → length bytes ≤ at → Number count ≡ counted_as (read_records count (drop 7 bytes))
+  pub asked-all : left ≤ 0 → length bytes ≤ at → Ok count ≡ counted_as (read_records count (drop 7 bytes))
   asked-all none_left end =
       passed_counted count (drop 7 bytes)
       (sym asked.same ∙ ap (λ (k : ℕ). passes (read_records k (drop at bytes))) {x = left} {y = 0} (omega arith)
       ∙ nothing-asked (drop at bytes) (omega (arith, rest-length at bytes asked.within)))
 
-  pub asked-behind : left ≤ 0 → at < length bytes → Refused Snapshot ≡ counted_as (read_records count (drop 7 bytes))
+  pub asked-behind : left ≤ 0 → at < length bytes → Err Snapshot ≡ counted_as (read_records count (drop 7 bytes))
   asked-behind none_left more =
       failed-refused (read_records count (drop 7 bytes))
       (sym asked.same ∙ ap (λ (k : ℕ). passes (read_records k (drop at bytes))) {x = left} {y = 0} (omega arith)

@@ -1,5 +1,6 @@
 -- The ways that the two calls on snapshots end: `read-not-arena`, `read-into`, and those of
 -- writing. Assumes nothing.
+use Rattle.std.specs.Prelude.{Err, Ok, Result}
 use mathlib.Core.Path.{◌≡◌, sym, ◌∙◌}
 use mathlib.Core.List.{List, []}
 use Prim.Native.Nat.{ℕ}
@@ -14,30 +15,28 @@ use Rattle.model.specs.Arena.{arena_bytes, decode}
 use Rattle.model.specs.ArenaCalls.{into_arena, Wrote, ask_arena}
 use Rattle.model.specs.declared.Refusal.{Refusal}
 use Rattle.model.specs.declared.Refusal.TheVariants.{Size}
-use Rattle.model.specs.declared.NumberResult.{NumberResult}
-use Rattle.model.specs.declared.NumberResult.TheVariants.{Number, Refused}
 use Rattle.laws.proofs.ArenaCallLaws.{refusal-some, answered-refused, answered-number, buffer-refused, buffer-passed, wrote-refused}
 use Rattle.snapshot.specs.Snapshots.{write_questions, SnapshotWritten}
 
 module _ (o : Outcome) (bs : List ℕ) where
-  pub read-not-arena : (length bs ≡ arena_bytes → ⊥) → Wrote (into_arena o bs) bs (Refused Size) bs
+  pub read-not-arena : (length bs ≡ arena_bytes → ⊥) → Wrote (into_arena o bs) bs (Err Size) bs
   unfolding into_arena
   read-not-arena h =
       let e = ne_eqb (length bs) arena_bytes h in
       wrote-refused bs (into_arena o bs) Size (rw e) (rw e)
 
-  pub read-into : (r : NumberResult) (after : List ℕ) → length bs ≡ arena_bytes → Wrote o bs r after → Wrote (into_arena o bs) bs r after
+  pub read-into : (r : Result ℕ Refusal) (after : List ℕ) → length bs ≡ arena_bytes → Wrote o bs r after → Wrote (into_arena o bs) bs r after
   unfolding into_arena
   read-into r after h w = rw (eq-eqb (length bs) arena_bytes h) w
 
 module _ (bs out : List ℕ) where
-  refused_as : (r : Refusal) → refusal_number r ≡ refusal (write_questions bs out) → SnapshotWritten bs out (Refused r) out
+  refused_as : (r : Refusal) → refusal_number r ≡ refusal (write_questions bs out) → SnapshotWritten bs out (Err r) out
   refused_as r e = record {
     answer = answered-refused (write_questions bs out) _ r e;
     bytes = rw (ne_eqb (refusal (write_questions bs out)) 0 (λ z. refusal-some r (e ∙ z)));
   }
 
-  pub write-not-buffer : (length out ≡ 65536 → ⊥) → SnapshotWritten bs out (Refused Size) out
+  pub write-not-buffer : (length out ≡ 65536 → ⊥) → SnapshotWritten bs out (Err Size) out
   write-not-buffer h = refused_as Size (buffer-refused bs (eqb (length out) 65536) [] (ne_eqb (length out) 65536 h))
 
   module _ (large : length out ≡ 65536) where
@@ -45,11 +44,11 @@ module _ (bs out : List ℕ) where
     write-asks : refusal (write_questions bs out) ≡ refusal (ask_arena bs [])
     write-asks = buffer-passed bs (eqb (length out) 65536) [] (eq-eqb (length out) 65536 large)
 
-    pub write-refused : (r : Refusal) → refusal_number r ≡ refusal (ask_arena bs []) → SnapshotWritten bs out (Refused r) out
+    pub write-refused : (r : Refusal) → refusal_number r ≡ refusal (ask_arena bs []) → SnapshotWritten bs out (Err r) out
     write-refused r e = refused_as r (e ∙ sym write-asks)
 
     pub written : refusal (ask_arena bs []) ≡ 0 → (n : ℕ) (after : List ℕ) → n ≡ length (write_snapshot (decode bs))
-        → after ≡ stored 0 (write_snapshot (decode bs)) out → SnapshotWritten bs out (Number n) after
+        → after ≡ stored 0 (write_snapshot (decode bs)) out → SnapshotWritten bs out (Ok n) after
     written e n after c a =
         let passes : refusal (write_questions bs out) ≡ 0 = write-asks ∙ e in
         record {

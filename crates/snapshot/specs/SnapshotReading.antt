@@ -1,18 +1,16 @@
 -- What the passes of the reader promise each other: a field or that it is missing; question 12 over
 -- all of the bytes; the nodes of bytes that pass it; and the questions of the records. What reading
 -- comes to in the end is model/specs/Calls.antt's `read_into`.
+use Rattle.std.specs.Prelude.{Err, None, Ok, Option, Result, Some, ⊤}
+use Rattle.model.specs.declared.Refusal.{Refusal}
 use Rattle.std.specs.Prelude.{◌≡◌, Bool, true, cond, List, [], ℕ, ◌+◌, ◌≤◌, ◌<◌, leb, length, drop, get_or}
-use Rattle.std.proofs.Math.Option.{Option, none, some}
 use Rattle.model.specs.Path.{prim_count}
 use Rattle.model.specs.Node.{Node}
 use Rattle.model.specs.Graph.{empty_graph, node_at}
 use Rattle.model.specs.Snapshot.{field, fits_record, read_snapshot}
 use Rattle.model.specs.Refusals.{Question}
-use Rattle.model.specs.Answers.{unit_refusal}
+use Rattle.model.specs.Answers.{answer_refusal}
 use Rattle.model.specs.Calls.{read_into}
-use Rattle.model.specs.declared.UnitResult.{UnitResult}
-use Rattle.model.specs.declared.NumberResult.{NumberResult}
-use Rattle.model.specs.declared.NumberResult.TheVariants.{Number, Refused}
 use Rattle.model.specs.declared.Refusal.TheVariants.{Snapshot}
 use Rattle.validate.specs.declared.record.Before.{Before}
 use Rattle.validate.specs.RecordCheck.{numbers_of, questions_at}
@@ -27,42 +25,42 @@ use Rattle.snapshot.specs.declared.fields.Field.TheVariants.{Value as FieldValue
 
 -- the value of each answer
 abbrev pub byte_value : Byte → Option ℕ
-byte_value (ByteValue n) = some n
-byte_value ByteMissing = none
+byte_value (ByteValue n) = Some n
+byte_value ByteMissing = None
 
 abbrev pub short_value : Short → Option ℕ
-short_value (ShortValue n) = some n
-short_value ShortMissing = none
+short_value (ShortValue n) = Some n
+short_value ShortMissing = None
 
 abbrev pub field_value : Field → Option ℕ
-field_value (FieldValue n) = some n
-field_value FieldMissing = none
+field_value (FieldValue n) = Some n
+field_value FieldMissing = None
 
 -- w bytes from `at` on
 abbrev pub field_at : ℕ → ℕ → List ℕ → Option ℕ
-field_at at w bytes = cond (leb (at + w) (length bytes)) (some (field at w bytes)) none
+field_at at w bytes = cond (leb (at + w) (length bytes)) (Some (field at w bytes)) None
 
 -- "2 bytes with the length of the rest of its record (28 to 282, else question 12 fails)"
 abbrev pub length_at : ℕ → List ℕ → Option ℕ
-length_at at bytes = cond (fits_record (drop at bytes)) (some (field at 2 bytes)) none
+length_at at bytes = cond (fits_record (drop at bytes)) (Some (field at 2 bytes)) None
 
 -- ---- Question 12
 
-abbrev pub counted_as : Option (List Node) → NumberResult
-counted_as none = Refused Snapshot
-counted_as (some xs) = Number (length xs)
+abbrev pub counted_as : Option (List Node) → Result ℕ Refusal
+counted_as None = Err Snapshot
+counted_as (Some xs) = Ok (length xs)
 
 -- the nodes of bytes that pass it
 abbrev pub nodes_or : Option (List Node) → List Node
-nodes_or none = []
-nodes_or (some xs) = xs
+nodes_or None = []
+nodes_or (Some xs) = xs
 
 abbrev pub nodes_read : List ℕ → List Node
 nodes_read bytes = nodes_or (read_snapshot bytes)
 
 -- the bytes pass, and have so many records
 pub record Exact (bytes : List ℕ) (count : ℕ) : Type 0 where
-  pub read : read_snapshot bytes ≡ some (nodes_read bytes)
+  pub read : read_snapshot bytes ≡ Some (nodes_read bytes)
   pub counted : count ≡ length (nodes_read bytes)
 
 -- a record stands at `at`, whole
@@ -86,6 +84,6 @@ abbrev pub Named : List Node → List ℕ → Type 0
 Named xs prims = (k : ℕ) → k < length xs → get_or prims k 0 ≡ prim_count (node_at xs k).path
 
 -- the refusal of reading the bytes, or none and the prim counts
-pub record RecordsChecked (bytes : List ℕ) (r : UnitResult) (prims : List ℕ) : Type 0 where
-  pub refused : unit_refusal r ≡ (read_into bytes empty_graph).refused
-  pub named : unit_refusal r ≡ 0 → Named (nodes_read bytes) prims
+pub record RecordsChecked (bytes : List ℕ) (r : Result ⊤ Refusal) (prims : List ℕ) : Type 0 where
+  pub refused : answer_refusal r ≡ (read_into bytes empty_graph).refused
+  pub named : answer_refusal r ≡ 0 → Named (nodes_read bytes) prims

@@ -9,12 +9,12 @@ ghost use Rattle.snapshot.specs.SnapshotReading.{counted_as, Exact, questions_of
 use crate::fields::{Byte, Field, Short};
 use crate::{fields, record};
 use arena::offsets;
-use model::{NumberResult, Refusal, UnitResult};
-use validate::{Before, Checked, RecordNumbers};
+use model::Refusal;
+use validate::{Before, RecordNumbers};
 
 // The rest of question 12: whether `count` records stand from byte 7 on, each as long as it says,
 // and nothing behind them.
-fn check_record_lengths(bytes: &[u8], count: u32) -> NumberResult
+fn check_record_lengths(bytes: &[u8], count: u32) -> Result<u32, Refusal>
     requires { 7 ≤ length bytes.now }
     ensures { result ≡ counted_as (read_records count (drop 7 bytes.now)) }
 {
@@ -22,35 +22,35 @@ fn check_record_lengths(bytes: &[u8], count: u32) -> NumberResult
     let mut left = count;
     while 0 < left {
         let Short::Value(length) = fields::take_length(bytes, at) else {
-            return NumberResult::Refused(Refusal::Snapshot);
+            return Err(Refusal::Snapshot);
         };
         at += 2 + (length as usize);
         left -= 1;
     }
     if at < bytes.len() {
-        return NumberResult::Refused(Refusal::Snapshot);
+        return Err(Refusal::Snapshot);
     }
-    NumberResult::Number(count)
+    Ok(count)
 }
 
 // Question 12: how many records there are, where version, count and lengths are exact.
-pub fn check_lengths(bytes: &[u8]) -> NumberResult
+pub fn check_lengths(bytes: &[u8]) -> Result<u32, Refusal>
     ensures { result ≡ counted_as (read_snapshot bytes.now) }
 {
     let Field::Value(following) = fields::take_u32(bytes, 0) else {
-        return NumberResult::Refused(Refusal::Snapshot);
+        return Err(Refusal::Snapshot);
     };
     if 4 + (following as usize) != bytes.len() {
-        return NumberResult::Refused(Refusal::Snapshot);
+        return Err(Refusal::Snapshot);
     }
     let Byte::Value(version) = fields::take_u8(bytes, 4) else {
-        return NumberResult::Refused(Refusal::Snapshot);
+        return Err(Refusal::Snapshot);
     };
     if version != 1 {
-        return NumberResult::Refused(Refusal::Snapshot);
+        return Err(Refusal::Snapshot);
     }
     let Short::Value(count) = fields::take_u16(bytes, 5) else {
-        return NumberResult::Refused(Refusal::Snapshot);
+        return Err(Refusal::Snapshot);
     };
     check_record_lengths(bytes, count as u32)
 }
@@ -70,26 +70,26 @@ fn with_root(has_root: bool, n: u32, arc: u8) -> bool
 
 // Questions 4 to 7 of a record, which take only the numbers that they ask of. A field that is
 // missing, which none is, refuses 12.
-fn check_one(kinds: &[u8], pairs: &[u64], body: &[u8], before: Before) -> Checked
+fn check_one(kinds: &[u8], pairs: &[u64], body: &[u8], before: Before) -> Result<u8, Refusal>
     requires tables { Tables kinds.now pairs.now }
     requires in_bounds { (28 ≤ length body.now) × (before.path_bytes ≤ 32768) }
     ensures { RecordChecked (questions_of before (read_record body.now))
         (read_record body.now).path result }
 {
     let Byte::Value(arc) = fields::take_u8(body, offsets::ARC) else {
-        return Checked::Refused(Refusal::Snapshot);
+        return Err(Refusal::Snapshot);
     };
     let Byte::Value(flags) = fields::take_u8(body, offsets::FLAGS) else {
-        return Checked::Refused(Refusal::Snapshot);
+        return Err(Refusal::Snapshot);
     };
     let Field::Value(parent) = fields::take_u32(body, offsets::PARENT) else {
-        return Checked::Refused(Refusal::Snapshot);
+        return Err(Refusal::Snapshot);
     };
     let Field::Value(origin) = fields::take_u32(body, offsets::ORIGIN) else {
-        return Checked::Refused(Refusal::Snapshot);
+        return Err(Refusal::Snapshot);
     };
     let Byte::Value(has_specs) = fields::take_u8(body, offsets::HAS_SPECS) else {
-        return Checked::Refused(Refusal::Snapshot);
+        return Err(Refusal::Snapshot);
     };
     let numbers = RecordNumbers {
         arc: arc,
@@ -108,7 +108,7 @@ fn check_one(kinds: &[u8], pairs: &[u64], body: &[u8], before: Before) -> Checke
 }
 
 // Questions 4 to 7, record by record: the first no, or the prim count of each path in `prims`.
-pub fn check_records(bytes: &[u8], count: u32, prims: &mut [u8]) -> UnitResult
+pub fn check_records(bytes: &[u8], count: u32, prims: &mut [u8]) -> Result<(), Refusal>
     requires exact { Exact bytes.now count }
     requires prims_len { length prims.old ≡ 1024 }
     ensures { RecordsChecked bytes.now result prims.new }
@@ -129,10 +129,10 @@ pub fn check_records(bytes: &[u8], count: u32, prims: &mut [u8]) -> UnitResult
         };
         let checked = check_one(&kinds, &pairs, record, before);
         match checked {
-            Checked::Refused(refusal) => {
-                return UnitResult::Refused(refusal);
+            Err(refusal) => {
+                return Err(refusal);
             }
-            Checked::Accepted(prim_count) => {
+            Ok(prim_count) => {
                 prims[n as usize] = prim_count;
                 has_root = with_root(has_root, n, record[offsets::ARC]);
                 path_bytes += record.len() - offsets::PATH;
@@ -141,5 +141,5 @@ pub fn check_records(bytes: &[u8], count: u32, prims: &mut [u8]) -> UnitResult
             }
         }
     }
-    UnitResult::Done
+    Ok(())
 }

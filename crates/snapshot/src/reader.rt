@@ -6,22 +6,22 @@ ghost use Rattle.model.specs.Arena.{arena_bytes};
 ghost use Rattle.model.specs.ArenaCalls.{Wrote};
 
 use crate::fill;
-use model::{NumberResult, Refusal, UnitResult};
+use model::Refusal;
 
 // Reads a snapshot into the arena, whatever it held, and answers how many nodes it has. Refused,
 // the arena keeps every byte.
-pub fn read_snapshot(arena: &mut [u8], bytes: &[u8]) -> NumberResult
+pub fn read_snapshot(arena: &mut [u8], bytes: &[u8]) -> Result<u32, Refusal>
     requires { length arena.old ≡ arena_bytes }
     ensures { Wrote (read_into bytes.now empty_graph) arena.old result arena.new }
 {
-    let NumberResult::Number(count) = crate::checks::check_lengths(bytes) else {
-        return NumberResult::Refused(Refusal::Snapshot);
+    let Ok(count) = crate::checks::check_lengths(bytes) else {
+        return Err(Refusal::Snapshot);
     };
     let mut prims = [0u8; 1024];
     let checked = crate::checks::check_records(bytes, count, &mut prims);
-    if let UnitResult::Refused(refusal) = checked {
-        return NumberResult::Refused(refusal);
+    if let Err(refusal) = checked {
+        return Err(refusal);
     }
     fill::fill(arena, bytes, count, &prims);
-    NumberResult::Number(count)
+    Ok(count)
 }

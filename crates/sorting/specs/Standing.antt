@@ -1,8 +1,8 @@
 -- Child lists that stand in order already: what is read of two neighbours, and what follows for the
 -- graph.
 use Rattle.std.specs.Prelude.{◌≡◌, Bool, true, List, ℕ, ◌<◌}
-use Rattle.model.specs.declared.Ordering.{Ordering}
-use Rattle.model.specs.declared.Ordering.TheVariants.{Less}
+use Rattle.std.specs.declared.cmp.Ordering.{Ordering}
+use Rattle.std.specs.declared.cmp.Ordering.TheVariants.{Less}
 use Rattle.model.specs.Graph.{Graph, size, children_of}
 use Rattle.model.specs.Order.{Sorted, is_stronger}
 use Rattle.model.specs.Places.{by_place, key_lines}

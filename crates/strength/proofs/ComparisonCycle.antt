@@ -1,10 +1,11 @@
 -- The two comparisons' answers from their parts: a verdict on two siblings, and where the chains of
 -- two nodes part. Assumes nothing.
+use Rattle.std.specs.Prelude.{None, Option, Some}
 use mathlib.Core.Path.{◌≡◌, refl, sym, ap, ◌∙◌}
 use mathlib.Core.List.{List}
 use Prim.Native.Nat.{ℕ, ◌+◌, ◌≤◌, ◌<◌}
 use native.Mathlib.Omega.{arith}
-use Rattle.model.specs.declared.Ordering.{Ordering}
+use Rattle.std.specs.declared.cmp.Ordering.{Ordering}
 use Rattle.model.specs.Strength.{View, first, smaller, compare_sibling_node_strength, compare_node_strength, sibling_lines}
 use Rattle.laws.proofs.StrengthLaws.{compare-siblings-lines, compare_same}
 use Rattle.view.specs.View.{view_in, ValidNodeAndRoot}
@@ -16,8 +17,6 @@ use Rattle.view.proofs.PartingLaws.{parts-compare}
 use Rattle.model.specs.declared.Verdict.{Verdict}
 use Rattle.model.specs.declared.Verdict.TheVariants.{Settled, Ask}
 use Rattle.strength.specs.Verdicts.{Pair, resolve, DecidedBy}
-use Rattle.strength.specs.declared.lines.SettledEarly.{SettledEarly}
-use Rattle.strength.specs.declared.lines.SettledEarly.TheVariants.{As, Open}
 use Rattle.strength.specs.Settled.{IsSettledEarly}
 use Rattle.strength.proofs.SiblingLines.{ranks-differ}
 
@@ -54,10 +53,10 @@ ranks-settle {bs} {root} {a} {b} pair {o} differ line = siblings-resolved pair (
 
 -- ---- Siblings at once: `k` is what their records say
 
-pub at_once : (u : View) (a b : ℕ) (k : SettledEarly) {o : Ordering} → k ≡ As o → IsSettledEarly u a b k → o ≡ compare_sibling_node_strength u a b
+pub at_once : (u : View) (a b : ℕ) (k : Option Ordering) {o : Ordering} → k ≡ Some o → IsSettledEarly u a b k → o ≡ compare_sibling_node_strength u a b
 at_once u a b k told said = rw told at said
 
-pub left_open : (u : View) (a b : ℕ) (k : SettledEarly) → k ≡ Open → IsSettledEarly u a b k → u.rank a ≡ u.rank b
+pub left_open : (u : View) (a b : ℕ) (k : Option Ordering) → k ≡ None → IsSettledEarly u a b k → u.rank a ≡ u.rank b
 left_open u a b k told said = rw told at said
 
 -- ---- Nodes: `p` is where their chains part, `q` its form that was matched

@@ -1,7 +1,8 @@
 -- The answers of `starting_node_of_class_hierarchy`, beside laws/proofs/ArenaCallLaws.antt. Assumes
 -- nothing.
+use Rattle.std.specs.Prelude.{Some}
+use Rattle.std.specs.Prelude.{Option}
 use mathlib.Core.Path.{◌≡◌, sym, ap, ◌∙◌}
-use mathlib.Core.Option.{some}
 use mathlib.Core.List.{List}
 use Prim.Native.Nat.{ℕ}
 use borrow.Author.Tests.{eq-eqb, ne_eqb}
@@ -9,7 +10,6 @@ use Rattle.model.specs.Answers.{node_option}
 use Rattle.model.specs.Node.{optional}
 use Rattle.model.specs.Refusals.{refusal_number, Question, refusal}
 use Rattle.model.specs.declared.NodeId.{NodeId}
-use Rattle.model.specs.declared.NodeOption.{NodeOption}
 use Rattle.model.specs.declared.Refusal.{Refusal}
 use Rattle.laws.proofs.ArenaCallLaws.{refusal-some}
 use Rattle.strength.specs.declared.calls.HierarchyRead.TheVariants.{Hierarchy, Refused}
@@ -21,8 +21,8 @@ module _ (questions : List Question) (instance class : ℕ) where
       let no = ne_eqb (refusal questions) 0 (λ z. refusal-some r (e ∙ z)) in
       record { refused = e; instance-node = rw no; class-node = rw no }
 
-  pub one-hierarchy : (x : NodeId) (y : NodeOption) → refusal questions ≡ 0 → x.0 ≡ instance → node_option y ≡ optional class
+  pub one-hierarchy : (x : NodeId) (y : Option NodeId) → refusal questions ≡ 0 → x.0 ≡ instance → node_option y ≡ optional class
       → HierarchyAnswers questions instance class (Hierarchy x y)
   one-hierarchy x y e p q =
       let asked = eq-eqb (refusal questions) 0 e in
-      record { refused = sym e; instance-node = rw asked (ap some p); class-node = rw asked q }
+      record { refused = sym e; instance-node = rw asked (ap Some p); class-node = rw asked q }

@@ -4,7 +4,7 @@ use mathlib.Core.Path.{◌≡◌, sym}
 use mathlib.Core.Bool.{true, false, ◌&&◌}
 use mathlib.Core.List.{List}
 use Prim.Native.Nat.{ℕ}
-use Rattle.model.specs.declared.Ordering.{Ordering}
+use Rattle.std.specs.declared.cmp.Ordering.{Ordering}
 use Rattle.model.specs.Strength.{View, smaller, specializes_lines, plain_lines, sibling_lines}
 use Rattle.view.specs.View.{view_in}
 use Rattle.model.specs.declared.Verdict.{Verdict}

@@ -7,8 +7,8 @@ use mathlib.Core.List.{List}
 use Prim.Native.Nat.{ℕ, ◌+◌, ◌<◌}
 use native.Mathlib.Omega.{arith}
 use borrow.Author.Tests.{eq-eqb, ne_eqb, eqb-true}
-use Rattle.model.specs.declared.Ordering.{Ordering}
-use Rattle.model.specs.declared.Ordering.TheVariants.{Less, Equal, Greater}
+use Rattle.std.specs.declared.cmp.Ordering.{Ordering}
+use Rattle.std.specs.declared.cmp.Ordering.TheVariants.{Less, Equal, Greater}
 use Rattle.model.specs.Strength.{View, smaller, is_authored, origin_root_node, origins_are_nested, same_origin_lines, same_root_lines, origin_lines, depth_line, specializes_lines}
 use Rattle.laws.proofs.StrengthWalks.{origin-root-le, origin-root-lower}
 use Rattle.view.specs.View.{view_in, ValidNodeAndRoot}

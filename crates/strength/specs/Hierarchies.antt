@@ -1,8 +1,8 @@
 -- What the calls of this crate answer, beside model/specs/ArenaCalls.antt's `AnsweredTest` and
 -- `AnsweredNode`: where a class hierarchy starts. The definitions that they cite are in
 -- model/specs.
+use Rattle.std.specs.Prelude.{None, Option, Some}
 use Rattle.std.specs.Prelude.{◌≡◌, cond, List, ℕ, eqb}
-use Rattle.std.proofs.Math.Option.{Option, none, some}
 use Rattle.model.specs.Answers.{node_option}
 use Rattle.model.specs.Node.{optional}
 use Rattle.model.specs.Refusals.{refusal_number, Question, refusal}
@@ -20,17 +20,17 @@ hierarchy_refusal (Refused r) = refusal_number r
 
 -- the node that inherits or specializes, and its topmost class; none where the call is refused
 abbrev pub hierarchy_instance : HierarchyRead → Option ℕ
-hierarchy_instance (Hierarchy instance class) = some instance.0
-hierarchy_instance (Refused r) = none
+hierarchy_instance (Hierarchy instance class) = Some instance.0
+hierarchy_instance (Refused r) = None
 
 abbrev pub hierarchy_class : HierarchyRead → Option ℕ
 hierarchy_class (Hierarchy instance class) = node_option class
-hierarchy_class (Refused r) = none
+hierarchy_class (Refused r) = None
 
 pub record HierarchyAnswers (questions : List Question) (instance class : ℕ) (r : HierarchyRead) : Type 0 where
   pub refused : hierarchy_refusal r ≡ refusal questions
-  pub instance-node : hierarchy_instance r ≡ cond (eqb (refusal questions) 0) (some instance) none
-  pub class-node : hierarchy_class r ≡ cond (eqb (refusal questions) 0) (optional class) none
+  pub instance-node : hierarchy_instance r ≡ cond (eqb (refusal questions) 0) (Some instance) None
+  pub class-node : hierarchy_class r ≡ cond (eqb (refusal questions) 0) (optional class) None
 
 abbrev pub HierarchyAnswered : List ℕ → ℕ → HierarchyRead → Type 0
 HierarchyAnswered bs n r =

@@ -1,6 +1,6 @@
 -- What the lists of lines answer: two siblings settled, or two lower nodes to ask.
 use Rattle.std.specs.Prelude.{◌≡◌, List, ℕ, ◌+◌, ◌<◌}
-use Rattle.model.specs.declared.Ordering.{Ordering}
+use Rattle.std.specs.declared.cmp.Ordering.{Ordering}
 use Rattle.model.specs.ArenaCalls.{ValidNode}
 use Rattle.model.specs.Strength.{View, first, smaller}
 use Rattle.view.specs.View.{view_in, ValidNodeAndRoot}

@@ -14,23 +14,22 @@ ghost use Rattle.model.specs.Strength.{is_propagated_specializes};
 ghost use Rattle.strength.specs.Comparisons.{Siblings};
 ghost use Rattle.strength.specs.Hierarchies.{HierarchyAnswered};
 
-use model::{
-    BoolResult, NodeId, NodeOption, NodeResult, Ordering, OrderingResult, Refusal, UnitResult,
-};
+use model::{NodeId, Refusal};
+use std::cmp::Ordering;
 
 // Which of two nodes is the stronger: Less where a is, Equal only for one node twice. Refused 1 to
 // 4.
-pub fn compare_node_strength(arena: &[u8], a: u32, b: u32) -> OrderingResult
+pub fn compare_node_strength(arena: &[u8], a: u32, b: u32) -> Result<Ordering, Refusal>
     ensures { AnsweredOrder (ask_arena arena.now (compares_nodes (decode arena.now) a b))
         (compare_node_strength (view_of (decode arena.now)) a b) result }
 {
     let asked = validate::ask_nodes(arena, a, b);
     match asked {
-        UnitResult::Done => {
+        Ok(()) => {
             let root = arena::local_root(arena);
-            OrderingResult::As(crate::comparison::compare_node_strength(arena, root, a, b))
+            Ok(crate::comparison::compare_node_strength(arena, root, a, b))
         }
-        UnitResult::Refused(refusal) => OrderingResult::Refused(refusal),
+        Err(refusal) => Err(refusal),
     }
 }
 
@@ -47,96 +46,88 @@ fn compare_siblings(arena: &[u8], a: u32, b: u32) -> Ordering
 }
 
 // Which of two siblings is the stronger. Refused 1 to 4 and 8.
-pub fn compare_sibling_node_strength(arena: &[u8], a: u32, b: u32) -> OrderingResult
+pub fn compare_sibling_node_strength(arena: &[u8], a: u32, b: u32) -> Result<Ordering, Refusal>
     ensures { AnsweredOrder (ask_arena arena.now (compares_siblings (decode arena.now) a b))
         (compare_sibling_node_strength (view_of (decode arena.now)) a b) result }
 {
     let asked = validate::ask_siblings(arena, a, b);
     match asked {
-        UnitResult::Done => OrderingResult::As(compare_siblings(arena, a, b)),
-        UnitResult::Refused(refusal) => OrderingResult::Refused(refusal),
+        Ok(()) => Ok(compare_siblings(arena, a, b)),
+        Err(refusal) => Err(refusal),
     }
 }
 
 // Whether x is met from y upward, y counted, before the local root and node 0. Refused 1 to 4.
-pub fn is_ancestor_of(arena: &[u8], x: u32, y: u32) -> BoolResult
+pub fn is_ancestor_of(arena: &[u8], x: u32, y: u32) -> Result<bool, Refusal>
     ensures { AnsweredTest (ask_arena arena.now (compares_nodes (decode arena.now) x y))
         (is_ancestor_of (view (decode arena.now).nodes) x y) result }
 {
     let asked = validate::ask_nodes(arena, x, y);
     match asked {
-        UnitResult::Done => {
+        Ok(()) => {
             let root = arena::local_root(arena);
-            BoolResult::Is(view::is_ancestor_of(arena, root, x, y))
+            Ok(view::is_ancestor_of(arena, root, x, y))
         }
-        UnitResult::Refused(refusal) => BoolResult::Refused(refusal),
+        Err(refusal) => Err(refusal),
     }
 }
 
 // Whether two nodes have one site: the same stack and the same path. Refused 1 to 4.
-pub fn same_site(arena: &[u8], a: u32, b: u32) -> BoolResult
+pub fn same_site(arena: &[u8], a: u32, b: u32) -> Result<bool, Refusal>
     ensures { AnsweredTest (ask_arena arena.now (compares_nodes (decode arena.now) a b))
         ((view (decode arena.now).nodes).same_site a b) result }
 {
     let asked = validate::ask_nodes(arena, a, b);
     match asked {
-        UnitResult::Done => BoolResult::Is(view::same_site(arena, a, b)),
-        UnitResult::Refused(refusal) => BoolResult::Refused(refusal),
+        Ok(()) => Ok(view::same_site(arena, a, b)),
+        Err(refusal) => Err(refusal),
     }
-}
-
-// The answer of `starting_node_of_class_hierarchy`: the node that inherits or specializes, then the
-// topmost class, if there is one.
-#[derive(Clone, Copy)]
-pub enum HierarchyRead {
-    Hierarchy(NodeId, NodeOption),
-    Refused(Refusal),
 }
 
 // Whether node n is a propagated specializes: arc Specialize, the local root as parent, and its
 // origin's site. Refused 1 to 4.
-pub fn is_propagated_specializes(arena: &[u8], n: u32) -> BoolResult
+pub fn is_propagated_specializes(arena: &[u8], n: u32) -> Result<bool, Refusal>
     ensures { AnsweredTest (ask_arena arena.now (reads_node (decode arena.now) n))
         (is_propagated_specializes (view (decode arena.now).nodes) n) result }
 {
     let asked = validate::ask_node(arena, n);
     match asked {
-        UnitResult::Done => {
+        Ok(()) => {
             let root = arena::local_root(arena);
-            BoolResult::Is(view::is_propagated_specializes(arena, root, n))
+            Ok(view::is_propagated_specializes(arena, root, n))
         }
-        UnitResult::Refused(refusal) => BoolResult::Refused(refusal),
+        Err(refusal) => Err(refusal),
     }
 }
 
 // The propagated specializes under the local root whose origin is node n, if there is one. Refused
 // 1 to 4.
-pub fn get_propagated_specializes_node(arena: &[u8], n: u32) -> NodeResult
+pub fn get_propagated_specializes_node(arena: &[u8], n: u32) -> Result<Option<NodeId>, Refusal>
     ensures { AnsweredNode (ask_arena arena.now (reads_node (decode arena.now) n))
         (get_propagated_specializes_node (decode arena.now) n) result }
 {
     let asked = validate::ask_node(arena, n);
     match asked {
-        UnitResult::Done => {
+        Ok(()) => {
             let root = arena::local_root(arena);
             let found = crate::propagated::find_copy(arena, root, n);
-            NodeResult::Found(NodeOption::of(found))
+            Ok(NodeId::from_number(found))
         }
-        UnitResult::Refused(refusal) => NodeResult::Refused(refusal),
+        Err(refusal) => Err(refusal),
     }
 }
 
 // Where the class hierarchy of node n starts, and its topmost class. Refused 1 to 4.
-pub fn starting_node_of_class_hierarchy(arena: &[u8], n: u32) -> HierarchyRead
+pub fn starting_node_of_class_hierarchy(arena: &[u8], n: u32) -> Result<(NodeId, Option<NodeId>), Refusal>
     ensures { HierarchyAnswered arena.now n result }
 {
     let asked = validate::ask_node(arena, n);
     match asked {
-        UnitResult::Done => {
+        Ok(()) => {
             let root = arena::local_root(arena);
             let found = view::starting_node_of_class_hierarchy(arena, root, n);
-            HierarchyRead::Hierarchy(NodeId(found.instance), NodeOption::of(found.class_node))
+            HierarchyRead::Hierarchy(NodeId(found.instance), NodeId::from_number(found.class_node))
         }
-        UnitResult::Refused(refusal) => HierarchyRead::Refused(refusal),
+        Err(refusal) => Err(refusal),
     }
 }

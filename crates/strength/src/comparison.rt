@@ -8,9 +8,9 @@ ghost use Rattle.model.specs.Strength.{compare_sibling_node_strength, compare_no
 ghost use Rattle.view.specs.View.{view_in, ValidNodeAndRoot};
 ghost use Rattle.strength.specs.Verdicts.{Pair};
 
-use crate::lines::SettledEarly;
-use model::{Ordering, Verdict};
+use model::Verdict;
 use view::Parting;
+use std::cmp::Ordering;
 
 // Which of two siblings is the stronger. Two arcs settle it here: a caller's loop has no call for
 // them.
@@ -19,8 +19,8 @@ pub fn compare_sibling_node_strength(arena: &[u8], root: u32, a: u32, b: u32) ->
     ensures { result ≡ compare_sibling_node_strength (view_in arena.now) a b }
 {
     match crate::lines::by_rank(arena, root, a, b) {
-        SettledEarly::As(o) => o,
-        SettledEarly::Open => settle_siblings(arena, root, a, b),
+        Some(o) => o,
+        None => settle_siblings(arena, root, a, b),
     }
 }
 
@@ -30,8 +30,8 @@ fn settle_siblings(arena: &[u8], root: u32, a: u32, b: u32) -> Ordering
     ensures { result ≡ compare_sibling_node_strength (view_in arena.now) a b }
 {
     match crate::lines::settle(arena, root, a, b) {
-        SettledEarly::As(o) => o,
-        SettledEarly::Open => compare_siblings(arena, root, a, b),
+        Some(o) => o,
+        None => compare_siblings(arena, root, a, b),
     }
 }
 
@@ -64,8 +64,8 @@ pub fn compare_node_strength(arena: &[u8], root: u32, a: u32, b: u32) -> Orderin
         Parting::Above => Ordering::Less,
         Parting::Below => Ordering::Greater,
         Parting::Apart(x, y) => match crate::lines::by_rank(arena, root, x, y) {
-            SettledEarly::As(o) => o,
-            SettledEarly::Open => compare_siblings(arena, root, x, y),
+            Some(o) => o,
+            None => compare_siblings(arena, root, x, y),
         },
     }
 }

@@ -6,14 +6,8 @@ ghost use Rattle.view.specs.View.{view_in};
 ghost use Rattle.strength.specs.Verdicts.{Pair, DecidedBy};
 ghost use Rattle.strength.specs.Settled.{IsSettledEarly};
 
-use model::{Ordering, Verdict};
-
-// Two siblings settled at once, by their own records, or not.
-#[derive(Clone, Copy)]
-pub(crate) enum SettledEarly {
-    As(Ordering),
-    Open,
-}
+use model::Verdict;
+use std::cmp::Ordering;
 
 // "3. Larger depth. 4. Node strength of the origins. 5. Smaller sibling number, then smaller node
 // number."
@@ -55,45 +49,45 @@ pub(crate) fn weigh(arena: &[u8], root: u32, a: u32, b: u32) -> Verdict
 }
 
 // What the plain lines settle at once: where they ask of one node twice, it is Equal.
-fn settle_plain(arena: &[u8], root: u32, a: u32, b: u32) -> SettledEarly
+fn settle_plain(arena: &[u8], root: u32, a: u32, b: u32) -> Option<Ordering>
     requires pair { Pair arena.now root a b × ((view_in arena.now).rank a ≡ (view_in arena.now).rank b) }
     requires b_value { ((view_in arena.now).special a && (view_in arena.now).special b) ≡ false }
     ensures { IsSettledEarly (view_in arena.now) a b result }
 {
     match weigh_plain(arena, root, a, b) {
-        Verdict::Settled(o) => SettledEarly::As(o),
+        Verdict::Settled(o) => Some(o),
         Verdict::Ask(x, y, o) => {
             if x == y {
-                return SettledEarly::As(o);
+                return Some(o);
             }
-            SettledEarly::Open
+            None
         }
     }
 }
 
 // "1. Smaller arc."
-pub(crate) fn by_rank(arena: &[u8], root: u32, a: u32, b: u32) -> SettledEarly
+pub(crate) fn by_rank(arena: &[u8], root: u32, a: u32, b: u32) -> Option<Ordering>
     requires { Pair arena.now root a b }
     ensures { IsSettledEarly (view_in arena.now) a b result }
 {
     let x = view::rank(arena, a) as u32;
     let y = view::rank(arena, b) as u32;
     if x != y {
-        return SettledEarly::As(crate::orderings::by_number(x, y));
+        return Some(crate::orderings::by_number(x, y));
     }
-    SettledEarly::Open
+    None
 }
 
 // What two siblings' own records settle: their arcs, then the plain lines.
-pub(crate) fn settle(arena: &[u8], root: u32, a: u32, b: u32) -> SettledEarly
+pub(crate) fn settle(arena: &[u8], root: u32, a: u32, b: u32) -> Option<Ordering>
     requires { Pair arena.now root a b }
     ensures { IsSettledEarly (view_in arena.now) a b result }
 {
     match by_rank(arena, root, a, b) {
-        SettledEarly::As(o) => SettledEarly::As(o),
-        SettledEarly::Open => {
+        Some(o) => Some(o),
+        None => {
             if both_specialize(arena, a, b) {
-                return SettledEarly::Open;
+                return None;
             }
             settle_plain(arena, root, a, b)
         }

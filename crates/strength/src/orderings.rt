@@ -3,7 +3,8 @@ ghost use Rattle.std.specs.Prelude.{◌≡◌};
 ghost use Rattle.model.specs.Order.{is_less};
 ghost use Rattle.model.specs.Strength.{first, smaller, having};
 
-use model::Ordering;
+use std::cmp::Ordering;
+
 
 // The smaller is the stronger.
 pub fn by_number(x: u32, y: u32) -> Ordering

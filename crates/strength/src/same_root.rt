@@ -6,8 +6,9 @@ ghost use Rattle.view.specs.View.{view_in};
 ghost use Rattle.view.specs.Walks.{RootOf};
 ghost use Rattle.strength.specs.Verdicts.{Pair, DecidedBy};
 
-use model::{Ordering, Verdict};
+use model::Verdict;
 use view::OriginRoot;
+use std::cmp::Ordering;
 
 // "2. Same origin: authored, sibling number, then node number; else implied over not implied, then
 // node number."

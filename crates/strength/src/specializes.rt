@@ -6,8 +6,9 @@ ghost use Rattle.view.specs.View.{view_in};
 ghost use Rattle.view.specs.Walks.{RootOf};
 ghost use Rattle.strength.specs.Verdicts.{Pair, DecidedBy};
 
-use model::{Ordering, Verdict};
+use model::Verdict;
 use view::OriginRoot;
+use std::cmp::Ordering;
 
 // "2. Same origin [..] 3. R differ: node strength of them. 4. [..]"
 fn weigh_origins(arena: &[u8], root: u32, a: u32, b: u32, ra: OriginRoot, rb: OriginRoot) -> Verdict

@@ -6,7 +6,8 @@ ghost use Rattle.view.specs.View.{view_in};
 ghost use Rattle.strength.specs.Verdicts.{Pair, DecidedBy, origins_then_numbers};
 
 use crate::orderings::{by_having, by_number, or_else};
-use model::{Ordering, Verdict};
+use model::Verdict;
+use std::cmp::Ordering;
 
 // The namespace depth of node n, as wide as the numbers that are compared.
 pub fn depth(arena: &[u8], n: u32) -> u32

@@ -1,5 +1,6 @@
 -- One record: what its test says, part by part (`ValidAfter`), and the ways in which it fails.
 -- Assumes nothing.
+use Rattle.std.specs.Prelude.{None, Some}
 use mathlib.Core.Path.{◌≡◌, refl, sym, ap, ◌∙◌}
 use mathlib.Core.Bool.{Bool, true, false, ◌&&◌, cond, and-false, or-true}
 use mathlib.Core.List.{List}
@@ -9,7 +10,6 @@ use lib.Dec.{eqb, ltb, leb}
 use lib.ListN.{length}
 use borrow.Author.Tests.{eqb-true, eq-eqb, ne_eqb, ltb-true, leb-true, le-leb, lt-leb, lt-ltb}
 use Rattle.model.specs.Path.{well_formed, prim_count, count_prims}
-use Rattle.model.specs.declared.PrimCount.TheVariants.{Names, Malformed}
 use Rattle.model.specs.Node.{invalid, root_arc}
 use Rattle.model.specs.Refusals.{refusal, most_nodes, most_path_bytes}
 use Rattle.model.specs.Arena.{shallow_in, prim_count_in, record_length_in, node_in}
@@ -131,7 +131,7 @@ names-formed : (n : ℕ) (p : List ℕ) → is_names n (count_prims p) ≡ (well
 unfolding count_prims
 names-formed n p = go (well_formed p)
   where
-    go : (t : Bool) → is_names n (cond t (Names (prim_count p)) Malformed) ≡ (t && eqb n (prim_count p))
+    go : (t : Bool) → is_names n (cond t (Some (prim_count p)) None) ≡ (t && eqb n (prim_count p))
     go true = refl
     go false = refl
 

@@ -2,6 +2,8 @@
 -- `record_questions` and those of `add_child`), by what they read of the graph before it: how many
 -- nodes it has, how many path bytes, and whether it has a local root; and by whether a culled node
 -- is allowed. And what the check answers. proofs/RecordCheckLaws.antt ties them to a graph.
+use Rattle.std.specs.Prelude.{Err, Ok, Result}
+use Rattle.model.specs.declared.Refusal.{Refusal}
 use Rattle.std.specs.Prelude.{◌≡◌, Bool, not, ◌||◌, ◌&&◌, cond, List, [], ◌∷◌, ℕ, ◌+◌, eqb, ltb, leb, length}
 use Rattle.model.specs.Path.{well_formed, prim_count}
 use Rattle.model.specs.Node.{invalid, root_arc, Node, has_flag, inert_flag, culled_flag}
@@ -9,8 +11,6 @@ use Rattle.model.specs.Graph.{Graph, size, has_local_root}
 use Rattle.model.specs.Refusals.{refusal_number, Question, ask, refusal, most_nodes, most_path_bytes, path_bytes}
 use Rattle.validate.specs.declared.record.RecordNumbers.{RecordNumbers}
 use Rattle.validate.specs.declared.record.Before.{Before}
-use Rattle.validate.specs.declared.record.Checked.{Checked}
-use Rattle.validate.specs.declared.record.Checked.TheVariants.{Accepted, Refused}
 
 -- those of a node
 abbrev pub numbers_of : Node → RecordNumbers
@@ -60,15 +60,15 @@ questions_at b x path =
 
 -- ---- The answer
 
-abbrev pub checked_refusal : Checked → ℕ
-checked_refusal (Accepted prims) = 0
-checked_refusal (Refused r) = refusal_number r
+abbrev pub checked_refusal : Result ℕ Refusal → ℕ
+checked_refusal (Ok prims) = 0
+checked_refusal (Err r) = refusal_number r
 
-abbrev pub checked_prims : Checked → ℕ
-checked_prims (Accepted prims) = prims
-checked_prims (Refused r) = 0
+abbrev pub checked_prims : Result ℕ Refusal → ℕ
+checked_prims (Ok prims) = prims
+checked_prims (Err r) = 0
 
 -- the first no of the questions; an accepted record has its path's prim count
-pub record RecordChecked (questions : List Question) (path : List ℕ) (r : Checked) : Type 0 where
+pub record RecordChecked (questions : List Question) (path : List ℕ) (r : Result ℕ Refusal) : Type 0 where
   pub refused : checked_refusal r ≡ refusal questions
   pub prims : checked_refusal r ≡ 0 → checked_prims r ≡ prim_count path

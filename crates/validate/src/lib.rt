@@ -9,4 +9,4 @@ mod record;
 
 pub use graph::is_graph;
 pub use questions::{ask_graph, ask_node, ask_node_zero, ask_nodes, ask_siblings, count};
-pub use record::{Before, Checked, RecordNumbers, check_record, is_culled, is_inert, with_culled};
+pub use record::{Before, RecordNumbers, check_record, is_culled, is_inert, with_culled};

@@ -9,7 +9,7 @@ ghost use Rattle.model.specs.Node.{has_flag, with_flag, inert_flag, culled_flag}
 ghost use Rattle.validate.specs.RecordCheck.{root_at, links_at, root_kind_at, kind_at};
 ghost use Rattle.validate.specs.RecordCheck.{room_at, questions_at, RecordChecked};
 
-use model::{PrimCount, Refusal};
+use model::Refusal;
 
 // The numbers of a record that its questions read.
 #[derive(Clone, Copy)]
@@ -29,13 +29,6 @@ pub struct Before {
     pub path_bytes: usize,
     pub has_root: bool,
     pub culled_allowed: bool,
-}
-
-// What the check of a record answers: the prim count of its path, or the refusal.
-#[derive(Clone, Copy)]
-pub enum Checked {
-    Accepted(u8),
-    Refused(Refusal),
 }
 
 // Whether the flag INERT is set.
@@ -147,21 +140,21 @@ fn narrow(names: u16) -> u8
 
 // The first question that the answer to is no, of a record with these numbers and this path; or its
 // prim count. `read` is what its path was read as: how it is read is the caller's choice.
-pub fn check_record(before: Before, numbers: RecordNumbers, path: &[u8], read: PrimCount) -> Checked
+pub fn check_record(before: Before, numbers: RecordNumbers, path: &[u8], read: Option<u16>) -> Result<u8, Refusal>
     requires { (before.path_bytes ≤ 32768) × (read ≡ count_prims path.now) }
     ensures { RecordChecked (questions_at before numbers path.now) path.now result }
 {
     if !links_allowed(before, numbers) {
-        return Checked::Refused(Refusal::Node);
+        return Err(Refusal::Node);
     }
-    let PrimCount::Names(names) = read else {
-        return Checked::Refused(Refusal::Path);
+    let Some(names) = read else {
+        return Err(Refusal::Path);
     };
     if !kind_allowed(before, numbers) {
-        return Checked::Refused(Refusal::Kind);
+        return Err(Refusal::Kind);
     }
     if !has_room(before, path.len()) {
-        return Checked::Refused(Refusal::Capacity);
+        return Err(Refusal::Capacity);
     }
-    Checked::Accepted(narrow(names))
+    Ok(narrow(names))
 }

@@ -8,7 +8,7 @@ use mathlib.Core.Logic.{◌⊎◌, inl, inr}
 use Prim.Native.Nat.{ℕ, ◌≤◌, ◌<◌}
 use native.Mathlib.Omega.{arith}
 use Rattle.model.specs.ArenaCalls.{ValidNode}
-use Rattle.model.specs.declared.Ordering.TheVariants.{Less, Equal, Greater}
+use Rattle.std.specs.declared.cmp.Ordering.TheVariants.{Less, Equal, Greater}
 use Rattle.model.specs.Strength.{View, chain, parting_by, compare_node_strength, compare_sibling_node_strength}
 use Rattle.laws.proofs.Views.{LegalView}
 use Rattle.laws.proofs.FollowLaws.{chain-step}

@@ -1,7 +1,7 @@
 -- What the answers of this crate's walks mean, by model/specs/Strength.antt and Hierarchy.antt.
 use Rattle.std.specs.Prelude.{◌≡◌, List, ◌∷◌, ◌++◌, ℕ, ◌≤◌, ◌<◌}
-use Rattle.model.specs.declared.Ordering.{Ordering}
-use Rattle.model.specs.declared.Ordering.TheVariants.{Less, Equal, Greater}
+use Rattle.std.specs.declared.cmp.Ordering.{Ordering}
+use Rattle.std.specs.declared.cmp.Ordering.TheVariants.{Less, Equal, Greater}
 use Rattle.model.specs.Strength.{View, origin_root_node, origin_hops, starting_node_of_class_hierarchy, chain}
 use Rattle.model.specs.Hierarchy.{topmost_class_node}
 use Rattle.view.specs.declared.origins.OriginRoot.{OriginRoot}

@@ -1,5 +1,6 @@
 -- `append_child_name` meets its contract: the questions in their order, and then the bytes. Assumes
 -- nothing.
+use Rattle.std.specs.Prelude.{Ok}
 use native.Mathlib.Omega.{arith}
 use Rattle.path.proofs.JoiningLaws.{joinable-short, refused-size, refused-path, refused-capacity, joinable, joinable-named, accepted}
 use Rattle.path.proofs.JoinLaws.{length-append-name}
@@ -10,7 +11,6 @@ use mathlib.Core.Bool.{true}
 use mathlib.Core.List.{List, ◌++◌}
 use lib.ListN.{length, drop}
 use Rattle.model.specs.Path.{last_name, append_name}
-use Rattle.model.specs.declared.Appended.TheVariants.{Length}
 use Rattle.path.proofs.append_child_name.Goals as goal
 
 pub returns-then-out-ne255 : goal.returns-then-out-ne255
@@ -51,7 +51,7 @@ returns c =
     sym c.can_join.ensures ∙ not-false _ c.if-not-can_join.false-raw in
     let ends : c.joint-at.result + length c.last_name-name.result.now ≡ length (append_name c.args.path.now (last_name c.args.child.now)) =
     omega (arith, c.joint-at.ensures, ap length c.last_name-name.ensures, length-append-name c.args.path.now (last_name c.args.child.now)) in record {
-      value = ap Length ends
+      value = ap Ok ends
           ∙ accepted c.args.path.now c.args.child.now c.args.out.now c.if-out-ne255.false joins (omega (arith, ends, c.if-end-gt255.false));
       out_after = c.put_joined.ensures
           ∙ ap (λ (l : List ℕ). append_name c.args.path.now l ++ drop (c.joint-at.result + length c.last_name-name.result.now) c.args.out.now)

@@ -1,7 +1,7 @@
 -- `is_before` meets its contract: what a verdict asks are both origins or both R, and these have
 -- places. Assumes nothing.
 use mathlib.Core.Path.{refl, ap, ◌∙◌}
-use Rattle.model.specs.declared.Ordering.{Ordering}
+use Rattle.std.specs.declared.cmp.Ordering.{Ordering}
 use Rattle.model.specs.Order.{is_less}
 use Rattle.model.specs.Strength.{first}
 use Rattle.certificate.proofs.CertificateParts.{asked-placed, settled_before, asked-before}

@@ -1,9 +1,9 @@
 -- `init_root` meets its contract: the questions in their order, and then node 0. Assumes nothing.
+use Rattle.std.specs.Prelude.{Some}
 use mathlib.Core.Path.{◌≡◌, sym, ap, ◌∙◌}
 use mathlib.Core.Bool.{true}
 use mathlib.Core.List.{[]}
 use Rattle.model.specs.Path.{well_formed, count_prims}
-use Rattle.model.specs.declared.PrimCount.TheVariants.{Names}
 use Rattle.model.specs.Node as model
 use Rattle.model.specs.Graph.{with_node}
 use Rattle.arena.specs.declared.Node.{Node}
@@ -38,7 +38,7 @@ returns-in_default c =
 
 pub start_record-requires : goal.start_record-requires
 start_record-requires c =
-    let counted : count_prims c.args.path.now ≡ Names c.in-Names.prims =
+    let counted : count_prims c.args.path.now ≡ Some c.in-Names.prims =
     sym c.prim_count-read.ensures ∙ c.in-Names.is in
     let formed : well_formed c.args.path.now ≡ true =
     sym (counted-well-formed _ _ counted) in
@@ -48,7 +48,7 @@ pub append_node-requires : goal.append_node-requires
 append_node-requires c =
     let opened : ValidArena c.args.arena.now =
     passed-opened _ [] (sym (rw c.in-Done.is at c.ask_graph-asked.ensures)) in
-    let counted : count_prims c.args.path.now ≡ Names c.in-Names.prims =
+    let counted : count_prims c.args.path.now ≡ Some c.in-Names.prims =
     sym c.prim_count-read.ensures ∙ c.in-Names.is in
     let formed : well_formed c.args.path.now ≡ true =
     sym (counted-well-formed _ _ counted) in
@@ -61,7 +61,7 @@ pub returns-in-Names : goal.returns-in-Names
 returns-in-Names c =
     let opened : ValidArena c.args.arena.now =
     passed-opened _ [] (sym (rw c.in-Done.is at c.ask_graph-asked.ensures)) in
-    let counted : count_prims c.args.path.now ≡ Names c.in-Names.prims =
+    let counted : count_prims c.args.path.now ≡ Some c.in-Names.prims =
     sym c.prim_count-read.ensures ∙ c.in-Names.is in
     let formed : well_formed c.args.path.now ≡ true =
     sym (counted-well-formed _ _ counted) in

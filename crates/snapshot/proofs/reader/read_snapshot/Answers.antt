@@ -2,7 +2,7 @@
 -- else it is filled. Assumes nothing.
 use mathlib.Core.Path.{◌≡◌, refl, sym, ap, ◌∙◌}
 use Rattle.model.specs.Graph.{empty_graph}
-use Rattle.model.specs.Answers.{unit_refusal}
+use Rattle.model.specs.Answers.{answer_refusal}
 use Rattle.model.specs.Calls.{read_into}
 use Rattle.snapshot.specs.SnapshotReading.{Exact}
 use Rattle.snapshot.proofs.ReaderLaws.{exact_read, not-exact, refused-read, filled-read}
@@ -26,12 +26,12 @@ fill-requires c =
     let exact : Exact c.args.bytes.now c.in-Number.count =
     exact_read c.args.bytes.now _ (sym c.check_lengths.ensures ∙ c.in-Number.is) in
     let passed : (read_into c.args.bytes.now empty_graph).refused ≡ 0 =
-    sym c.check_records-checked.ensures.refused ∙ ap unit_refusal c.in_default-checked.is in
+    sym c.check_records-checked.ensures.refused ∙ ap answer_refusal c.in_default-checked.is in
     record {
       whole = c.requires;
       exact = exact;
       accepted = passed;
-      named = c.check_records-checked.ensures.named (ap unit_refusal c.in_default-checked.is);
+      named = c.check_records-checked.ensures.named (ap answer_refusal c.in_default-checked.is);
       long = c.check_records-checked.auto.prims;
     }
 
@@ -40,5 +40,5 @@ returns c =
     let exact : Exact c.args.bytes.now c.in-Number.count =
     exact_read c.args.bytes.now _ (sym c.check_lengths.ensures ∙ c.in-Number.is) in
     let passed : (read_into c.args.bytes.now empty_graph).refused ≡ 0 =
-    sym c.check_records-checked.ensures.refused ∙ ap unit_refusal c.in_default-checked.is in
+    sym c.check_records-checked.ensures.refused ∙ ap answer_refusal c.in_default-checked.is in
     filled-read c.args.bytes.now c.args.arena.now _ _ exact passed c.fill.ensures

@@ -1,10 +1,10 @@
 -- `check_record` meets its contract: the questions in their order. Assumes nothing.
+use Rattle.std.specs.Prelude.{Some}
 use mathlib.Core.Path.{◌≡◌, sym, ◌∙◌}
 use mathlib.Core.Bool.{true}
 use borrow.Author.Tests.{not-true, not-false}
 use Rattle.path.proofs.ReadingLaws.{counted-well-formed, uncounted-malformed}
 use Rattle.model.specs.Path.{count_prims}
-use Rattle.model.specs.declared.PrimCount.TheVariants.{Names}
 use Rattle.validate.specs.RecordCheck.{links_at}
 use Rattle.validate.proofs.RecordCheckLaws.{counted-names, few-names, refused-4, refused-5, refused-6, refused-7, accepted}
 use Rattle.validate.proofs.record.check_record.Goals as goal
@@ -24,7 +24,7 @@ pub returns-then-not-kind_allowed : goal.returns-then-not-kind_allowed
 returns-then-not-kind_allowed c =
     let linked : links_at c.args.before c.args.numbers ≡ true =
     sym c.links_allowed.ensures ∙ not-false _ c.if-not-links_allowed.false-raw in
-    let counted : count_prims c.args.path.now ≡ Names c.in-Names.names =
+    let counted : count_prims c.args.path.now ≡ Some c.in-Names.names =
     sym c.requires.1 ∙ c.in-Names.is in
     refused-6 _ _ _ _ _ linked (sym (counted-well-formed _ _ counted))
     (sym c.kind_allowed.ensures ∙ not-true _ c.if-not-kind_allowed.true-raw)
@@ -33,7 +33,7 @@ pub returns-then-not-has_room : goal.returns-then-not-has_room
 returns-then-not-has_room c =
     let linked : links_at c.args.before c.args.numbers ≡ true =
     sym c.links_allowed.ensures ∙ not-false _ c.if-not-links_allowed.false-raw in
-    let counted : count_prims c.args.path.now ≡ Names c.in-Names.names =
+    let counted : count_prims c.args.path.now ≡ Some c.in-Names.names =
     sym c.requires.1 ∙ c.in-Names.is in
     refused-7 _ _ _ _ _ linked
     (sym (counted-well-formed _ _ counted))
@@ -42,7 +42,7 @@ returns-then-not-has_room c =
 
 pub narrow-requires : goal.narrow-requires
 narrow-requires c =
-    let counted : count_prims c.args.path.now ≡ Names c.in-Names.names =
+    let counted : count_prims c.args.path.now ≡ Some c.in-Names.names =
     sym c.requires.1 ∙ c.in-Names.is in
     few-names _ _ counted
 
@@ -50,7 +50,7 @@ pub returns : goal.returns
 returns c =
     let linked : links_at c.args.before c.args.numbers ≡ true =
     sym c.links_allowed.ensures ∙ not-false _ c.if-not-links_allowed.false-raw in
-    let counted : count_prims c.args.path.now ≡ Names c.in-Names.names =
+    let counted : count_prims c.args.path.now ≡ Some c.in-Names.names =
     sym c.requires.1 ∙ c.in-Names.is in
     accepted _ _ _ _ _ _ linked
     (sym (counted-well-formed _ _ counted))
