@@ -6,7 +6,6 @@
 -- and question 2 passes (`erased-opened`, `erased-count`, `erased-stands`). Each law asks that the
 -- arena has bytes only, as every lent buffer has. Assumes nothing.
 use Rattle.std.specs.Prelude.{Ok, Result}
-use mathlib.Core.Unit.{tt}
 use Rattle.model.specs.declared.Refusal.{Refusal}
 use mathlib.Core.Path.{◌≡◌, refl, sym, ap, ◌∙◌, subst}
 use mathlib.Core.Bool.{Bool, true, false, not, and-eq-true_iff}

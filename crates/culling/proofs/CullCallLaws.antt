@@ -1,7 +1,6 @@
 -- The ways that the call that culls ends: refused (`cull-refused`) and done (`cull-done`). Assumes
 -- nothing.
 use Rattle.std.specs.Prelude.{Err, Ok}
-use mathlib.Core.Unit.{tt}
 use mathlib.Core.Path.{◌≡◌, refl}
 use mathlib.Core.List.{List, [], ◌∷◌}
 use Prim.Native.Nat.{ℕ}

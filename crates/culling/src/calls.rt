@@ -10,12 +10,7 @@ use model::Refusal;
 pub fn cull_subtrees_without_opinions(arena: &mut [u8]) -> Result<(), Refusal>
     ensures { Culled arena.old result arena.new }
 {
-    let asked = validate::ask_node_zero(arena);
-    match asked {
-        Ok(()) => {
-            crate::flags::cull(arena);
-            Ok(())
-        }
-        Err(refusal) => Err(refusal),
-    }
+    validate::ask_node_zero(arena)?;
+    crate::flags::cull(arena);
+    Ok(())
 }

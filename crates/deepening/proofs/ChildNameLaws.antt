@@ -3,7 +3,6 @@
 -- (`can-deepen`), and the ways that the calls end (`deepen-refused`, `deepen-done`; `seed-refused`,
 -- `seed-done`). Assumes nothing.
 use Rattle.std.specs.Prelude.{Err, Ok}
-use mathlib.Core.Unit.{tt}
 use mathlib.Core.Path.{◌≡◌, refl, sym, ◌∙◌}
 use mathlib.Core.Bool.{Bool, true, false, ◌&&◌, cond, and-eq-true_iff}
 use mathlib.Core.List.{List, [], ◌∷◌}

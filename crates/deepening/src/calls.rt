@@ -17,23 +17,18 @@ fn ask(arena: &[u8], child: &[u8]) -> Result<(), Refusal>
     ensures { answer_refusal result ≡ refusal
         (ask_arena arena.now (deepen_questions child.now (decode arena.now))) }
 {
-    let asked = validate::ask_node_zero(arena);
-    match asked {
-        Ok(()) => {
-            if !path::is_well_formed(child) {
-                return Err(Refusal::Path);
-            }
-            let name = path::last_name(child);
-            if name.len() == 0 {
-                return Err(Refusal::Path);
-            }
-            if !crate::appending::paths_fit(arena, name) {
-                return Err(Refusal::Capacity);
-            }
-            Ok(())
-        }
-        Err(refusal) => Err(refusal),
+    validate::ask_node_zero(arena)?;
+    if !path::is_well_formed(child) {
+        return Err(Refusal::Path);
     }
+    let name = path::last_name(child);
+    if name.len() == 0 {
+        return Err(Refusal::Path);
+    }
+    if !crate::appending::paths_fit(arena, name) {
+        return Err(Refusal::Capacity);
+    }
+    Ok(())
 }
 
 // Appends the last name of the child's path to the path of every node. Refused 1, 2, 3, 5 where the
@@ -42,14 +37,9 @@ fn ask(arena: &[u8], child: &[u8]) -> Result<(), Refusal>
 pub fn append_child_name_to_all_sites(arena: &mut [u8], child: &[u8]) -> Result<(), Refusal>
     ensures { Deepened child.now arena.old result arena.new }
 {
-    let asked = ask(arena, child);
-    match asked {
-        Ok(()) => {
-            crate::appending::append_name_to_all_sites(arena, path::last_name(child));
-            Ok(())
-        }
-        Err(refusal) => Err(refusal),
-    }
+    ask(arena, child)?;
+    crate::appending::append_name_to_all_sites(arena, path::last_name(child));
+    Ok(())
 }
 
 // Fills the arena `into`, whatever it held, with the graph of `from`, the last name of the child's
@@ -61,12 +51,7 @@ pub fn seed_child(from: &[u8], into: &mut [u8], child: &[u8]) -> Result<(), Refu
     if into.len() != arena::ARENA_BYTES {
         return Err(Refusal::Size);
     }
-    let asked = ask(from, child);
-    match asked {
-        Ok(()) => {
-            crate::appending::seed(from, into, path::last_name(child));
-            Ok(())
-        }
-        Err(refusal) => Err(refusal),
-    }
+    ask(from, child)?;
+    crate::appending::seed(from, into, path::last_name(child));
+    Ok(())
 }

@@ -1,7 +1,6 @@
 -- The ways that the calls that find the erasable set and erase a set end: refused (`set-refused`,
 -- `erase-refused`) and done (`set-done`, `erase-done`). Assumes nothing.
 use Rattle.std.specs.Prelude.{Err, Ok}
-use mathlib.Core.Unit.{tt}
 use mathlib.Core.Path.{◌≡◌, refl, sym, ap, ◌∙◌}
 use mathlib.Core.Bool.{Bool, true, false, ◌&&◌, cond}
 use mathlib.Core.List.{List, [], ◌∷◌}

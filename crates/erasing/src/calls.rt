@@ -14,14 +14,9 @@ pub fn erasable(arena: &[u8], set: &mut [u8]) -> Result<(), Refusal>
     if set.len() != arena::SET_BYTES {
         return Err(Refusal::Size);
     }
-    let asked = validate::ask_node_zero(arena);
-    match asked {
-        Ok(()) => {
-            crate::sets::erasable(arena, set);
-            Ok(())
-        }
-        Err(refusal) => Err(refusal),
-    }
+    validate::ask_node_zero(arena)?;
+    crate::sets::erasable(arena, set);
+    Ok(())
 }
 
 // Erases the nodes whose byte in `set` is 1, renumbers the rest in order, and answers how many are
@@ -33,14 +28,9 @@ pub fn erase(arena: &mut [u8], set: &[u8]) -> Result<u32, Refusal>
     if set.len() != arena::SET_BYTES {
         return Err(Refusal::Size);
     }
-    let asked = validate::ask_node_zero(arena);
-    match asked {
-        Ok(()) => {
-            if !crate::sets::can_erase(arena, set) {
-                return Err(Refusal::EraseSet);
-            }
-            Ok(crate::in_place::erase(arena, set))
-        }
-        Err(refusal) => Err(refusal),
+    validate::ask_node_zero(arena)?;
+    if !crate::sets::can_erase(arena, set) {
+        return Err(Refusal::EraseSet);
     }
+    Ok(crate::in_place::erase(arena, set))
 }

@@ -2,7 +2,6 @@
 -- the answers that are right: one law for each way a call can end, whatever its questions are.
 -- Assumes nothing.
 use Rattle.std.specs.Prelude.{Err, Ok, Option, Result}
-use mathlib.Core.Unit.{tt}
 use Rattle.model.specs.declared.NodeId.{NodeId}
 use mathlib.Core.Path.{◌≡◌, refl, sym, ap, ◌∙◌}
 use mathlib.Core.Bool.{Bool, true, false, ◌&&◌, cond}

@@ -104,14 +104,9 @@ pub fn write_listing(arena: &[u8], out: &mut [u8]) -> Result<u32, Refusal>
     if out.len() != arena::ARENA_BYTES {
         return Err(Refusal::Size);
     }
-    let asked = validate::ask_node_zero(arena);
-    match asked {
-        Ok(()) => {
-            if arena::ordered(arena) != 1 {
-                return Err(Refusal::NotOrdered);
-            }
-            Ok(put_listing(arena, out) as u32)
-        }
-        Err(refusal) => Err(refusal),
+    validate::ask_node_zero(arena)?;
+    if arena::ordered(arena) != 1 {
+        return Err(Refusal::NotOrdered);
     }
+    Ok(put_listing(arena, out) as u32)
 }

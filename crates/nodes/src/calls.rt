@@ -53,26 +53,21 @@ pub fn init_root(arena: &mut [u8], stack: u32, layer: u32, path: &[u8]) -> Resul
     ensures { Wrote (on_arena (init_root stack layer path.now) arena.old)
         arena.old result arena.new }
 {
-    let asked = validate::ask_graph(arena);
-    match asked {
-        Ok(()) => {
-            if arena::count(arena) != 0 {
-                return Err(Refusal::NodeZero);
-            }
-            let read = path::prim_count(path);
-            let Some(prims) = read else {
-                return Err(Refusal::Path);
-            };
-            child_lists::append_node(
-                arena,
-                0,
-                start_record(stack, layer, prims, path.len()),
-                path,
-            );
-            Ok(0)
-        }
-        Err(refusal) => Err(refusal),
+    validate::ask_graph(arena)?;
+    if arena::count(arena) != 0 {
+        return Err(Refusal::NodeZero);
     }
+    let read = path::prim_count(path);
+    let Some(prims) = read else {
+        return Err(Refusal::Path);
+    };
+    child_lists::append_node(
+        arena,
+        0,
+        start_record(stack, layer, prims, path.len()),
+        path,
+    );
+    Ok(0)
 }
 
 // Adds the node as the last child of its parent and answers its number. Refused 1 to 7.
@@ -80,33 +75,20 @@ pub fn add_child(arena: &mut [u8], desc: NodeDesc, path: &[u8]) -> Result<u32, R
     ensures { Wrote (on_arena (add_child (desc_of desc path.now)) arena.old)
         arena.old result arena.new }
 {
-    let asked = validate::ask_node_zero(arena);
-    match asked {
-        Ok(()) => {
-            let count = arena::count(arena);
-            let checked = crate::description::check_desc(arena, count, desc, path);
-            match checked {
-                Ok(prims) => {
-                    let node = crate::description::added_record(arena, desc, prims, path.len());
-                    child_lists::append_node(arena, count, node, path);
-                    Ok(count)
-                }
-                Err(refusal) => Err(refusal),
-            }
-        }
-        Err(refusal) => Err(refusal),
-    }
+    validate::ask_node_zero(arena)?;
+    let count = arena::count(arena);
+    let prims = crate::description::check_desc(arena, count, desc, path)?;
+    let node = crate::description::added_record(arena, desc, prims, path.len());
+    child_lists::append_node(arena, count, node, path);
+    Ok(count)
 }
 
 // The record of node n, with its links. Refused 1 to 4.
 pub fn node(arena: &[u8], n: u32) -> Result<arena::Node, Refusal>
     ensures { NodeAnswered arena.now n result }
 {
-    let asked = validate::ask_node(arena, n);
-    match asked {
-        Ok(()) => Ok(arena::load_node(arena, n)),
-        Err(refusal) => Err(refusal),
-    }
+    validate::ask_node(arena, n)?;
+    Ok(arena::load_node(arena, n))
 }
 
 // The parent's prim count less the node's depth, at least 0. Refused 1 to 4.
@@ -114,11 +96,8 @@ pub fn depth_below_introduction(arena: &[u8], n: u32) -> Result<u32, Refusal>
     ensures { Answered (ask_arena arena.now (reads_node (decode arena.now) n))
         (depth_below_introduction (decode arena.now).nodes n) result }
 {
-    let asked = validate::ask_node(arena, n);
-    match asked {
-        Ok(()) => Ok(view::depth_below(arena, n) as u32),
-        Err(refusal) => Err(refusal),
-    }
+    validate::ask_node(arena, n)?;
+    Ok(view::depth_below(arena, n) as u32)
 }
 
 // Whether node n was introduced above this prim: that depth is not 0. Refused 1 to 4.
@@ -126,11 +105,8 @@ pub fn is_due_to_ancestor(arena: &[u8], n: u32) -> Result<bool, Refusal>
     ensures { AnsweredTest (ask_arena arena.now (reads_node (decode arena.now) n))
         (is_due_to_ancestor (decode arena.now).nodes n) result }
 {
-    let asked = validate::ask_node(arena, n);
-    match asked {
-        Ok(()) => Ok(0 < view::depth_below(arena, n)),
-        Err(refusal) => Err(refusal),
-    }
+    validate::ask_node(arena, n)?;
+    Ok(0 < view::depth_below(arena, n))
 }
 
 // What an arena's header tells of its graph.
@@ -182,11 +158,8 @@ fn read_info(arena: &[u8], count: u32) -> GraphInfo
 pub fn graph_info(arena: &[u8]) -> Result<GraphInfo, Refusal>
     ensures { GraphAnswered arena.now result }
 {
-    let counted = validate::count(arena);
-    match counted {
-        Ok(nodes) => Ok(read_info(arena, nodes)),
-        Err(refusal) => Err(refusal),
-    }
+    let nodes = validate::count(arena)?;
+    Ok(read_info(arena, nodes))
 }
 
 // Whether a node with these flags is neither INERT nor CULLED.
@@ -234,15 +207,10 @@ pub fn node_using_site(arena: &[u8], stack: u32, path: &[u8]) -> Result<Option<N
         (calls.uses_site (decode arena.now) path.now))
         (node_using_site stack path.now (decode arena.now)) result }
 {
-    let asked = validate::ask_node_zero(arena);
-    match asked {
-        Ok(()) => {
-            if !path::is_well_formed(path) {
-                return Err(Refusal::Path);
-            }
-            let found = lowest(arena, arena::count(arena), stack, path);
-            Ok(NodeId::from_number(found))
-        }
-        Err(refusal) => Err(refusal),
+    validate::ask_node_zero(arena)?;
+    if !path::is_well_formed(path) {
+        return Err(Refusal::Path);
     }
+    let found = lowest(arena, arena::count(arena), stack, path);
+    Ok(NodeId::from_number(found))
 }

@@ -5,7 +5,7 @@
 // The paths are model/specs/Graph.antt's; what a call leaves is `PutPath` of
 // model/specs/ArenaCalls.antt.
 ghost use Rattle.std.specs.Prelude.{◌≡◌, ◌≤◌, length};
-ghost use Rattle.model.specs.Answers.{answer_refusal, answer_refusal, number_value};
+ghost use Rattle.model.specs.Answers.{answer_refusal, number_value};
 ghost use Rattle.model.specs.Arena.{decode};
 ghost use Rattle.model.specs.ArenaCalls.{ask_path, PutPath};
 ghost use Rattle.model.specs.Bytes.{stored};
@@ -42,11 +42,8 @@ pub fn path(arena: &[u8], n: u32, buffer: &mut [u8]) -> Result<u32, Refusal>
         (ask_path arena.now buffer.old (reads_node (decode arena.now) n))
         (node_at (decode arena.now).nodes n).path buffer.old result buffer.new }
 {
-    let asked = ask(arena, n, buffer);
-    match asked {
-        Ok(()) => put(arena::path(arena, n), buffer),
-        Err(refusal) => Err(refusal),
-    }
+    ask(arena, n, buffer)?;
+    put(arena::path(arena, n), buffer)
 }
 
 // The path of node n at its introduction: taken back by its depth below introduction.
@@ -55,17 +52,12 @@ pub fn path_at_introduction(arena: &[u8], n: u32, buffer: &mut [u8]) -> Result<u
         (ask_path arena.now buffer.old (reads_node (decode arena.now) n))
         (path_at_introduction (decode arena.now).nodes n) buffer.old result buffer.new }
 {
-    let asked = ask(arena, n, buffer);
-    match asked {
-        Ok(()) => {
-            let depth = view::depth_below(arena, n);
-            put(
-                path::path_at_intro_depth(arena::path(arena, n), depth),
-                buffer,
-            )
-        }
-        Err(refusal) => Err(refusal),
-    }
+    ask(arena, n, buffer)?;
+    let depth = view::depth_below(arena, n);
+    put(
+        path::path_at_intro_depth(arena::path(arena, n), depth),
+        buffer,
+    )
 }
 
 // The path of the site that introduced node n: its parent's, taken back by that depth; `/` of node
@@ -75,19 +67,14 @@ pub fn intro_path(arena: &[u8], n: u32, buffer: &mut [u8]) -> Result<u32, Refusa
         (ask_path arena.now buffer.old (reads_node (decode arena.now) n))
         (intro_path (decode arena.now).nodes n) buffer.old result buffer.new }
 {
-    let asked = ask(arena, n, buffer);
-    match asked {
-        Ok(()) => {
-            if n == 0 {
-                return put(b"/", buffer);
-            }
-            let depth = view::depth_below(arena, n);
-            let parent = view::parent(arena, n);
-            put(
-                path::path_at_intro_depth(arena::path(arena, parent), depth),
-                buffer,
-            )
-        }
-        Err(refusal) => Err(refusal),
+    ask(arena, n, buffer)?;
+    if n == 0 {
+        return put(b"/", buffer);
     }
+    let depth = view::depth_below(arena, n);
+    let parent = view::parent(arena, n);
+    put(
+        path::path_at_intro_depth(arena::path(arena, parent), depth),
+        buffer,
+    )
 }

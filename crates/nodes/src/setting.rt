@@ -86,18 +86,13 @@ pub fn mark(arena: &mut [u8], n: u32, flags: u8) -> Result<(), Refusal>
     ensures { Finishes (on_arena (mark n flags) arena.old)
         arena.old result arena.new }
 {
-    let asked = validate::ask_node(arena, n);
-    match asked {
-        Ok(()) => {
-            if !may_mark(arena::arc(arena, n), flags) {
-                return Err(Refusal::Kind);
-            }
-            let joined = with_flags(flags, arena::flags(arena, n));
-            arena::write_flags(arena, n, joined);
-            Ok(())
-        }
-        Err(refusal) => Err(refusal),
+    validate::ask_node(arena, n)?;
+    if !may_mark(arena::arc(arena, n), flags) {
+        return Err(Refusal::Kind);
     }
+    let joined = with_flags(flags, arena::flags(arena, n));
+    arena::write_flags(arena, n, joined);
+    Ok(())
 }
 
 // ---- Specs
@@ -119,14 +114,9 @@ pub fn set_first_spec(arena: &mut [u8], n: u32, first: Option<u16>) -> Result<()
     ensures { Finishes (on_arena (set_first_spec n (number_option first)) arena.old)
         arena.old result arena.new }
 {
-    let asked = validate::ask_node(arena, n);
-    match asked {
-        Ok(()) => {
-            write_first_spec(arena, n, first);
-            Ok(())
-        }
-        Err(refusal) => Err(refusal),
-    }
+    validate::ask_node(arena, n)?;
+    write_first_spec(arena, n, first);
+    Ok(())
 }
 
 // Sets whether node n has specs, without saying which layer has the first: position 0. Refused 1 to
@@ -148,12 +138,7 @@ pub fn set_restriction_depth(arena: &mut [u8], n: u32, depth: u16) -> Result<(),
     ensures { Finishes (on_arena (set_restriction_depth n depth) arena.old)
         arena.old result arena.new }
 {
-    let asked = validate::ask_node(arena, n);
-    match asked {
-        Ok(()) => {
-            arena::write_restriction(arena, n, depth);
-            Ok(())
-        }
-        Err(refusal) => Err(refusal),
-    }
+    validate::ask_node(arena, n)?;
+    arena::write_restriction(arena, n, depth);
+    Ok(())
 }

@@ -1,7 +1,6 @@
 -- The ways that ordering a graph ends: refused (`finalize-refused`, `no-order`) and done
 -- (`finalize-again`, `finalize-done`). Assumes nothing.
 use Rattle.std.specs.Prelude.{Err, Ok}
-use mathlib.Core.Unit.{tt}
 use mathlib.Core.Path.{◌≡◌, refl, sym, ap, ◌∙◌}
 use mathlib.Core.Bool.{Bool, true, false, ◌||◌, cond}
 use mathlib.Core.List.{List, [], ◌∷◌}

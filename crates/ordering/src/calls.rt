@@ -16,19 +16,14 @@ use model::Refusal;
 pub fn finalize_strength_order(arena: &mut [u8]) -> Result<(), Refusal>
     ensures { Finalized arena.old result arena.new }
 {
-    let asked = validate::ask_node_zero(arena);
-    match asked {
-        Ok(()) => {
-            if arena::finalized(arena) == 1 {
-                return Ok(());
-            }
-            if !crate::writing::order_graph(arena) {
-                return Err(Refusal::NoOrder);
-            }
-            Ok(())
-        }
-        Err(refusal) => Err(refusal),
+    validate::ask_node_zero(arena)?;
+    if arena::finalized(arena) == 1 {
+        return Ok(());
     }
+    if !crate::writing::order_graph(arena) {
+        return Err(Refusal::NoOrder);
+    }
+    Ok(())
 }
 
 // Question 10: whether the order counts.
@@ -47,18 +42,13 @@ pub fn strength_order(arena: &[u8], out: &mut [u8]) -> Result<u32, Refusal>
     if out.len() != arena::ORDER_BYTES {
         return Err(Refusal::Size);
     }
-    let asked = validate::ask_node_zero(arena);
-    match asked {
-        Ok(()) => {
-            if !is_ordered(arena) {
-                return Err(Refusal::NotOrdered);
-            }
-            let count = arena::count(arena);
-            write_entries(arena, count, out);
-            Ok(count)
-        }
-        Err(refusal) => Err(refusal),
+    validate::ask_node_zero(arena)?;
+    if !is_ordered(arena) {
+        return Err(Refusal::NotOrdered);
     }
+    let count = arena::count(arena);
+    write_entries(arena, count, out);
+    Ok(count)
 }
 
 // Writes the entries of the order, one after the other.
@@ -79,14 +69,9 @@ pub fn order_entry(arena: &[u8], place: u32) -> Result<u32, Refusal>
     ensures { Answered (ask_arena arena.now (reads_entry (decode arena.now) place))
         (get_or (decode arena.now).order place 0) result }
 {
-    let asked = validate::ask_node(arena, place);
-    match asked {
-        Ok(()) => {
-            if !is_ordered(arena) {
-                return Err(Refusal::NotOrdered);
-            }
-            Ok(arena::order_entry(arena, place))
-        }
-        Err(refusal) => Err(refusal),
+    validate::ask_node(arena, place)?;
+    if !is_ordered(arena) {
+        return Err(Refusal::NotOrdered);
     }
+    Ok(arena::order_entry(arena, place))
 }

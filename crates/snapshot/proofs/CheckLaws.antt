@@ -3,7 +3,6 @@
 -- `has_root` and `prims` are those of that graph. Start, step and end. Assumes nothing.
 use Rattle.std.specs.Prelude.{Option}
 use Rattle.std.specs.Prelude.{Err, Ok, Result}
-use mathlib.Core.Unit.{tt}
 use mathlib.Core.Path.{◌≡◌, refl, sym, ap, ◌∙◌}
 use mathlib.Core.Logic.{◌⊎◌, inl, inr}
 use mathlib.Core.Bool.{Bool, false, ◌&&◌, ◌||◌, and-eq-true_iff}

@@ -30,9 +30,6 @@ pub fn write_snapshot(arena: &[u8], out: &mut [u8]) -> Result<u32, Refusal>
     if out.len() != arena::SNAPSHOT_BYTES {
         return Err(Refusal::Size);
     }
-    let asked = validate::ask_graph(arena);
-    match asked {
-        Ok(()) => Ok(crate::writer::write_snapshot(arena, out)),
-        Err(refusal) => Err(refusal),
-    }
+    validate::ask_graph(arena)?;
+    Ok(crate::writer::write_snapshot(arena, out))
 }

@@ -23,14 +23,9 @@ pub fn compare_node_strength(arena: &[u8], a: u32, b: u32) -> Result<Ordering, R
     ensures { AnsweredOrder (ask_arena arena.now (compares_nodes (decode arena.now) a b))
         (compare_node_strength (view_of (decode arena.now)) a b) result }
 {
-    let asked = validate::ask_nodes(arena, a, b);
-    match asked {
-        Ok(()) => {
-            let root = arena::local_root(arena);
-            Ok(crate::comparison::compare_node_strength(arena, root, a, b))
-        }
-        Err(refusal) => Err(refusal),
-    }
+    validate::ask_nodes(arena, a, b)?;
+    let root = arena::local_root(arena);
+    Ok(crate::comparison::compare_node_strength(arena, root, a, b))
 }
 
 // Two siblings, or one node twice, which need not have a parent.
@@ -50,11 +45,8 @@ pub fn compare_sibling_node_strength(arena: &[u8], a: u32, b: u32) -> Result<Ord
     ensures { AnsweredOrder (ask_arena arena.now (compares_siblings (decode arena.now) a b))
         (compare_sibling_node_strength (view_of (decode arena.now)) a b) result }
 {
-    let asked = validate::ask_siblings(arena, a, b);
-    match asked {
-        Ok(()) => Ok(compare_siblings(arena, a, b)),
-        Err(refusal) => Err(refusal),
-    }
+    validate::ask_siblings(arena, a, b)?;
+    Ok(compare_siblings(arena, a, b))
 }
 
 // Whether x is met from y upward, y counted, before the local root and node 0. Refused 1 to 4.
@@ -62,14 +54,9 @@ pub fn is_ancestor_of(arena: &[u8], x: u32, y: u32) -> Result<bool, Refusal>
     ensures { AnsweredTest (ask_arena arena.now (compares_nodes (decode arena.now) x y))
         (is_ancestor_of (view (decode arena.now).nodes) x y) result }
 {
-    let asked = validate::ask_nodes(arena, x, y);
-    match asked {
-        Ok(()) => {
-            let root = arena::local_root(arena);
-            Ok(view::is_ancestor_of(arena, root, x, y))
-        }
-        Err(refusal) => Err(refusal),
-    }
+    validate::ask_nodes(arena, x, y)?;
+    let root = arena::local_root(arena);
+    Ok(view::is_ancestor_of(arena, root, x, y))
 }
 
 // Whether two nodes have one site: the same stack and the same path. Refused 1 to 4.
@@ -77,11 +64,8 @@ pub fn same_site(arena: &[u8], a: u32, b: u32) -> Result<bool, Refusal>
     ensures { AnsweredTest (ask_arena arena.now (compares_nodes (decode arena.now) a b))
         ((view (decode arena.now).nodes).same_site a b) result }
 {
-    let asked = validate::ask_nodes(arena, a, b);
-    match asked {
-        Ok(()) => Ok(view::same_site(arena, a, b)),
-        Err(refusal) => Err(refusal),
-    }
+    validate::ask_nodes(arena, a, b)?;
+    Ok(view::same_site(arena, a, b))
 }
 
 // Whether node n is a propagated specializes: arc Specialize, the local root as parent, and its
@@ -90,14 +74,9 @@ pub fn is_propagated_specializes(arena: &[u8], n: u32) -> Result<bool, Refusal>
     ensures { AnsweredTest (ask_arena arena.now (reads_node (decode arena.now) n))
         (is_propagated_specializes (view (decode arena.now).nodes) n) result }
 {
-    let asked = validate::ask_node(arena, n);
-    match asked {
-        Ok(()) => {
-            let root = arena::local_root(arena);
-            Ok(view::is_propagated_specializes(arena, root, n))
-        }
-        Err(refusal) => Err(refusal),
-    }
+    validate::ask_node(arena, n)?;
+    let root = arena::local_root(arena);
+    Ok(view::is_propagated_specializes(arena, root, n))
 }
 
 // The propagated specializes under the local root whose origin is node n, if there is one. Refused
@@ -106,28 +85,18 @@ pub fn get_propagated_specializes_node(arena: &[u8], n: u32) -> Result<Option<No
     ensures { AnsweredNode (ask_arena arena.now (reads_node (decode arena.now) n))
         (get_propagated_specializes_node (decode arena.now) n) result }
 {
-    let asked = validate::ask_node(arena, n);
-    match asked {
-        Ok(()) => {
-            let root = arena::local_root(arena);
-            let found = crate::propagated::find_copy(arena, root, n);
-            Ok(NodeId::from_number(found))
-        }
-        Err(refusal) => Err(refusal),
-    }
+    validate::ask_node(arena, n)?;
+    let root = arena::local_root(arena);
+    let found = crate::propagated::find_copy(arena, root, n);
+    Ok(NodeId::from_number(found))
 }
 
 // Where the class hierarchy of node n starts, and its topmost class. Refused 1 to 4.
 pub fn starting_node_of_class_hierarchy(arena: &[u8], n: u32) -> Result<(NodeId, Option<NodeId>), Refusal>
     ensures { HierarchyAnswered arena.now n result }
 {
-    let asked = validate::ask_node(arena, n);
-    match asked {
-        Ok(()) => {
-            let root = arena::local_root(arena);
-            let found = view::starting_node_of_class_hierarchy(arena, root, n);
-            HierarchyRead::Hierarchy(NodeId(found.instance), NodeId::from_number(found.class_node))
-        }
-        Err(refusal) => Err(refusal),
-    }
+    validate::ask_node(arena, n)?;
+    let root = arena::local_root(arena);
+    let found = view::starting_node_of_class_hierarchy(arena, root, n);
+    HierarchyRead::Hierarchy(NodeId(found.instance), NodeId::from_number(found.class_node))
 }

@@ -30,11 +30,8 @@ pub fn ask_graph(arena: &[u8]) -> Result<(), Refusal>
 pub fn count(arena: &[u8]) -> Result<u32, Refusal>
     ensures { Answered (ask_arena arena.now []) (count_in arena.now) result }
 {
-    let asked = ask_graph(arena);
-    match asked {
-        Ok(()) => Ok(arena::count(arena)),
-        Err(refusal) => Err(refusal),
-    }
+    ask_graph(arena)?;
+    Ok(arena::count(arena))
 }
 
 // Questions 1 to 3: whether the graph has a node.
@@ -42,16 +39,11 @@ pub fn ask_node_zero(arena: &[u8]) -> Result<(), Refusal>
     ensures { answer_refusal result
         ≡ refusal (ask_arena arena.now (has_node_zero (decode arena.now) ∷ [])) }
 {
-    let asked = ask_graph(arena);
-    match asked {
-        Ok(()) => {
-            if arena::count(arena) == 0 {
-                return Err(Refusal::NodeZero);
-            }
-            Ok(())
-        }
-        Err(refusal) => Err(refusal),
+    ask_graph(arena)?;
+    if arena::count(arena) == 0 {
+        return Err(Refusal::NodeZero);
     }
+    Ok(())
 }
 
 // Question 4 of node n, of an arena that holds a graph.
@@ -70,11 +62,8 @@ pub fn ask_node(arena: &[u8], n: u32) -> Result<(), Refusal>
     ensures { answer_refusal result
         ≡ refusal (ask_arena arena.now (reads_node (decode arena.now) n)) }
 {
-    let asked = ask_node_zero(arena);
-    match asked {
-        Ok(()) => ask_number(arena, n),
-        Err(refusal) => Err(refusal),
-    }
+    ask_node_zero(arena)?;
+    ask_number(arena, n)
 }
 
 // Questions 1 to 4 of two nodes. The arena is checked once.
@@ -82,11 +71,8 @@ pub fn ask_nodes(arena: &[u8], a: u32, b: u32) -> Result<(), Refusal>
     ensures { answer_refusal result
         ≡ refusal (ask_arena arena.now (compares_nodes (decode arena.now) a b)) }
 {
-    let asked = ask_node(arena, a);
-    match asked {
-        Ok(()) => ask_number(arena, b),
-        Err(refusal) => Err(refusal),
-    }
+    ask_node(arena, a)?;
+    ask_number(arena, b)
 }
 
 // Question 8: one parent. A node with itself passes.
@@ -110,9 +96,6 @@ pub fn ask_siblings(arena: &[u8], a: u32, b: u32) -> Result<(), Refusal>
     ensures { answer_refusal result
         ≡ refusal (ask_arena arena.now (compares_siblings (decode arena.now) a b)) }
 {
-    let asked = ask_nodes(arena, a, b);
-    match asked {
-        Ok(()) => ask_parents(arena, a, b),
-        Err(refusal) => Err(refusal),
-    }
+    ask_nodes(arena, a, b)?;
+    ask_parents(arena, a, b)
 }
