@@ -1,7 +1,7 @@
 -- Reading from the front: one byte, a run of bytes, and where the reading fails. Each law is over
 -- the state, so that names, sets and selections share it. Last, that reading a path from its start
 -- is `count_prims`. Assumes nothing.
-use Rattle.std.specs.Prelude.{None, Some}
+use Rattle.std.specs.Prelude.{None, Some, is_some}
 use mathlib.Core.Path.{◌≡◌, refl, sym, ap, ◌∙◌}
 use mathlib.Core.Bool.{Bool, true, false, not, ◌&&◌, cond, false≢true, and-eq-true_iff, and-true, and-false}
 use mathlib.Core.List.{List, [], ◌∷◌}
@@ -283,6 +283,14 @@ count-prims-long p h =
     ap (λ (t : Bool). cond t (Some (prim_count p)) None) (sym (ap (λ (t : Bool). may_end (run start p) && t) (lt-leb (length p) 255 h) ∙ and-false (may_end (run start p))))
 
 -- the count tells whether the path is well formed
+pub is-counted : (p : List ℕ) → is_some (count_prims p) ≡ well_formed p
+unfolding count_prims
+is-counted p = go (well_formed p)
+  where
+    go : (t : Bool) → is_some (cond t (Some (prim_count p)) None) ≡ t
+    go true = refl
+    go false = refl
+
 pub counted-well-formed : (p : List ℕ) (n : ℕ) → count_prims p ≡ Some n → true ≡ well_formed p
 unfolding count_prims
 counted-well-formed p n e = go (well_formed p) e

@@ -48,11 +48,7 @@ pub fn prim_count_by(kinds: &[u8], pairs: &[u64], path: &[u8]) -> Option<u16>
 pub fn is_well_formed(path: &[u8]) -> bool
     ensures { result ≡ well_formed path.now }
 {
-    let count = prim_count(path);
-    match count {
-        Some(_) => true,
-        None => false,
-    }
+    prim_count(path).is_some()
 }
 
 // The parent, as a front part of the path: no bytes where there is none.
