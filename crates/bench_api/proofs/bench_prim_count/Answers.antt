@@ -3,10 +3,10 @@ use mathlib.Core.Path.{ap, sym, ◌∙◌}
 use Rattle.bench_api.specs.Numbers.{count_number}
 use Rattle.bench_api.proofs.bench_prim_count.Goals as goal
 
-pub returns-in-Names : goal.returns-in-Names
-returns-in-Names c =
-    ap count_number (sym c.in-Names.is ∙ c.prim_count-count.ensures)
+pub returns-in-Some : goal.returns-in-Some
+returns-in-Some c =
+    ap count_number (sym c.in-Some.is ∙ c.prim_count-count.ensures)
 
-pub returns-in-Malformed : goal.returns-in-Malformed
-returns-in-Malformed c =
-    ap count_number (sym c.in-Malformed.is ∙ c.prim_count-count.ensures)
+pub returns-in-None : goal.returns-in-None
+returns-in-None c =
+    ap count_number (sym c.in-None.is ∙ c.prim_count-count.ensures)

@@ -1,5 +1,6 @@
 -- `write_listing` meets its contract: question 1 of the buffer, where questions 1 to 3 of the arena
 -- pass, question 10, and then the text. Assumes nothing.
+use Rattle.std.proofs.lemmas.Result.{err_from_is_err_and}
 use mathlib.Core.Path.{◌≡◌, sym, ◌∙◌}
 use Prim.Native.Nat.{◌<◌}
 use lib.ListN.{length}
@@ -16,13 +17,13 @@ returns-then-out-ne-ARENA_BYTES c =
 pub ordered-requires : goal.ordered-requires
 ordered-requires c =
     let has-node : let bs = c.args.arena.now in ValidArena bs × (0 < count_in bs) =
-    some-node _ (sym (rw c.in-Done.is at c.ask_node_zero-asked.ensures)) in
+    some-node _ (sym c.in_ok-ask_node_zero.ensures) in
     has-node.0.whole
 
 pub returns-then-ordered-ne1 : goal.returns-then-ordered-ne1
 returns-then-ordered-ne1 c =
     let has-node : let bs = c.args.arena.now in ValidArena bs × (0 < count_in bs) =
-    some-node _ (sym (rw c.in-Done.is at c.ask_node_zero-asked.ensures)) in
+    some-node _ (sym c.in_ok-ask_node_zero.ensures) in
     let large : length c.args.out.now ≡ arena_bytes =
     c.if-out-ne-ARENA_BYTES.false in
     not-ordered _ _ large has-node.0 has-node.1 (λ e. c.if-ordered-ne1.true (c.ordered.ensures ∙ e))
@@ -30,7 +31,7 @@ returns-then-ordered-ne1 c =
 pub put_listing-requires : goal.put_listing-requires
 put_listing-requires c =
     let has-node : let bs = c.args.arena.now in ValidArena bs × (0 < count_in bs) =
-    some-node _ (sym (rw c.in-Done.is at c.ask_node_zero-asked.ensures)) in
+    some-node _ (sym c.in_ok-ask_node_zero.ensures) in
     let large : length c.args.out.now ≡ arena_bytes =
     c.if-out-ne-ARENA_BYTES.false in
     record { opened = has-node.0; ordered = sym c.ordered.ensures ∙ c.if-ordered-ne1.false; large = large }
@@ -38,11 +39,13 @@ put_listing-requires c =
 pub returns-else-ordered-ne1 : goal.returns-else-ordered-ne1
 returns-else-ordered-ne1 c =
     let has-node : let bs = c.args.arena.now in ValidArena bs × (0 < count_in bs) =
-    some-node _ (sym (rw c.in-Done.is at c.ask_node_zero-asked.ensures)) in
+    some-node _ (sym c.in_ok-ask_node_zero.ensures) in
     let large : length c.args.out.now ≡ arena_bytes =
     c.if-out-ne-ARENA_BYTES.false in
     written _ _ large has-node.0 has-node.1 (sym c.ordered.ensures ∙ c.if-ordered-ne1.false) _ _ c.put_listing.ensures.put
 
-pub returns-in-Refused : goal.returns-in-Refused
-returns-in-Refused c =
-    refused-first _ _ c.if-out-ne-ARENA_BYTES.false c.in-Refused.refusal (rw c.in-Refused.is at c.ask_node_zero-asked.ensures)
+pub returns-in_err-ask_node_zero : goal.returns-in_err-ask_node_zero
+returns-in_err-ask_node_zero c =
+    let p = err_from_is_err_and c.from_residual.result c.from_residual.ensures.1 in
+    rw (p.1, p.2) (
+    refused-first _ _ c.if-out-ne-ARENA_BYTES.false c.in_err-ask_node_zero.field-0.0 c.in_err-ask_node_zero.ensures)

@@ -1,5 +1,6 @@
 -- `cull_subtrees_without_opinions` meets its contract: where questions 1 to 3 pass, every node is
 -- culled that can be. Assumes nothing.
+use Rattle.std.proofs.lemmas.Result.{err_from_is_err_and}
 use mathlib.Core.Path.{◌≡◌, sym}
 use mathlib.Core.List.{[], ◌∷◌}
 use Rattle.model.specs.Refusals.{refusal}
@@ -13,15 +14,17 @@ use Rattle.culling.proofs.calls.cull_subtrees_without_opinions.Goals as goal
 pub cull-requires : goal.cull-requires
 cull-requires c =
     let passes : let bs = c.args.arena.now in refusal (ask_arena bs (has_node_zero (decode bs) ∷ [])) ≡ 0 =
-    sym (rw c.in-Done.is at c.ask_node_zero-asked.ensures) in
+    sym c.in_ok-ask_node_zero.ensures in
     let bs = c.args.arena.now in passed-opened bs (has_node_zero (decode bs) ∷ []) passes
 
-pub returns-in-Done : goal.returns-in-Done
-returns-in-Done c =
+pub returns : goal.returns
+returns c =
     let passes : let bs = c.args.arena.now in refusal (ask_arena bs (has_node_zero (decode bs) ∷ [])) ≡ 0 =
-    sym (rw c.in-Done.is at c.ask_node_zero-asked.ensures) in
+    sym c.in_ok-ask_node_zero.ensures in
     cull-done _ passes _ c.cull.ensures
 
-pub returns-in-Refused : goal.returns-in-Refused
-returns-in-Refused c =
-    cull-refused _ c.in-Refused.refusal (rw c.in-Refused.is at c.ask_node_zero-asked.ensures)
+pub returns-in_err-ask_node_zero : goal.returns-in_err-ask_node_zero
+returns-in_err-ask_node_zero c =
+    let p = err_from_is_err_and c.from_residual.result c.from_residual.ensures.1 in
+    rw (p.1, p.2) (
+    cull-refused _ c.in_err-ask_node_zero.field-0.0 c.in_err-ask_node_zero.ensures)

@@ -1,4 +1,5 @@
 -- `add_child` meets its contract: the questions in their order, and then the node. Assumes nothing.
+use Rattle.std.proofs.lemmas.Result.{err_from_is_err_and}
 use mathlib.Core.Path.{◌≡◌, refl, sym, ap, ◌∙◌}
 use Prim.Native.Nat.{◌<◌}
 use native.Mathlib.Omega.{arith}
@@ -18,22 +19,22 @@ use Rattle.nodes.proofs.calls.add_child.Goals as goal
 pub count-count-requires : goal.count-count-requires
 count-count-requires c =
     let has-node : let bs = c.args.arena.now in ValidArena bs × (0 < count_in bs) =
-    some-node _ (sym (rw c.in-Done.is at c.ask_node_zero-asked.ensures)) in
+    some-node _ (sym c.in_ok-ask_node_zero.ensures) in
     has-node.0.whole
 
 pub check_desc-checked-requires : goal.check_desc-checked-requires
 check_desc-checked-requires c =
     let has-node : let bs = c.args.arena.now in ValidArena bs × (0 < count_in bs) =
-    some-node _ (sym (rw c.in-Done.is at c.ask_node_zero-asked.ensures)) in
+    some-node _ (sym c.in_ok-ask_node_zero.ensures) in
     let there = has-node in
     (there.0, c.count-count.ensures, omega (arith, there.1, c.count-count.ensures))
 
 pub added_record-node-requires : goal.added_record-node-requires
 added_record-node-requires c =
     let has-node : let bs = c.args.arena.now in ValidArena bs × (0 < count_in bs) =
-    some-node _ (sym (rw c.in-Done.is at c.ask_node_zero-asked.ensures)) in
+    some-node _ (sym c.in_ok-ask_node_zero.ensures) in
     let passes : refusal (add_questions (decode c.args.arena.now) (desc_of c.args.desc c.args.path.now)) ≡ 0 =
-    sym (rw c.in-Accepted.is at c.check_desc-checked.ensures.refused) in
+    sym (rw c.in_ok-prims.was at c.check_desc-prims.ensures.refused) in
     let there = has-node in
     record {
       valid_arena = there.0;
@@ -44,39 +45,41 @@ added_record-node-requires c =
 pub append_node-requires : goal.append_node-requires
 append_node-requires c =
     let has-node : let bs = c.args.arena.now in ValidArena bs × (0 < count_in bs) =
-    some-node _ (sym (rw c.in-Done.is at c.ask_node_zero-asked.ensures)) in
+    some-node _ (sym c.in_ok-ask_node_zero.ensures) in
     let passes : refusal (add_questions (decode c.args.arena.now) (desc_of c.args.desc c.args.path.now)) ≡ 0 =
-    sym (rw c.in-Accepted.is at c.check_desc-checked.ensures.refused) in
-    let named : c.in-Accepted.prims ≡ prim_count c.args.path.now =
-    (rw c.in-Accepted.is at c.check_desc-checked.ensures.prims) refl in
+    sym (rw c.in_ok-prims.was at c.check_desc-prims.ensures.refused) in
+    let named : c.in_ok-prims.prims ≡ prim_count c.args.path.now =
+    (rw c.in_ok-prims.was at c.check_desc-prims.ensures.prims) refl in
     let there = has-node in
     rw c.added_record-node.ensures
     (can-add c.args.arena.now there.0 c.args.desc c.args.path.now there.1 _ _ passes named
     c.count-count.ensures)
 
-pub returns-in-Accepted : goal.returns-in-Accepted
-returns-in-Accepted c =
+pub returns : goal.returns
+returns c =
     let has-node : let bs = c.args.arena.now in ValidArena bs × (0 < count_in bs) =
-    some-node _ (sym (rw c.in-Done.is at c.ask_node_zero-asked.ensures)) in
+    some-node _ (sym c.in_ok-ask_node_zero.ensures) in
     let passes : refusal (add_questions (decode c.args.arena.now) (desc_of c.args.desc c.args.path.now)) ≡ 0 =
-    sym (rw c.in-Accepted.is at c.check_desc-checked.ensures.refused) in
-    let named : c.in-Accepted.prims ≡ prim_count c.args.path.now =
-    (rw c.in-Accepted.is at c.check_desc-checked.ensures.prims) refl in
+    sym (rw c.in_ok-prims.was at c.check_desc-prims.ensures.refused) in
+    let named : c.in_ok-prims.prims ≡ prim_count c.args.path.now =
+    (rw c.in_ok-prims.was at c.check_desc-prims.ensures.prims) refl in
     let bs = c.args.arena.now in
     let there = has-node in
     let node = ap (λ (r : Node). node_of r c.args.path.now) c.added_record-node.ensures
-    ∙ added-node bs there.0 c.args.desc c.args.path.now there.1 c.in-Accepted.prims passes named in
+    ∙ added-node bs there.0 c.args.desc c.args.path.now there.1 c.in_ok-prims.prims passes named in
     add_done bs (desc_of c.args.desc c.args.path.now) there.0 there.1 _ _ passes c.count-count.ensures
     (c.append_node.ensures ∙ ap (λ (y : model.Node). encode (with_node (decode bs) y) bs) node)
 
 pub returns-in-Refused-checked : goal.returns-in-Refused-checked
 returns-in-Refused-checked c =
     let has-node : let bs = c.args.arena.now in ValidArena bs × (0 < count_in bs) =
-    some-node _ (sym (rw c.in-Done.is at c.ask_node_zero-asked.ensures)) in
+    some-node _ (sym c.in_ok-ask_node_zero.ensures) in
     add-refused c.args.arena.now (desc_of c.args.desc c.args.path.now) has-node.0 has-node.1 _
-    (rw c.in-Refused-checked.is at c.check_desc-checked.ensures.refused)
+    (rw c.in-Refused-checked.is at c.check_desc-prims.ensures.refused)
 
-pub returns-in-Refused : goal.returns-in-Refused
-returns-in-Refused c =
-    add-refused-first c.args.arena.now (desc_of c.args.desc c.args.path.now) c.in-Refused.refusal
-    (rw c.in-Refused.is at c.ask_node_zero-asked.ensures)
+pub returns-in_err-ask_node_zero : goal.returns-in_err-ask_node_zero
+returns-in_err-ask_node_zero c =
+    let p = err_from_is_err_and c.from_residual.result c.from_residual.ensures.1 in
+    rw (p.1, p.2) (
+    add-refused-first c.args.arena.now (desc_of c.args.desc c.args.path.now) c.in_err-ask_node_zero.field-0.0
+    c.in_err-ask_node_zero.ensures)

@@ -1,4 +1,5 @@
 -- `depth_below_introduction` meets its contract. Assumes nothing.
+use Rattle.std.proofs.lemmas.Result.{err_from_is_err_and}
 use mathlib.Core.Path.{sym}
 use Rattle.model.specs.ArenaCalls.{ValidNode}
 use Rattle.laws.proofs.ArenaCallLaws.{answered-refused, answered-number}
@@ -8,13 +9,15 @@ use Rattle.nodes.proofs.calls.depth_below_introduction.Goals as goal
 pub depth_below-requires : goal.depth_below-requires
 depth_below-requires c =
     let reads-it : ValidNode c.args.arena.now c.args.n =
-    readable _ _ (sym (rw c.in-Done.is at c.ask_node-asked.ensures)) in
+    readable _ _ (sym c.in_ok-ask_node.ensures) in
     reads-it
 
-pub returns-in-Done : goal.returns-in-Done
-returns-in-Done c =
-    answered-number _ _ _ (sym (rw c.in-Done.is at c.ask_node-asked.ensures)) c.depth_below.ensures.0
+pub returns : goal.returns
+returns c =
+    answered-number _ _ _ (sym c.in_ok-ask_node.ensures) c.depth_below.ensures.0
 
-pub returns-in-Refused : goal.returns-in-Refused
-returns-in-Refused c =
-    answered-refused _ _ c.in-Refused.refusal (rw c.in-Refused.is at c.ask_node-asked.ensures)
+pub returns-in_err-ask_node : goal.returns-in_err-ask_node
+returns-in_err-ask_node c =
+    let p = err_from_is_err_and c.from_residual.result c.from_residual.ensures.1 in
+    rw (p.1, p.2) (
+    answered-refused _ _ c.in_err-ask_node.field-0.0 c.in_err-ask_node.ensures)

@@ -1,4 +1,5 @@
 -- `init_root` meets its contract: the questions in their order, and then node 0. Assumes nothing.
+use Rattle.std.proofs.lemmas.Result.{err_from_is_err_and}
 use Rattle.std.specs.Prelude.{Some}
 use mathlib.Core.Path.{◌≡◌, sym, ap, ◌∙◌}
 use mathlib.Core.Bool.{true}
@@ -20,26 +21,26 @@ use Rattle.nodes.proofs.calls.init_root.Goals as goal
 pub count-requires : goal.count-requires
 count-requires c =
     let opened : ValidArena c.args.arena.now =
-    passed-opened _ [] (sym (rw c.in-Done.is at c.ask_graph-asked.ensures)) in
+    passed-opened _ [] (sym c.in_ok-ask_graph.ensures) in
     opened.whole
 
 pub returns-then-count-ne0 : goal.returns-then-count-ne0
 returns-then-count-ne0 c =
     let opened : ValidArena c.args.arena.now =
-    passed-opened _ [] (sym (rw c.in-Done.is at c.ask_graph-asked.ensures)) in
+    passed-opened _ [] (sym c.in_ok-ask_graph.ensures) in
     start-over _ _ _ _ opened (λ z. c.if-count-ne0.true (c.count.ensures ∙ z))
 
 pub returns-in_default : goal.returns-in_default
 returns-in_default c =
     let opened : ValidArena c.args.arena.now =
-    passed-opened _ [] (sym (rw c.in-Done.is at c.ask_graph-asked.ensures)) in
+    passed-opened _ [] (sym c.in_ok-ask_graph.ensures) in
     start-malformed _ _ _ _ opened (sym c.count.ensures ∙ c.if-count-ne0.false)
     (sym (uncounted-malformed _ (sym c.prim_count-read.ensures ∙ c.in_default.is)))
 
 pub start_record-requires : goal.start_record-requires
 start_record-requires c =
-    let counted : count_prims c.args.path.now ≡ Some c.in-Names.prims =
-    sym c.prim_count-read.ensures ∙ c.in-Names.is in
+    let counted : count_prims c.args.path.now ≡ Some c.in-Some.prims =
+    sym c.prim_count-read.ensures ∙ c.in-Some.is in
     let formed : well_formed c.args.path.now ≡ true =
     sym (counted-well-formed _ _ counted) in
     (few-names _ _ counted, well-formed-length _ formed)
@@ -47,9 +48,9 @@ start_record-requires c =
 pub append_node-requires : goal.append_node-requires
 append_node-requires c =
     let opened : ValidArena c.args.arena.now =
-    passed-opened _ [] (sym (rw c.in-Done.is at c.ask_graph-asked.ensures)) in
-    let counted : count_prims c.args.path.now ≡ Some c.in-Names.prims =
-    sym c.prim_count-read.ensures ∙ c.in-Names.is in
+    passed-opened _ [] (sym c.in_ok-ask_graph.ensures) in
+    let counted : count_prims c.args.path.now ≡ Some c.in-Some.prims =
+    sym c.prim_count-read.ensures ∙ c.in-Some.is in
     let formed : well_formed c.args.path.now ≡ true =
     sym (counted-well-formed _ _ counted) in
     let empty : count_in c.args.arena.now ≡ 0 =
@@ -57,22 +58,24 @@ append_node-requires c =
     rw c.start_record.ensures
     (can-start c.args.arena.now c.args.stack c.args.layer c.args.path.now opened empty _ formed (counted-names _ _ counted))
 
-pub returns-in-Names : goal.returns-in-Names
-returns-in-Names c =
+pub returns-in-Some : goal.returns-in-Some
+returns-in-Some c =
     let opened : ValidArena c.args.arena.now =
-    passed-opened _ [] (sym (rw c.in-Done.is at c.ask_graph-asked.ensures)) in
-    let counted : count_prims c.args.path.now ≡ Some c.in-Names.prims =
-    sym c.prim_count-read.ensures ∙ c.in-Names.is in
+    passed-opened _ [] (sym c.in_ok-ask_graph.ensures) in
+    let counted : count_prims c.args.path.now ≡ Some c.in-Some.prims =
+    sym c.prim_count-read.ensures ∙ c.in-Some.is in
     let formed : well_formed c.args.path.now ≡ true =
     sym (counted-well-formed _ _ counted) in
     let empty : count_in c.args.arena.now ≡ 0 =
     sym c.count.ensures ∙ c.if-count-ne0.false in
     let bs = c.args.arena.now in
     let node = ap (λ (r : Node). node_of r c.args.path.now) c.start_record.ensures
-    ∙ start-node c.args.stack c.args.layer c.in-Names.prims c.args.path.now (counted-names _ _ counted) in
+    ∙ start-node c.args.stack c.args.layer c.in-Some.prims c.args.path.now (counted-names _ _ counted) in
     start-done bs c.args.stack c.args.layer c.args.path.now opened empty _ formed
     (c.append_node.ensures ∙ ap (λ (y : model.Node). encode (with_node (decode bs) y) bs) node)
 
-pub returns-in-Refused : goal.returns-in-Refused
-returns-in-Refused c =
-    start-refused _ _ _ _ c.in-Refused.refusal (rw c.in-Refused.is at c.ask_graph-asked.ensures)
+pub returns-in_err-ask_graph : goal.returns-in_err-ask_graph
+returns-in_err-ask_graph c =
+    let p = err_from_is_err_and c.from_residual.result c.from_residual.ensures.1 in
+    rw (p.1, p.2) (
+    start-refused _ _ _ _ c.in_err-ask_graph.field-0.0 c.in_err-ask_graph.ensures)

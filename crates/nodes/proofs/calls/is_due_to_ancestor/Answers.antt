@@ -1,4 +1,5 @@
 -- `is_due_to_ancestor` meets its contract. Assumes nothing.
+use Rattle.std.proofs.lemmas.Result.{err_from_is_err_and}
 use mathlib.Core.Path.{sym, ap}
 use Prim.Native.Nat.{ℕ}
 use lib.Dec.{ltb}
@@ -11,14 +12,16 @@ use Rattle.nodes.proofs.calls.is_due_to_ancestor.Goals as goal
 pub depth_below-requires : goal.depth_below-requires
 depth_below-requires c =
     let reads-it : ValidNode c.args.arena.now c.args.n =
-    readable _ _ (sym (rw c.in-Done.is at c.ask_node-asked.ensures)) in
+    readable _ _ (sym c.in_ok-ask_node.ensures) in
     reads-it
 
-pub returns-in-Done : goal.returns-in-Done
-returns-in-Done c =
-    answered-number _ _ _ (sym (rw c.in-Done.is at c.ask_node-asked.ensures))
+pub returns : goal.returns
+returns c =
+    answered-number _ _ _ (sym c.in_ok-ask_node.ensures)
     (ap (λ (d : ℕ). bit (ltb 0 d)) c.depth_below.ensures.0)
 
-pub returns-in-Refused : goal.returns-in-Refused
-returns-in-Refused c =
-    answered-refused _ _ c.in-Refused.refusal (rw c.in-Refused.is at c.ask_node-asked.ensures)
+pub returns-in_err-ask_node : goal.returns-in_err-ask_node
+returns-in_err-ask_node c =
+    let p = err_from_is_err_and c.from_residual.result c.from_residual.ensures.1 in
+    rw (p.1, p.2) (
+    answered-refused _ _ c.in_err-ask_node.field-0.0 c.in_err-ask_node.ensures)

@@ -1,5 +1,6 @@
 -- `intro_path` meets its contract: `/` of node 0, else the front part of the parent's path. Assumes
 -- nothing.
+use Rattle.std.proofs.lemmas.Result.{err_from_is_err_and}
 use mathlib.Core.Path.{◌≡◌, sym, ◌∙◌}
 use lib.ListN.{length}
 use Rattle.model.specs.Refusals.{refusal}
@@ -16,7 +17,7 @@ use Rattle.nodes.proofs.paths.intro_path.Goals as goal
 pub put-requires : goal.put-requires
 put-requires c =
     let asked : refusal (ask_path c.args.arena.now c.args.buffer.now (reads_node (decode c.args.arena.now) c.args.n)) ≡ 0 =
-    sym (rw c.in-Done.is at c.ask-asked.ensures) in
+    sym c.in_ok-ask.ensures in
     let there : ValidNode c.args.arena.now c.args.n × (length c.args.buffer.now ≡ 255) =
     path-asked c.args.arena.now c.args.buffer.now c.args.n asked in
     (omega arith, there.1)
@@ -24,14 +25,14 @@ put-requires c =
 pub returns-then-n-eq0 : goal.returns-then-n-eq0
 returns-then-n-eq0 c =
     let asked : refusal (ask_path c.args.arena.now c.args.buffer.now (reads_node (decode c.args.arena.now) c.args.n)) ≡ 0 =
-    sym (rw c.in-Done.is at c.ask-asked.ensures) in
+    sym c.in_ok-ask.ensures in
     put-done _ _ _ _ _ _ asked (root-introduced _ _ c.if-n-eq0.true) c.put.ensures.result_value
     c.put.ensures.buffer_after
 
 pub depth_below-depth-requires : goal.depth_below-depth-requires
 depth_below-depth-requires c =
     let asked : refusal (ask_path c.args.arena.now c.args.buffer.now (reads_node (decode c.args.arena.now) c.args.n)) ≡ 0 =
-    sym (rw c.in-Done.is at c.ask-asked.ensures) in
+    sym c.in_ok-ask.ensures in
     let there : ValidNode c.args.arena.now c.args.n × (length c.args.buffer.now ≡ 255) =
     path-asked c.args.arena.now c.args.buffer.now c.args.n asked in
     there.0
@@ -39,7 +40,7 @@ depth_below-depth-requires c =
 pub parent-parent-requires : goal.parent-parent-requires
 parent-parent-requires c =
     let asked : refusal (ask_path c.args.arena.now c.args.buffer.now (reads_node (decode c.args.arena.now) c.args.n)) ≡ 0 =
-    sym (rw c.in-Done.is at c.ask-asked.ensures) in
+    sym c.in_ok-ask.ensures in
     let there : ValidNode c.args.arena.now c.args.n × (length c.args.buffer.now ≡ 255) =
     path-asked c.args.arena.now c.args.buffer.now c.args.n asked in
     there.0
@@ -47,7 +48,7 @@ parent-parent-requires c =
 pub path-requires : goal.path-requires
 path-requires c =
     let asked : refusal (ask_path c.args.arena.now c.args.buffer.now (reads_node (decode c.args.arena.now) c.args.n)) ≡ 0 =
-    sym (rw c.in-Done.is at c.ask-asked.ensures) in
+    sym c.in_ok-ask.ensures in
     let there : ValidNode c.args.arena.now c.args.n × (length c.args.buffer.now ≡ 255) =
     path-asked c.args.arena.now c.args.buffer.now c.args.n asked in
     let parent-there : ValidNode c.args.arena.now c.parent-parent.result =
@@ -57,7 +58,7 @@ path-requires c =
 pub put-requires-in-Done : goal.put-requires-in-Done
 put-requires-in-Done c =
     let asked : refusal (ask_path c.args.arena.now c.args.buffer.now (reads_node (decode c.args.arena.now) c.args.n)) ≡ 0 =
-    sym (rw c.in-Done.is at c.ask-asked.ensures) in
+    sym c.in_ok-ask.ensures in
     let there : ValidNode c.args.arena.now c.args.n × (length c.args.buffer.now ≡ 255) =
     path-asked c.args.arena.now c.args.buffer.now c.args.n asked in
     let parent-there : ValidNode c.args.arena.now c.parent-parent.result =
@@ -69,7 +70,7 @@ put-requires-in-Done c =
 pub returns-else-n-eq0 : goal.returns-else-n-eq0
 returns-else-n-eq0 c =
     let asked : refusal (ask_path c.args.arena.now c.args.buffer.now (reads_node (decode c.args.arena.now) c.args.n)) ≡ 0 =
-    sym (rw c.in-Done.is at c.ask-asked.ensures) in
+    sym c.in_ok-ask.ensures in
     let there : ValidNode c.args.arena.now c.args.n × (length c.args.buffer.now ≡ 255) =
     path-asked c.args.arena.now c.args.buffer.now c.args.n asked in
     put-done _ _ _ _ _ _ asked
@@ -78,6 +79,8 @@ returns-else-n-eq0 c =
     c.parent-parent.ensures c.path.ensures)
     c.put-in-Done.ensures.result_value c.put-in-Done.ensures.buffer_after
 
-pub returns-in-Refused : goal.returns-in-Refused
-returns-in-Refused c =
-    put_refused _ _ _ c.in-Refused.refusal (rw c.in-Refused.is at c.ask-asked.ensures)
+pub returns-in_err-ask : goal.returns-in_err-ask
+returns-in_err-ask c =
+    let p = err_from_is_err_and c.from_residual.result c.from_residual.ensures.1 in
+    rw (p.1, p.2) (
+    put_refused _ _ _ c.in_err-ask.field-0.0 c.in_err-ask.ensures)

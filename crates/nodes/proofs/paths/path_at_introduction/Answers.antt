@@ -1,4 +1,5 @@
 -- `path_at_introduction` meets its contract: the front part of the node's path. Assumes nothing.
+use Rattle.std.proofs.lemmas.Result.{err_from_is_err_and}
 use mathlib.Core.Path.{◌≡◌, sym, ◌∙◌}
 use lib.ListN.{length}
 use Rattle.model.specs.Refusals.{refusal}
@@ -13,7 +14,7 @@ use Rattle.nodes.proofs.paths.path_at_introduction.Goals as goal
 pub depth_below-depth-requires : goal.depth_below-depth-requires
 depth_below-depth-requires c =
     let asked : refusal (ask_path c.args.arena.now c.args.buffer.now (reads_node (decode c.args.arena.now) c.args.n)) ≡ 0 =
-    sym (rw c.in-Done.is at c.ask-asked.ensures) in
+    sym c.in_ok-ask.ensures in
     let there : ValidNode c.args.arena.now c.args.n × (length c.args.buffer.now ≡ 255) =
     path-asked c.args.arena.now c.args.buffer.now c.args.n asked in
     there.0
@@ -21,7 +22,7 @@ depth_below-depth-requires c =
 pub path-requires : goal.path-requires
 path-requires c =
     let asked : refusal (ask_path c.args.arena.now c.args.buffer.now (reads_node (decode c.args.arena.now) c.args.n)) ≡ 0 =
-    sym (rw c.in-Done.is at c.ask-asked.ensures) in
+    sym c.in_ok-ask.ensures in
     let there : ValidNode c.args.arena.now c.args.n × (length c.args.buffer.now ≡ 255) =
     path-asked c.args.arena.now c.args.buffer.now c.args.n asked in
     has-path _ _ there.0
@@ -29,16 +30,16 @@ path-requires c =
 pub put-requires : goal.put-requires
 put-requires c =
     let asked : refusal (ask_path c.args.arena.now c.args.buffer.now (reads_node (decode c.args.arena.now) c.args.n)) ≡ 0 =
-    sym (rw c.in-Done.is at c.ask-asked.ensures) in
+    sym c.in_ok-ask.ensures in
     let there : ValidNode c.args.arena.now c.args.n × (length c.args.buffer.now ≡ 255) =
     path-asked c.args.arena.now c.args.buffer.now c.args.n asked in
     let node = there in
     (rw (c.path_at_intro_depth.ensures, c.path.ensures) (short-intro _ _ node.0 _), node.1)
 
-pub returns-in-Done : goal.returns-in-Done
-returns-in-Done c =
+pub returns : goal.returns
+returns c =
     let asked : refusal (ask_path c.args.arena.now c.args.buffer.now (reads_node (decode c.args.arena.now) c.args.n)) ≡ 0 =
-    sym (rw c.in-Done.is at c.ask-asked.ensures) in
+    sym c.in_ok-ask.ensures in
     let there : ValidNode c.args.arena.now c.args.n × (length c.args.buffer.now ≡ 255) =
     path-asked c.args.arena.now c.args.buffer.now c.args.n asked in
     put-done _ _ _ _ _ _ asked
@@ -46,6 +47,8 @@ returns-in-Done c =
     ∙ taken_back _ _ there.0 _ _ c.depth_below-depth.ensures.0 c.path.ensures)
     c.put.ensures.result_value c.put.ensures.buffer_after
 
-pub returns-in-Refused : goal.returns-in-Refused
-returns-in-Refused c =
-    put_refused _ _ _ c.in-Refused.refusal (rw c.in-Refused.is at c.ask-asked.ensures)
+pub returns-in_err-ask : goal.returns-in_err-ask
+returns-in_err-ask c =
+    let p = err_from_is_err_and c.from_residual.result c.from_residual.ensures.1 in
+    rw (p.1, p.2) (
+    put_refused _ _ _ c.in_err-ask.field-0.0 c.in_err-ask.ensures)

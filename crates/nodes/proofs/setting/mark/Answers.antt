@@ -1,5 +1,6 @@
 -- `mark` meets its contract: where questions 1 to 4 and 6 pass, the flags joined are stored.
 -- Assumes nothing.
+use Rattle.std.proofs.lemmas.Result.{err_from_is_err_and}
 use mathlib.Core.Path.{◌≡◌, sym, ap, ◌∙◌}
 use borrow.Author.Tests.{not-true, not-false}
 use Rattle.model.specs.Setting.{with_flags, may_mark}
@@ -14,13 +15,13 @@ use Rattle.nodes.proofs.setting.mark.Goals as goal
 pub arc-requires : goal.arc-requires
 arc-requires c =
     let valid : ValidNode c.args.arena.now c.args.n =
-    readable _ _ (sym (rw c.in-Done.is at c.ask_node-asked.ensures)) in
+    readable _ _ (sym c.in_ok-ask_node.ensures) in
     has-slot _ _ valid
 
 pub returns-then-not-may_mark : goal.returns-then-not-may_mark
 returns-then-not-may_mark c =
     let valid : ValidNode c.args.arena.now c.args.n =
-    readable _ _ (sym (rw c.in-Done.is at c.ask_node-asked.ensures)) in
+    readable _ _ (sym c.in_ok-ask_node.ensures) in
     let may : may_mark c.args.flags (arc_in c.args.arena.now c.args.n) ≡ c.may_mark.result =
     sym (c.may_mark.ensures ∙ ap (may_mark c.args.flags) c.arc.ensures) in
     mark-refused _ _ _ valid (may ∙ not-true _ c.if-not-may_mark.true-raw)
@@ -28,13 +29,13 @@ returns-then-not-may_mark c =
 pub flags-requires : goal.flags-requires
 flags-requires c =
     let valid : ValidNode c.args.arena.now c.args.n =
-    readable _ _ (sym (rw c.in-Done.is at c.ask_node-asked.ensures)) in
+    readable _ _ (sym c.in_ok-ask_node.ensures) in
     has-slot _ _ valid
 
 pub write_flags-requires : goal.write_flags-requires
 write_flags-requires c =
     let valid : ValidNode c.args.arena.now c.args.n =
-    readable _ _ (sym (rw c.in-Done.is at c.ask_node-asked.ensures)) in
+    readable _ _ (sym c.in_ok-ask_node.ensures) in
     has-slot _ _ valid
 
 pub returns-else-not-may_mark : goal.returns-else-not-may_mark
@@ -42,7 +43,7 @@ returns-else-not-may_mark c =
     let bytes : Bytes c.args.arena.now =
     bytes-by-place c.args.arena.now (λ k. (c.slice_known-1.given k).fits) in
     let valid : ValidNode c.args.arena.now c.args.n =
-    readable _ _ (sym (rw c.in-Done.is at c.ask_node-asked.ensures)) in
+    readable _ _ (sym c.in_ok-ask_node.ensures) in
     let may : may_mark c.args.flags (arc_in c.args.arena.now c.args.n) ≡ c.may_mark.result =
     sym (c.may_mark.ensures ∙ ap (may_mark c.args.flags) c.arc.ensures) in
     let given = c.args.flags in
@@ -51,7 +52,9 @@ returns-else-not-may_mark c =
     (c.with_flags-joined.ensures ∙ ap (with_flags given) c.flags.ensures) _
     c.write_flags.ensures
 
-pub returns-in-Refused : goal.returns-in-Refused
-returns-in-Refused c =
-    mark-refused-first _ _ _ c.in-Refused.refusal
-    (rw c.in-Refused.is at c.ask_node-asked.ensures)
+pub returns-in_err-ask_node : goal.returns-in_err-ask_node
+returns-in_err-ask_node c =
+    let p = err_from_is_err_and c.from_residual.result c.from_residual.ensures.1 in
+    rw (p.1, p.2) (
+    mark-refused-first _ _ _ c.in_err-ask_node.field-0.0
+    c.in_err-ask_node.ensures)

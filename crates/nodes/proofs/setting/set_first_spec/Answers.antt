@@ -1,5 +1,6 @@
 -- `set_first_spec` meets its contract: where questions 1 to 4 pass, the specs are stored.
 -- Assumes nothing.
+use Rattle.std.proofs.lemmas.Result.{err_from_is_err_and}
 use mathlib.Core.Path.{sym}
 use Rattle.model.specs.ArenaCalls.{ValidNode}
 use Rattle.laws.proofs.BigEndianLaws.{Bytes}
@@ -11,19 +12,21 @@ use Rattle.nodes.proofs.setting.set_first_spec.Goals as goal
 pub write_first_spec-requires : goal.write_first_spec-requires
 write_first_spec-requires c =
     let valid : ValidNode c.args.arena.now c.args.n =
-    readable _ _ (sym (rw c.in-Done.is at c.ask_node-asked.ensures)) in
+    readable _ _ (sym c.in_ok-ask_node.ensures) in
     has-slot _ _ valid
 
-pub returns-in-Done : goal.returns-in-Done
-returns-in-Done c =
+pub returns : goal.returns
+returns c =
     let bytes : Bytes c.args.arena.now =
     bytes-by-place c.args.arena.now (λ k. (c.slice_known-1.given k).fits) in
     let valid : ValidNode c.args.arena.now c.args.n =
-    readable _ _ (sym (rw c.in-Done.is at c.ask_node-asked.ensures)) in
+    readable _ _ (sym c.in_ok-ask_node.ensures) in
     first-spec-done _ _ _ bytes valid _
     c.write_first_spec.ensures
 
-pub returns-in-Refused : goal.returns-in-Refused
-returns-in-Refused c =
-    first-spec-refused _ _ _ c.in-Refused.refusal
-    (rw c.in-Refused.is at c.ask_node-asked.ensures)
+pub returns-in_err-ask_node : goal.returns-in_err-ask_node
+returns-in_err-ask_node c =
+    let p = err_from_is_err_and c.from_residual.result c.from_residual.ensures.1 in
+    rw (p.1, p.2) (
+    first-spec-refused _ _ _ c.in_err-ask_node.field-0.0
+    c.in_err-ask_node.ensures)

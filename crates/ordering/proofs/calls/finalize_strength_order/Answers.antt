@@ -1,5 +1,6 @@
 -- `finalize_strength_order` meets its contract: where questions 1 to 3 pass, question 9 is left,
 -- and not put where the graph is finalized. Assumes nothing.
+use Rattle.std.proofs.lemmas.Result.{err_from_is_err_and}
 use mathlib.Core.Path.{◌≡◌, sym, ◌∙◌}
 use Prim.Native.Nat.{◌<◌}
 use borrow.Author.Tests.{not-true, not-false}
@@ -13,13 +14,13 @@ use Rattle.ordering.proofs.calls.finalize_strength_order.Goals as goal
 pub finalized-requires : goal.finalized-requires
 finalized-requires c =
     let has-node : let bs = c.args.arena.now in ValidArena bs × (0 < count_in bs) =
-    some-node _ (sym (rw c.in-Done.is at c.ask_node_zero-asked.ensures)) in
+    some-node _ (sym c.in_ok-ask_node_zero.ensures) in
     has-node.0.whole
 
 pub returns-then-finalized-eq1 : goal.returns-then-finalized-eq1
 returns-then-finalized-eq1 c =
     let has-node : let bs = c.args.arena.now in ValidArena bs × (0 < count_in bs) =
-    some-node _ (sym (rw c.in-Done.is at c.ask_node_zero-asked.ensures)) in
+    some-node _ (sym c.in_ok-ask_node_zero.ensures) in
     let bs = c.args.arena.now in
     finalize-again bs has-node.0 has-node.1 (bytes-by-place bs (λ i. (c.slice_known-1.given i).fits))
     (sym c.finalized.ensures ∙ c.if-finalized-eq1.true)
@@ -27,13 +28,13 @@ returns-then-finalized-eq1 c =
 pub order_graph-requires : goal.order_graph-requires
 order_graph-requires c =
     let has-node : let bs = c.args.arena.now in ValidArena bs × (0 < count_in bs) =
-    some-node _ (sym (rw c.in-Done.is at c.ask_node_zero-asked.ensures)) in
+    some-node _ (sym c.in_ok-ask_node_zero.ensures) in
     has-node
 
 pub returns-then-not-order_graph : goal.returns-then-not-order_graph
 returns-then-not-order_graph c =
     let has-node : let bs = c.args.arena.now in ValidArena bs × (0 < count_in bs) =
-    some-node _ (sym (rw c.in-Done.is at c.ask_node_zero-asked.ensures)) in
+    some-node _ (sym c.in_ok-ask_node_zero.ensures) in
     let not-finalized : finalized_in c.args.arena.now ≡ 1 → ⊥ =
     λ e. c.if-finalized-eq1.false (c.finalized.ensures ∙ e) in
     let there = has-node in
@@ -42,12 +43,14 @@ returns-then-not-order_graph c =
 pub returns-else-not-order_graph : goal.returns-else-not-order_graph
 returns-else-not-order_graph c =
     let has-node : let bs = c.args.arena.now in ValidArena bs × (0 < count_in bs) =
-    some-node _ (sym (rw c.in-Done.is at c.ask_node_zero-asked.ensures)) in
+    some-node _ (sym c.in_ok-ask_node_zero.ensures) in
     let not-finalized : finalized_in c.args.arena.now ≡ 1 → ⊥ =
     λ e. c.if-finalized-eq1.false (c.finalized.ensures ∙ e) in
     let there = has-node in
     finalize-done _ there.0 there.1 not-finalized _ _ c.order_graph.ensures (not-false _ c.if-not-order_graph.false-raw)
 
-pub returns-in-Refused : goal.returns-in-Refused
-returns-in-Refused c =
-    finalize-refused _ c.in-Refused.refusal (rw c.in-Refused.is at c.ask_node_zero-asked.ensures)
+pub returns-in_err-ask_node_zero : goal.returns-in_err-ask_node_zero
+returns-in_err-ask_node_zero c =
+    let p = err_from_is_err_and c.from_residual.result c.from_residual.ensures.1 in
+    rw (p.1, p.2) (
+    finalize-refused _ c.in_err-ask_node_zero.field-0.0 c.in_err-ask_node_zero.ensures)

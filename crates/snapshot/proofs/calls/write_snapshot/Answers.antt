@@ -1,5 +1,6 @@
 -- `write_snapshot` meets its contract: question 1 of the buffer, and where questions 1 and 2 of the
 -- arena pass, the writer. Assumes nothing.
+use Rattle.std.proofs.lemmas.Result.{err_from_is_err_and}
 use mathlib.Core.Path.{◌≡◌, sym}
 use mathlib.Core.List.{[]}
 use Rattle.model.specs.Refusals.{refusal}
@@ -15,16 +16,18 @@ returns-then-out-ne-SNAPSHOT_BYTES c =
 pub write_snapshot-requires : goal.write_snapshot-requires
 write_snapshot-requires c =
     let passes : refusal (ask_arena c.args.arena.now []) ≡ 0 =
-    sym (rw c.in-Done.is at c.ask_graph-asked.ensures) in
+    sym c.in_ok-ask_graph.ensures in
     record { opened = passed-opened _ [] passes; large = c.if-out-ne-SNAPSHOT_BYTES.false }
 
-pub returns-in-Done : goal.returns-in-Done
-returns-in-Done c =
+pub returns : goal.returns
+returns c =
     let passes : refusal (ask_arena c.args.arena.now []) ≡ 0 =
-    sym (rw c.in-Done.is at c.ask_graph-asked.ensures) in
+    sym c.in_ok-ask_graph.ensures in
     let wrote = c.write_snapshot.ensures in
     written _ _ c.if-out-ne-SNAPSHOT_BYTES.false passes _ _ wrote.value wrote.out_after
 
-pub returns-in-Refused : goal.returns-in-Refused
-returns-in-Refused c =
-    write-refused _ _ c.if-out-ne-SNAPSHOT_BYTES.false c.in-Refused.refusal (rw c.in-Refused.is at c.ask_graph-asked.ensures)
+pub returns-in_err-ask_graph : goal.returns-in_err-ask_graph
+returns-in_err-ask_graph c =
+    let p = err_from_is_err_and c.from_residual.result c.from_residual.ensures.1 in
+    rw (p.1, p.2) (
+    write-refused _ _ c.if-out-ne-SNAPSHOT_BYTES.false c.in_err-ask_graph.field-0.0 c.in_err-ask_graph.ensures)

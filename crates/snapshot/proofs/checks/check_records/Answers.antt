@@ -43,7 +43,7 @@ bounds-prims-n c =
     omega (arith, c.loop-n-test.true, c.requires.exact.counted) in
     let small : c.loop-n.n < 1024 =
     fits-prims _ _ _ _ _ _ c.loop-n.invariant here c.record_at-record.result.now c.record_at-record.ensures
-    c.check_one-checked.result c.check_one-checked.ensures _ c.in-Accepted.is in
+    c.check_one-checked.result c.check_one-checked.ensures _ c.in-Ok.is in
     omega (arith, small, c.loop-n.invariant.whole)
 
 pub bounds-record-0 : goal.bounds-record-0
@@ -82,8 +82,8 @@ overflow_add-at c =
     piece-long _ _ _ c.loop-n.invariant.reached here c.record_at-record.result.now c.record_at-record.ensures in
     omega (arith, long.1)
 
-pub overflow_add-at-in-Accepted : goal.overflow_add-at-in-Accepted
-overflow_add-at-in-Accepted c =
+pub overflow_add-at-in-Ok : goal.overflow_add-at-in-Ok
+overflow_add-at-in-Ok c =
     let here : c.loop-n.n < length (nodes_read c.args.bytes.now) =
     omega (arith, c.loop-n-test.true, c.requires.exact.counted) in
     omega (arith, (reached-more _ _ _ c.loop-n.invariant.reached here _ c.record_at-record.ensures).within)
@@ -102,7 +102,7 @@ loop-n-preserved c =
     omega (arith, c.loop-n-test.true, c.requires.exact.counted) in
     rw c.with_root-has_root.ensures
     (checked-more _ _ _ _ _ _ c.loop-n.invariant here c.record_at-record.result.now c.record_at-record.ensures
-    c.check_one-checked.result c.check_one-checked.ensures _ c.in-Accepted.is)
+    c.check_one-checked.result c.check_one-checked.ensures _ c.in-Ok.is)
 
 pub shape_of-prims : goal.shape_of-prims
 shape_of-prims c =

@@ -1,4 +1,5 @@
 -- `is_propagated_specializes` meets its contract. Assumes nothing.
+use Rattle.std.proofs.lemmas.Result.{err_from_is_err_and}
 use mathlib.Core.Path.{sym, ap}
 use Rattle.model.specs.Lists.{bit}
 use Rattle.model.specs.ArenaCalls.{ValidNode}
@@ -9,19 +10,21 @@ use Rattle.strength.proofs.calls.is_propagated_specializes.Goals as goal
 pub local_root-root-requires : goal.local_root-root-requires
 local_root-root-requires c =
     let reads-it : ValidNode c.args.arena.now c.args.n =
-    readable _ _ (sym (rw c.in-Done.is at c.ask_node-asked.ensures)) in
+    readable _ _ (sym c.in_ok-ask_node.ensures) in
     reads-it.opened.whole
 
 pub is_propagated_specializes-requires : goal.is_propagated_specializes-requires
 is_propagated_specializes-requires c =
     let reads-it : ValidNode c.args.arena.now c.args.n =
-    readable _ _ (sym (rw c.in-Done.is at c.ask_node-asked.ensures)) in
+    readable _ _ (sym c.in_ok-ask_node.ensures) in
     record { readable = reads-it; root-read = c.local_root-root.ensures }
 
-pub returns-in-Done : goal.returns-in-Done
-returns-in-Done c =
-    answered-number _ _ _ (sym (rw c.in-Done.is at c.ask_node-asked.ensures)) (ap bit c.is_propagated_specializes.ensures)
+pub returns : goal.returns
+returns c =
+    answered-number _ _ _ (sym c.in_ok-ask_node.ensures) (ap bit c.is_propagated_specializes.ensures)
 
-pub returns-in-Refused : goal.returns-in-Refused
-returns-in-Refused c =
-    answered-refused _ _ c.in-Refused.refusal (rw c.in-Refused.is at c.ask_node-asked.ensures)
+pub returns-in_err-ask_node : goal.returns-in_err-ask_node
+returns-in_err-ask_node c =
+    let p = err_from_is_err_and c.from_residual.result c.from_residual.ensures.1 in
+    rw (p.1, p.2) (
+    answered-refused _ _ c.in_err-ask_node.field-0.0 c.in_err-ask_node.ensures)

@@ -1,4 +1,5 @@
 -- `ask_node` meets its contract: where the graph has a node, question 4 is left. Assumes nothing.
+use Rattle.std.proofs.lemmas.Result.{err_from_is_err_and}
 use mathlib.Core.Path.{sym, ap, ◌∙◌}
 use mathlib.Core.List.{[], ◌∷◌}
 use Prim.Native.Nat.{ℕ, ◌<◌}
@@ -16,20 +17,22 @@ use Rattle.validate.proofs.questions.ask_node.Goals as goal
 pub ask_number-requires : goal.ask_number-requires
 ask_number-requires c =
     let has-node : let bs = c.args.arena.now in ValidArena bs × (0 < count_in bs) =
-    some-node _ (sym (rw c.in-Done.is at c.ask_node_zero-asked.ensures)) in
+    some-node _ (sym c.in_ok-ask_node_zero.ensures) in
     has-node.0
 
-pub returns-in-Done : goal.returns-in-Done
-returns-in-Done c =
+pub returns : goal.returns
+returns c =
     let has-node : let bs = c.args.arena.now in ValidArena bs × (0 < count_in bs) =
-    some-node _ (sym (rw c.in-Done.is at c.ask_node_zero-asked.ensures)) in
+    some-node _ (sym c.in_ok-ask_node_zero.ensures) in
     let bs = c.args.arena.now in
     let there = has-node in
     c.ask_number.ensures ∙ ap (λ (k : ℕ). refusal (ask 4 (ltb c.args.n k) ∷ [])) (sym (sizes bs there.0))
     ∙ sym (node-zero-passed bs (ask 4 (ltb c.args.n (size (decode bs))) ∷ []) there.0 there.1)
 
-pub returns-in-Refused : goal.returns-in-Refused
-returns-in-Refused c =
+pub returns-in_err-ask_node_zero : goal.returns-in_err-ask_node_zero
+returns-in_err-ask_node_zero c =
+    let p = err_from_is_err_and c.from_residual.result c.from_residual.ensures.1 in
+    rw (p.1, p.2) (
     let g = decode c.args.arena.now in
-    refused-before c.in-Refused.refusal (ask_arena c.args.arena.now (has_node_zero g ∷ [])) (ask 4 (ltb c.args.n (size g)) ∷ [])
-    (rw c.in-Refused.is at c.ask_node_zero-asked.ensures)
+    refused-before c.in_err-ask_node_zero.field-0.0 (ask_arena c.args.arena.now (has_node_zero g ∷ [])) (ask 4 (ltb c.args.n (size g)) ∷ [])
+    c.in_err-ask_node_zero.ensures)

@@ -24,8 +24,8 @@ pub returns-then-not-kind_allowed : goal.returns-then-not-kind_allowed
 returns-then-not-kind_allowed c =
     let linked : links_at c.args.before c.args.numbers ≡ true =
     sym c.links_allowed.ensures ∙ not-false _ c.if-not-links_allowed.false-raw in
-    let counted : count_prims c.args.path.now ≡ Some c.in-Names.names =
-    sym c.requires.1 ∙ c.in-Names.is in
+    let counted : count_prims c.args.path.now ≡ Some c.in-Some.names =
+    sym c.requires.1 ∙ c.in-Some.is in
     refused-6 _ _ _ _ _ linked (sym (counted-well-formed _ _ counted))
     (sym c.kind_allowed.ensures ∙ not-true _ c.if-not-kind_allowed.true-raw)
 
@@ -33,8 +33,8 @@ pub returns-then-not-has_room : goal.returns-then-not-has_room
 returns-then-not-has_room c =
     let linked : links_at c.args.before c.args.numbers ≡ true =
     sym c.links_allowed.ensures ∙ not-false _ c.if-not-links_allowed.false-raw in
-    let counted : count_prims c.args.path.now ≡ Some c.in-Names.names =
-    sym c.requires.1 ∙ c.in-Names.is in
+    let counted : count_prims c.args.path.now ≡ Some c.in-Some.names =
+    sym c.requires.1 ∙ c.in-Some.is in
     refused-7 _ _ _ _ _ linked
     (sym (counted-well-formed _ _ counted))
     (sym c.kind_allowed.ensures ∙ not-false _ c.if-not-kind_allowed.false-raw)
@@ -42,16 +42,16 @@ returns-then-not-has_room c =
 
 pub narrow-requires : goal.narrow-requires
 narrow-requires c =
-    let counted : count_prims c.args.path.now ≡ Some c.in-Names.names =
-    sym c.requires.1 ∙ c.in-Names.is in
+    let counted : count_prims c.args.path.now ≡ Some c.in-Some.names =
+    sym c.requires.1 ∙ c.in-Some.is in
     few-names _ _ counted
 
 pub returns : goal.returns
 returns c =
     let linked : links_at c.args.before c.args.numbers ≡ true =
     sym c.links_allowed.ensures ∙ not-false _ c.if-not-links_allowed.false-raw in
-    let counted : count_prims c.args.path.now ≡ Some c.in-Names.names =
-    sym c.requires.1 ∙ c.in-Names.is in
+    let counted : count_prims c.args.path.now ≡ Some c.in-Some.names =
+    sym c.requires.1 ∙ c.in-Some.is in
     accepted _ _ _ _ _ _ linked
     (sym (counted-well-formed _ _ counted))
     (sym c.kind_allowed.ensures ∙ not-false _ c.if-not-kind_allowed.false-raw)
