@@ -3,6 +3,7 @@
 -- two graphs compare alike (laws/proofs/StrengthCongruence.antt). Walks and comparisons are by
 -- fuel; laws/proofs/StrengthLaws.antt has the same lines without.
 use Rattle.std.specs.Prelude.{Bool, true, false, not, ◌||◌, ◌&&◌, cond, List, [], ◌∷◌, ◌++◌, ℕ, zero, suc, ◌+◌, eqb, ltb}
+use Rattle.std.specs.Ordering.{ordering_then}
 use Rattle.std.specs.declared.cmp.Ordering.{Ordering}
 use Rattle.std.specs.declared.cmp.Ordering.TheVariants.{Less, Equal, Greater}
 use Rattle.model.specs.Node.{root_arc, inherit_arc, variant_arc, relocate_arc, reference_arc, payload_arc, specialize_arc, Node, has_specializes, same_site as same_site_of}
@@ -61,9 +62,7 @@ view_of g = view g.nodes
 
 -- the first that differs
 abbrev pub first : Ordering → Ordering → Ordering
-first Less rest = Less
-first Equal rest = rest
-first Greater rest = Greater
+first = ordering_then
 
 unfoldable pub smaller : ℕ → ℕ → Ordering
 smaller x y = cond (ltb x y) Less (cond (eqb x y) Equal Greater)

@@ -51,14 +51,6 @@ pub ranks-settle : {bs : List ℕ} {root a b : ℕ} → Pair bs root a b → {o 
     → o ≡ smaller ((view_in bs).rank a) ((view_in bs).rank b) → o ≡ compare_sibling_node_strength (view_in bs) a b
 ranks-settle {bs} {root} {a} {b} pair {o} differ line = siblings-resolved pair (Settled o) (Settled o) refl (ranks-differ (view_in bs) bs a b differ line)
 
--- ---- Siblings at once: `k` is what their records say
-
-pub at_once : (u : View) (a b : ℕ) (k : Option Ordering) {o : Ordering} → k ≡ Some o → IsSettledEarly u a b k → o ≡ compare_sibling_node_strength u a b
-at_once u a b k told said = rw told at said
-
-pub left_open : (u : View) (a b : ℕ) (k : Option Ordering) → k ≡ None → IsSettledEarly u a b k → u.rank a ≡ u.rank b
-left_open u a b k told said = rw told at said
-
 -- ---- Nodes: `p` is where their chains part, `q` its form that was matched
 
 pub nodes-compared : (u : View) (a b : ℕ) (p q : Parting) → p ≡ q → Parts u a b p

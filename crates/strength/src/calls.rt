@@ -68,6 +68,14 @@ pub fn same_site(arena: &[u8], a: u32, b: u32) -> Result<bool, Refusal>
     Ok(view::same_site(arena, a, b))
 }
 
+// Where a class hierarchy starts: the node that inherits or specializes, and the topmost class, if
+// there is one.
+#[derive(Clone, Copy)]
+pub struct Hierarchy {
+    pub instance: NodeId,
+    pub class_node: Option<NodeId>,
+}
+
 // Whether node n is a propagated specializes: arc Specialize, the local root as parent, and its
 // origin's site. Refused 1 to 4.
 pub fn is_propagated_specializes(arena: &[u8], n: u32) -> Result<bool, Refusal>
@@ -92,11 +100,14 @@ pub fn get_propagated_specializes_node(arena: &[u8], n: u32) -> Result<Option<No
 }
 
 // Where the class hierarchy of node n starts, and its topmost class. Refused 1 to 4.
-pub fn starting_node_of_class_hierarchy(arena: &[u8], n: u32) -> Result<(NodeId, Option<NodeId>), Refusal>
+pub fn starting_node_of_class_hierarchy(arena: &[u8], n: u32) -> Result<Hierarchy, Refusal>
     ensures { HierarchyAnswered arena.now n result }
 {
     validate::ask_node(arena, n)?;
     let root = arena::local_root(arena);
     let found = view::starting_node_of_class_hierarchy(arena, root, n);
-    HierarchyRead::Hierarchy(NodeId(found.instance), NodeId::from_number(found.class_node))
+    Ok(Hierarchy {
+        instance: NodeId(found.instance),
+        class_node: NodeId::from_number(found.class_node),
+    })
 }

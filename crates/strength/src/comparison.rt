@@ -48,7 +48,7 @@ fn compare_siblings(arena: &[u8], root: u32, a: u32, b: u32) -> Ordering
             if x == y {
                 return o;
             }
-            crate::orderings::or_else(compare_node_strength(arena, root, x, y), o)
+            compare_node_strength(arena, root, x, y).then(o)
         }
     }
 }

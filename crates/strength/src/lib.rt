@@ -17,4 +17,4 @@ mod specializes;
 mod verdicts;
 
 pub use comparison::{compare_node_strength, compare_sibling_node_strength};
-pub use orderings::{by_having, by_number, is_less, or_else};
+pub use orderings::{by_having, by_number};

@@ -22,10 +22,7 @@ pub fn same_origin(arena: &[u8], root: u32, a: u32, b: u32) -> Ordering
     if view::is_authored(arena, b) {
         return crate::verdicts::by_sibling(arena, a, b);
     }
-    crate::orderings::or_else(
-        crate::verdicts::implied_over(arena, root, a, b),
-        crate::orderings::by_number(a, b),
-    )
+    crate::verdicts::implied_over(arena, root, a, b).then(crate::orderings::by_number(a, b))
 }
 
 // "If neither is authored and both have the local root's stack, implied over not".

@@ -5,7 +5,7 @@ ghost use Rattle.model.specs.Strength.{first, smaller, implied_over};
 ghost use Rattle.view.specs.View.{view_in};
 ghost use Rattle.strength.specs.Verdicts.{Pair, DecidedBy, origins_then_numbers};
 
-use crate::orderings::{by_having, by_number, or_else};
+use crate::orderings::{by_having, by_number};
 use model::Verdict;
 use std::cmp::Ordering;
 
@@ -25,7 +25,7 @@ pub fn by_sibling(arena: &[u8], a: u32, b: u32) -> Ordering
 {
     let x = view::sibling(arena, a) as u32;
     let y = view::sibling(arena, b) as u32;
-    or_else(by_number(x, y), by_number(a, b))
+    by_number(x, y).then(by_number(a, b))
 }
 
 // "Implied over not implied".

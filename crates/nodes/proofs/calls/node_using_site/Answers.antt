@@ -43,7 +43,7 @@ returns-else-not-is_well_formed c =
     found-node _ _ _
     (node-zero-passed c.args.arena.now (ask 5 (well_formed c.args.path.now) ∷ []) has-node.0 has-node.1
     ∙ rw (sym c.is_well_formed.ensures ∙ not-false _ c.if-not-is_well_formed.false-raw))
-    (c.of.ensures ∙ ap optional c.lowest-found.ensures)
+    (c.from_number.ensures ∙ ap optional c.lowest-found.ensures)
 
 pub returns-in_err-ask_node_zero : goal.returns-in_err-ask_node_zero
 returns-in_err-ask_node_zero c =

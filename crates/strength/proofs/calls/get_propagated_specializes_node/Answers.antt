@@ -22,7 +22,7 @@ find_copy-found-requires c =
 pub returns : goal.returns
 returns c =
     found-node _ _ _ (sym c.in_ok-ask_node.ensures)
-    (c.of.ensures ∙ ap optional c.find_copy-found.ensures)
+    (c.from_number.ensures ∙ ap optional c.find_copy-found.ensures)
 
 pub returns-in_err-ask_node : goal.returns-in_err-ask_node
 returns-in_err-ask_node c =

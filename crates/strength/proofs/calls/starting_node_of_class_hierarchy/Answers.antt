@@ -22,8 +22,8 @@ starting_node_of_class_hierarchy-found-requires c =
 pub returns : goal.returns
 returns c =
     let found = c.starting_node_of_class_hierarchy-found.ensures in
-    one-hierarchy _ _ _ _ _ (sym c.in_ok-ask_node.ensures)
-    found.instance (c.of.ensures ∙ ap optional found.class-node)
+    one-hierarchy _ _ _ _ (sym c.in_ok-ask_node.ensures)
+    found.instance (c.from_number.ensures ∙ ap optional found.class-node)
 
 pub returns-in_err-ask_node : goal.returns-in_err-ask_node
 returns-in_err-ask_node c =

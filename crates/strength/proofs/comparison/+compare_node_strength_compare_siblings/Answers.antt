@@ -2,7 +2,7 @@
 -- nodes ask siblings whose sum is no higher. Assumes nothing.
 use mathlib.Core.Path.{◌∙◌}
 use native.Mathlib.Omega.{arith}
-use Rattle.strength.proofs.ComparisonCycle.{siblings-resolved, asked-itself, asked-lower, at_once, left_open, nodes-compared, parted-pair}
+use Rattle.strength.proofs.ComparisonCycle.{siblings-resolved, asked-itself, asked-lower, nodes-compared, parted-pair}
 use Rattle.strength.proofs.comparison.+compare_node_strength_compare_siblings.Goals as goal
 
 -- ---- compare_node_strength
@@ -14,7 +14,7 @@ compare_node_strength-by_rank-requires t c =
 pub compare_node_strength-compare_siblings-requires : goal.compare_node_strength-compare_siblings-requires
 compare_node_strength-compare_siblings-requires t c =
     let parted = parted-pair c.requires.0 c.requires.1 _ c.in-Apart.is c.part_chains.ensures in
-    (omega (arith, c.decreases, parted.1), (parted.0, left_open _ _ _ _ c.in-Open.is c.by_rank.ensures))
+    (omega (arith, c.decreases, parted.1), (parted.0, c.in-None.ensures))
 
 pub compare_node_strength-returns-in-Same : goal.compare_node_strength-returns-in-Same
 compare_node_strength-returns-in-Same t c = nodes-compared _ _ _ _ _ c.in-Same.is c.part_chains.ensures
@@ -25,12 +25,12 @@ compare_node_strength-returns-in-Above t c = nodes-compared _ _ _ _ _ c.in-Above
 pub compare_node_strength-returns-in-Below : goal.compare_node_strength-returns-in-Below
 compare_node_strength-returns-in-Below t c = nodes-compared _ _ _ _ _ c.in-Below.is c.part_chains.ensures
 
-pub compare_node_strength-returns-in-As : goal.compare_node_strength-returns-in-As
-compare_node_strength-returns-in-As t c =
-    at_once _ _ _ _ c.in-As.is c.by_rank.ensures ∙ nodes-compared _ _ _ _ _ c.in-Apart.is c.part_chains.ensures
+pub compare_node_strength-returns-in-Some : goal.compare_node_strength-returns-in-Some
+compare_node_strength-returns-in-Some t c =
+    c.in-Some.ensures ∙ nodes-compared _ _ _ _ _ c.in-Apart.is c.part_chains.ensures
 
-pub compare_node_strength-returns-in-Open : goal.compare_node_strength-returns-in-Open
-compare_node_strength-returns-in-Open t c =
+pub compare_node_strength-returns-in-None : goal.compare_node_strength-returns-in-None
+compare_node_strength-returns-in-None t c =
     c.compare_siblings.ensures ∙ nodes-compared _ _ _ _ _ c.in-Apart.is c.part_chains.ensures
 
 -- ---- compare_siblings
@@ -48,4 +48,4 @@ compare_siblings-returns-in-Settled t c = siblings-resolved c.requires.0 _ _ c.i
 
 pub compare_siblings-returns-else-x-y : goal.compare_siblings-returns-else-x-y
 compare_siblings-returns-else-x-y t c =
-    c.or_else.ensures ∙ rw c.compare_node_strength.ensures (siblings-resolved c.requires.0 _ _ c.in-Ask.is c.weigh.ensures)
+    c.then.ensures ∙ rw c.compare_node_strength.ensures (siblings-resolved c.requires.0 _ _ c.in-Ask.is c.weigh.ensures)

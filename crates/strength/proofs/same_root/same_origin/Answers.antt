@@ -15,4 +15,4 @@ pub returns : goal.returns
 returns c =
     let left = sym c.is_authored.ensures ∙ c.if-is_authored.false in
     let right = sym c.is_authored-2.ensures ∙ c.if-is_authored-2.false in
-    c.or_else.ensures ∙ rw (c.implied_over.ensures, c.by_number.ensures) (sym (neither-authored _ _ _ left right))
+    c.then.ensures ∙ rw (c.implied_over.ensures, c.by_number.ensures) (sym (neither-authored _ _ _ left right))

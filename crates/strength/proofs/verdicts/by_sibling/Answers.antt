@@ -5,4 +5,4 @@ use Rattle.strength.proofs.verdicts.by_sibling.Goals as goal
 pub returns : goal.returns
 returns c =
     let siblings = read-smaller c.sibling-x.ensures c.sibling-y.ensures c.by_number.ensures in
-    rw (← siblings, ← c.by_number-2.ensures) c.or_else.ensures
+    rw (← siblings, ← c.by_number-2.ensures) c.then.ensures
