@@ -36,8 +36,8 @@ put_listing-requires c =
     c.if-out-ne-ARENA_BYTES.false in
     record { opened = has-node.0; ordered = sym c.ordered.ensures ∙ c.if-ordered-ne1.false; large = large }
 
-pub returns-else-ordered-ne1 : goal.returns-else-ordered-ne1
-returns-else-ordered-ne1 c =
+pub returns : goal.returns
+returns c =
     let has-node : let bs = c.args.arena.now in ValidArena bs × (0 < count_in bs) =
     some-node _ (sym c.in_ok-ask_node_zero.ensures) in
     let large : length c.args.out.now ≡ arena_bytes =

@@ -43,8 +43,8 @@ returns-then-not-paths_fit c =
     refused-no-room _ _ there.0 there.1 right _ c.last_name-name.ensures c.if-name-eq0.false
     (sym c.paths_fit.ensures ∙ c.if-not-paths_fit.true)
 
-pub returns-else-not-paths_fit : goal.returns-else-not-paths_fit
-returns-else-not-paths_fit c =
+pub returns : goal.returns
+returns c =
     let has-node : let bs = c.args.arena.now in ValidArena bs × (0 < count_in bs) =
     some-node _ (sym c.in_ok-ask_node_zero.ensures) in
     let right : well_formed c.args.child.now ≡ true =

@@ -40,8 +40,8 @@ erase-requires c =
     let accepted : can_erase (decode c.args.arena.now) c.args.set.now ≡ true =
     sym c.can_erase.ensures ∙ c.if-not-can_erase.false in record { valid_arena = has-node; set_len = (large, accepted) }
 
-pub returns-else-not-can_erase : goal.returns-else-not-can_erase
-returns-else-not-can_erase c =
+pub returns : goal.returns
+returns c =
     let has-node : let bs = c.args.arena.now in ValidArena bs × (0 < count_in bs) =
     some-node _ (sym c.in_ok-ask_node_zero.ensures) in
     let large : length c.args.set.now ≡ 1024 =

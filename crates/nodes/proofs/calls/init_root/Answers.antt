@@ -58,8 +58,8 @@ append_node-requires c =
     rw c.start_record.ensures
     (can-start c.args.arena.now c.args.stack c.args.layer c.args.path.now opened empty _ formed (counted-names _ _ counted))
 
-pub returns-in-Some : goal.returns-in-Some
-returns-in-Some c =
+pub returns : goal.returns
+returns c =
     let opened : ValidArena c.args.arena.now =
     passed-opened _ [] (sym c.in_ok-ask_graph.ensures) in
     let counted : count_prims c.args.path.now ≡ Some c.in-Some.prims =

@@ -36,8 +36,8 @@ lowest-found-requires c =
     some-node _ (sym c.in_ok-ask_node_zero.ensures) in
     (has-node.0, c.count.ensures)
 
-pub returns-else-not-is_well_formed : goal.returns-else-not-is_well_formed
-returns-else-not-is_well_formed c =
+pub returns : goal.returns
+returns c =
     let has-node : let bs = c.args.arena.now in ValidArena bs × (0 < count_in bs) =
     some-node _ (sym c.in_ok-ask_node_zero.ensures) in
     found-node _ _ _

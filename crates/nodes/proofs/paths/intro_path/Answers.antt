@@ -67,8 +67,8 @@ put-requires-in-Done c =
       there.1,
     )
 
-pub returns-else-n-eq0 : goal.returns-else-n-eq0
-returns-else-n-eq0 c =
+pub returns : goal.returns
+returns c =
     let asked : refusal (ask_path c.args.arena.now c.args.buffer.now (reads_node (decode c.args.arena.now) c.args.n)) ≡ 0 =
     sym c.in_ok-ask.ensures in
     let there : ValidNode c.args.arena.now c.args.n × (length c.args.buffer.now ≡ 255) =

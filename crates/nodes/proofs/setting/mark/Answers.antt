@@ -38,8 +38,8 @@ write_flags-requires c =
     readable _ _ (sym c.in_ok-ask_node.ensures) in
     has-slot _ _ valid
 
-pub returns-else-not-may_mark : goal.returns-else-not-may_mark
-returns-else-not-may_mark c =
+pub returns : goal.returns
+returns c =
     let bytes : Bytes c.args.arena.now =
     bytes-by-place c.args.arena.now (λ k. (c.slice_known-1.given k).fits) in
     let valid : ValidNode c.args.arena.now c.args.n =

@@ -40,8 +40,8 @@ returns-then-not-order_graph c =
     let there = has-node in
     no-order _ there.0 there.1 not-finalized _ _ c.order_graph.ensures (not-true _ c.if-not-order_graph.true-raw)
 
-pub returns-else-not-order_graph : goal.returns-else-not-order_graph
-returns-else-not-order_graph c =
+pub returns : goal.returns
+returns c =
     let has-node : let bs = c.args.arena.now in ValidArena bs × (0 < count_in bs) =
     some-node _ (sym c.in_ok-ask_node_zero.ensures) in
     let not-finalized : finalized_in c.args.arena.now ≡ 1 → ⊥ =

@@ -34,8 +34,8 @@ order_entry-requires c =
     readable _ _ (sym c.in_ok-ask_node.ensures) in
     has-slot _ _ reads-it
 
-pub returns-else-not-is_ordered : goal.returns-else-not-is_ordered
-returns-else-not-is_ordered c =
+pub returns : goal.returns
+returns c =
     let reads-it : ValidNode c.args.arena.now c.args.place =
     readable _ _ (sym c.in_ok-ask_node.ensures) in
     let place = reads-it in

@@ -43,8 +43,8 @@ write_entries-requires c =
     c.if-out-ne-ORDER_BYTES.false in
     (has-node.0, c.count-count.ensures, large)
 
-pub returns-else-not-is_ordered : goal.returns-else-not-is_ordered
-returns-else-not-is_ordered c =
+pub returns : goal.returns
+returns c =
     let has-node : let bs = c.args.arena.now in ValidArena bs × (0 < count_in bs) =
     some-node _ (sym c.in_ok-ask_node_zero.ensures) in
     let large : length c.args.out.now ≡ 4096 =
