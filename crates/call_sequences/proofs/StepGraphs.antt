@@ -17,7 +17,6 @@ use Rattle.model.specs.Calls.{Outcome, unchanged, Call, call, read_into, erase_s
 use Rattle.model.specs.Arena.{arena_bytes, decode, encode}
 use Rattle.model.specs.ArenaCalls.{on_arena, into_arena, arena_after}
 use Rattle.laws.proofs.SnapshotReadLaws.{accepted-read, grown-read, refused-read-keeps}
-use Rattle.model.specs.Answers.{number_option}
 use Rattle.nodes.specs.Describing.{desc_of}
 use Rattle.nodes.specs.declared.description.NodeDesc.{NodeDesc}
 use Rattle.erasing.specs.Erasures.{erase_in}
@@ -78,7 +77,7 @@ desc-fits d fits path = (
   deep d.depth fits.depth,
 )
   where
-    deep : (x : Option ℕ) → bytes.DepthFits x → DepthFits (number_option x)
+    deep : (x : Option ℕ) → bytes.DepthFits x → DepthFits x
     deep (Some n) h = h
     deep None h = tt
 

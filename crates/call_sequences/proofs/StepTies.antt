@@ -17,7 +17,7 @@ use Rattle.model.specs.Graph.{empty_graph, size}
 use Rattle.model.specs.Refusals.{refusal}
 use Rattle.model.specs.Calls.{init_root, add_child, read_into, mark, set_first_spec, set_has_specs, set_restriction_depth}
 use Rattle.model.specs.Arena.{arena_bytes, decode}
-use Rattle.model.specs.Answers.{number_option, answer_refusal}
+use Rattle.model.specs.Answers.{answer_refusal}
 use Rattle.model.specs.ArenaCalls.{ValidArena, on_arena, into_arena, Wrote, Finishes}
 use Rattle.nodes.specs.Describing.{desc_of}
 use Rattle.nodes.specs.declared.description.NodeDesc.{NodeDesc}
@@ -57,7 +57,7 @@ pub mark-marks : (n flags : ℕ) (before : List ℕ) (r : Result ⊤ Refusal) (a
 mark-marks n flags before r after finishes = λ m f d e. rw (d, e) finishes.arena
 
 pub set-first-spec-sets : (n : ℕ) (first : Option ℕ) (before : List ℕ) (r : Result ⊤ Refusal) (after : List ℕ)
-    → Finishes (on_arena (set_first_spec n (number_option first)) before) before r after → SetsFirstSpec n first before after
+    → Finishes (on_arena (set_first_spec n first) before) before r after → SetsFirstSpec n first before after
 set-first-spec-sets n first before r after finishes = λ m f d e. rw (d, e) finishes.arena
 
 pub set-has-specs-sets : (n : ℕ) (authored : Bool) (before : List ℕ) (r : Result ⊤ Refusal) (after : List ℕ)

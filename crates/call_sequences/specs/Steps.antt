@@ -4,7 +4,6 @@
 use Rattle.std.specs.Prelude.{Option, Result, ⊤}
 use Rattle.model.specs.declared.Refusal.{Refusal}
 use Rattle.std.specs.Prelude.{◌≡◌, Bool, List, ℕ}
-use Rattle.model.specs.Answers.{number_option}
 use Rattle.model.specs.ArenaCalls.{Finishes}
 use Rattle.nodes.specs.declared.description.NodeDesc.{NodeDesc}
 use Rattle.call_sequences.specs.Demand3.{U8, U16, U32, number_in, Slice, DescFits, starting, adding, ordering, culling, erasing, deepening, reading, marking, setting_first_spec, setting_has_specs, setting_restriction, step, seeding}
@@ -36,7 +35,7 @@ Marks n flags before after = (m : U32) (f : U8) → m.number ≡ n → f.number 
 
 abbrev pub SetsFirstSpec : ℕ → Option ℕ → List ℕ → List ℕ → Type 0
 SetsFirstSpec n first before after =
-    (m : U32) (f : Option U16) → m.number ≡ n → number_in f ≡ number_option first → after ≡ step (setting_first_spec m f) before
+    (m : U32) (f : Option U16) → m.number ≡ n → number_in f ≡ first → after ≡ step (setting_first_spec m f) before
 
 abbrev pub SetsHasSpecs : ℕ → Bool → List ℕ → List ℕ → Type 0
 SetsHasSpecs n authored before after = (m : U32) → m.number ≡ n → after ≡ step (setting_has_specs m authored) before

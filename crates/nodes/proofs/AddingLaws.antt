@@ -15,7 +15,7 @@ use Rattle.model.specs.Node.{root_arc, is_culled}
 use Rattle.model.specs.Graph.{Graph, size, with_node}
 use Rattle.model.specs.Refusals.{refusal_number, Question, ask, refusal, path_bytes, arc_allowed, links_allowed, record_questions}
 use Rattle.model.specs.Calls as calls
-use Rattle.model.specs.Answers.{node_option, number_option}
+use Rattle.model.specs.Answers.{node_option}
 use Rattle.model.specs.Calls.{decided, has_node_zero, init_root, given_or, prims_over, given_below, default_depth, added_node, root_node, add_child}
 use Rattle.model.specs.Arena.{count_in, decode, encode}
 use Rattle.model.specs.ArenaCalls.{ValidArena, ValidNode, on_arena, Wrote, ask_arena}
@@ -39,9 +39,9 @@ use Rattle.nodes.specs.Adding.{start_record}
 
 pub start-accepted : (g : Graph) (stack layer : ℕ) (path : List ℕ) → size g ≡ 0 → path_bytes g.nodes ≡ 0 → well_formed path ≡ true
     → refusal (record_questions g (root_node stack layer path)) ≡ 0
-start-accepted g stack layer path None empty formed =
+start-accepted g stack layer path new empty formed =
     rw (
-      eq-eqb (size g) 0 None,
+      eq-eqb (size g) 0 new,
       formed,
       lt-ltb (size g) 1024 (omega arith),
       le-leb (path_bytes g.nodes + length path) 32768 (omega (arith, well-formed-length path formed)),
@@ -113,7 +113,7 @@ module _ (bs : List ℕ) (o : ValidArena bs) (desc : NodeDesc) (path : List ℕ)
   pub added-node : (prims : ℕ) → refusal (add_questions g d) ≡ 0 → prims ≡ prim_count path
       → node_of (added_record bs desc prims (length path)) path ≡ added_node g d
   added-node prims e p =
-      let depth = ap (given_or (number_option desc.depth)) (default-read prims e p) in
+      let depth = ap (given_or desc.depth) (default-read prims e p) in
       λ i. record {
         arc = desc.arc;
         flags = desc.flags;

@@ -16,20 +16,14 @@ use Rattle.nodes.specs.declared.calls.GraphInfo.{GraphInfo}
 use Rattle.nodes.specs.Queries.{NodeShown, NodeAnswered, GraphShown, GraphAnswered}
 
 pub no_node : (bs : List ℕ) (n : ℕ) (r : Refusal) → refusal_number r ≡ refusal (ask_arena bs (reads_node (decode bs) n)) → NodeAnswered bs n (Err r)
-no_node bs n r e = record { refused = e; node = λ x q. absurd (let z : ◌≡◌ {A = ℕ} 0 1 = cc in omega arith) }
+no_node bs n r e = record { refused = e; node = tt }
 
 pub one-node : (bs : List ℕ) (n : ℕ) (x : Node) → refusal (ask_arena bs (reads_node (decode bs) n)) ≡ 0 → NodeShown (decode bs) n x
     → NodeAnswered bs n (Ok x)
-one-node bs n x e s = record { refused = sym e; node = λ y q. same y (cc) }
-  where
-    same : (y : Node) → x ≡ y → NodeShown (decode bs) n y
-    same y q = rw (sym q) s
+one-node bs n x e s = record { refused = sym e; node = s }
 
 pub no-graph : (bs : List ℕ) (r : Refusal) → refusal_number r ≡ refusal (ask_arena bs []) → GraphAnswered bs (Err r)
-no-graph bs r e = record { refused = e; graph = λ x q. absurd (let z : ◌≡◌ {A = ℕ} 0 1 = cc in omega arith) }
+no-graph bs r e = record { refused = e; graph = tt }
 
 pub one-graph : (bs : List ℕ) (x : GraphInfo) → ValidArena bs → GraphShown (decode bs) x → GraphAnswered bs (Ok x)
-one-graph bs x o s = record { refused = sym (asked-on bs [] o); graph = λ y q. same y (cc) }
-  where
-    same : (y : GraphInfo) → x ≡ y → GraphShown (decode bs) y
-    same y q = rw (sym q) s
+one-graph bs x o s = record { refused = sym (asked-on bs [] o); graph = s }

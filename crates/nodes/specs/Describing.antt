@@ -9,7 +9,7 @@ use Rattle.model.specs.Graph.{Graph, size}
 use Rattle.model.specs.Refusals.{Question, ask, refusal, has_room, added_kind}
 use Rattle.model.specs.Calls as calls
 use Rattle.model.specs.Calls.{given_or, given_below, added_node}
-use Rattle.model.specs.Answers.{node_option, number_option}
+use Rattle.model.specs.Answers.{node_option}
 use Rattle.model.specs.Arena.{prim_count_in}
 use Rattle.model.specs.declared.NodeId.{NodeId}
 use Rattle.arena.specs.declared.Node.{Node}
@@ -36,7 +36,7 @@ desc_of d path = record {
   };
   parent = node_option d.parent;
   origin = node_option d.origin;
-  depth = number_option d.depth;
+  depth = d.depth;
 }
 
 -- `add_child`'s questions 4 to 7, which are put where there is a node 0
@@ -80,7 +80,7 @@ added_record bs d prims path_length = record {
   layer = d.layer;
   parent = record { 0 = given_or (node_option d.parent) 0 };
   origin = record { 0 = given_or (node_option d.origin) (given_or (node_option d.parent) 0) };
-  depth = given_or (number_option d.depth) (prims_read bs d.parent prims);
+  depth = given_or d.depth (prims_read bs d.parent prims);
   sibling = d.sibling;
   restriction = d.restriction;
   spec_from = d.spec_from;

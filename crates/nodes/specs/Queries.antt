@@ -1,13 +1,12 @@
 -- What the calls that only read answer, beside model/specs/ArenaCalls.antt's `Answered`: a node,
--- and what the header tells; for each case of the answer its refusal and its value. The definitions
--- that they cite are document 01's, in model/specs.
-use Rattle.std.specs.Prelude.{Err, None, Ok, Option, Result, Some}
+-- and what the header tells. The definitions that they cite are in model/specs.
+use Rattle.std.specs.Prelude.{Option, None, Some, Result, IfOk}
 use Rattle.model.specs.declared.Refusal.{Refusal}
 use Rattle.std.specs.Prelude.{◌≡◌, cond, List, [], ℕ, ◌+◌, length}
 use Rattle.model.specs.Path.{prim_count}
 use Rattle.model.specs.Graph.{Graph, size, node_at, children_of, has_local_root}
-use Rattle.model.specs.Answers.{node_option}
-use Rattle.model.specs.Refusals.{refusal_number, refusal}
+use Rattle.model.specs.Answers.{node_option, answer_refusal}
+use Rattle.model.specs.Refusals.{refusal}
 use Rattle.model.specs.Calls.{reads_node}
 use Rattle.model.specs.Arena.{first_of, last_of, after_in, local_root_of, decode}
 use Rattle.model.specs.ArenaCalls.{ask_arena}
@@ -16,14 +15,6 @@ use Rattle.arena.specs.Slot.{node_of}
 use Rattle.nodes.specs.declared.calls.GraphInfo.{GraphInfo}
 
 -- ---- A node
-
-abbrev pub node_read_refusal : Result Node Refusal → ℕ
-node_read_refusal (Ok x) = 0
-node_read_refusal (Err r) = refusal_number r
-
-abbrev pub node_read_value : Result Node Refusal → Option Node
-node_read_value (Ok x) = Some x
-node_read_value (Err r) = None
 
 -- x has the fields of node n and its links: the first and last of its children, and the one after
 -- it among its parent's; `invalid` for none
@@ -36,18 +27,10 @@ pub record NodeShown (g : Graph) (n : ℕ) (x : Node) : Type 0 where
   pub «record-length» : x.record_length ≡ 27 + length (node_at g.nodes n).path
 
 pub record NodeAnswered (bs : List ℕ) (n : ℕ) (r : Result Node Refusal) : Type 0 where
-  pub refused : node_read_refusal r ≡ refusal (ask_arena bs (reads_node (decode bs) n))
-  pub node : (x : Node) → node_read_value r ≡ Some x → NodeShown (decode bs) n x
+  pub refused : answer_refusal r ≡ refusal (ask_arena bs (reads_node (decode bs) n))
+  pub node : IfOk r (NodeShown (decode bs) n)
 
 -- ---- What the header tells
-
-abbrev pub graph_read_refusal : Result GraphInfo Refusal → ℕ
-graph_read_refusal (Ok x) = 0
-graph_read_refusal (Err r) = refusal_number r
-
-abbrev pub graph_read_value : Result GraphInfo Refusal → Option GraphInfo
-graph_read_value (Ok x) = Some x
-graph_read_value (Err r) = None
 
 -- the local root's number, where there is one
 abbrev pub local_root_option : Graph → Option ℕ
@@ -61,5 +44,5 @@ pub record GraphShown (g : Graph) (x : GraphInfo) : Type 0 where
   pub «local-root» : node_option x.local_root ≡ local_root_option g
 
 pub record GraphAnswered (bs : List ℕ) (r : Result GraphInfo Refusal) : Type 0 where
-  pub refused : graph_read_refusal r ≡ refusal (ask_arena bs [])
-  pub graph : (x : GraphInfo) → graph_read_value r ≡ Some x → GraphShown (decode bs) x
+  pub refused : answer_refusal r ≡ refusal (ask_arena bs [])
+  pub graph : IfOk r (GraphShown (decode bs))

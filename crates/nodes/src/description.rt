@@ -3,7 +3,7 @@
 // these. specs/Describing.antt ties `NodeDesc` to that of model/specs/Calls.antt and has the
 // record.
 ghost use Rattle.std.specs.Prelude.{◌≡◌, ◌≤◌, ◌<◌};
-ghost use Rattle.model.specs.Answers.{node_option, number_option};
+ghost use Rattle.model.specs.Answers.{node_option};
 ghost use Rattle.model.specs.Arena.{count_in, decode};
 ghost use Rattle.model.specs.ArenaCalls.{ValidArena};
 ghost use Rattle.model.specs.Calls.{given_or};
@@ -41,7 +41,7 @@ fn node_or(node: Option<NodeId>, missing: u32) -> u32
 
 // The depth that is given, or `missing`.
 fn depth_or(depth: Option<u16>, missing: u16) -> u16
-    ensures { result ≡ given_or (number_option depth) missing }
+    ensures { result ≡ given_or depth missing }
 {
     match depth {
         Some(given) => given,

@@ -5,7 +5,6 @@
 // The calls and their questions are in model/specs/Calls.antt, what they set in
 // model/specs/Setting.antt; specs/Setting.antt has what is stored of the specs.
 ghost use Rattle.std.specs.Prelude.{◌≡◌};
-ghost use Rattle.model.specs.Answers.{number_option};
 ghost use Rattle.model.specs.ArenaCalls.{on_arena, Finishes};
 ghost use Rattle.model.specs.Calls.{mark, set_first_spec, set_has_specs, set_restriction_depth};
 ghost use Rattle.model.specs.Node.{has_flag, inert_flag, culled_flag, prohibited_children_flag};
@@ -100,7 +99,7 @@ pub fn mark(arena: &mut [u8], n: u32, flags: u8) -> Result<(), Refusal>
 // Stores the position of the first spec and that there is one, or 0 and that there is none.
 fn write_first_spec(arena: &mut [u8], n: u32, first: Option<u16>)
     requires { HasSlot arena.old n }
-    ensures { arena.new ≡ first_spec_stored n (number_option first) arena.old }
+    ensures { arena.new ≡ first_spec_stored n first arena.old }
 {
     match first {
         Some(position) => arena::write_specs(arena, n, position, 1),
@@ -111,7 +110,7 @@ fn write_first_spec(arena: &mut [u8], n: u32, first: Option<u16>)
 // Sets the position in node n's stack of the strongest layer with a spec at its path, or that no
 // layer has one. Refused 1 to 4.
 pub fn set_first_spec(arena: &mut [u8], n: u32, first: Option<u16>) -> Result<(), Refusal>
-    ensures { Finishes (on_arena (set_first_spec n (number_option first)) arena.old)
+    ensures { Finishes (on_arena (set_first_spec n first) arena.old)
         arena.old result arena.new }
 {
     validate::ask_node(arena, n)?;

@@ -35,12 +35,12 @@ exact_read bytes count e = go (read_snapshot bytes) refl e
         }
 
 pub not-exact : (bytes arena : List ℕ) (r : Refusal) → counted_as (read_snapshot bytes) ≡ Err r
-    → Wrote (read_into bytes empty_graph) arena (Err Snapshot) arena
+    → Wrote (read_into bytes empty_graph) arena (Err r) arena
 unfolding read_into
 not-exact bytes arena r e = go (read_snapshot bytes) e
   where
-    go : (o : Option (List Node)) → counted_as o ≡ Err r → Wrote (read_or12 o empty_graph) arena (Err Snapshot) arena
-    go None q = record { refused = refl; value = refl; arena = refl }
+    go : (o : Option (List Node)) → counted_as o ≡ Err r → Wrote (read_or12 o empty_graph) arena (Err r) arena
+    go None q = let same : Snapshot ≡ r = cc in rw (sym same) (record { refused = refl; value = refl; arena = refl })
     go (Some xs) q = let z : ◌≡◌ {A = ℕ} 0 1 = cc in absurd (omega arith)
 
 -- ---- Questions 4 to 7

@@ -14,14 +14,9 @@ pub fn read_snapshot(arena: &mut [u8], bytes: &[u8]) -> Result<u32, Refusal>
     requires { length arena.old ≡ arena_bytes }
     ensures { Wrote (read_into bytes.now empty_graph) arena.old result arena.new }
 {
-    let Ok(count) = crate::checks::check_lengths(bytes) else {
-        return Err(Refusal::Snapshot);
-    };
+    let count = crate::checks::check_lengths(bytes)?;
     let mut prims = [0u8; 1024];
-    let checked = crate::checks::check_records(bytes, count, &mut prims);
-    if let Err(refusal) = checked {
-        return Err(refusal);
-    }
+    crate::checks::check_records(bytes, count, &mut prims)?;
     fill::fill(arena, bytes, count, &prims);
     Ok(count)
 }

@@ -22,8 +22,8 @@ count-count-requires c =
     some-node _ (sym c.in_ok-ask_node_zero.ensures) in
     has-node.0.whole
 
-pub check_desc-checked-requires : goal.check_desc-checked-requires
-check_desc-checked-requires c =
+pub check_desc-requires : goal.check_desc-requires
+check_desc-requires c =
     let has-node : let bs = c.args.arena.now in ValidArena bs × (0 < count_in bs) =
     some-node _ (sym c.in_ok-ask_node_zero.ensures) in
     let there = has-node in
@@ -34,7 +34,7 @@ added_record-node-requires c =
     let has-node : let bs = c.args.arena.now in ValidArena bs × (0 < count_in bs) =
     some-node _ (sym c.in_ok-ask_node_zero.ensures) in
     let passes : refusal (add_questions (decode c.args.arena.now) (desc_of c.args.desc c.args.path.now)) ≡ 0 =
-    sym (rw c.in_ok-prims.was at c.check_desc-prims.ensures.refused) in
+    sym c.in_ok-prims.ensures.refused in
     let there = has-node in
     record {
       valid_arena = there.0;
@@ -47,9 +47,9 @@ append_node-requires c =
     let has-node : let bs = c.args.arena.now in ValidArena bs × (0 < count_in bs) =
     some-node _ (sym c.in_ok-ask_node_zero.ensures) in
     let passes : refusal (add_questions (decode c.args.arena.now) (desc_of c.args.desc c.args.path.now)) ≡ 0 =
-    sym (rw c.in_ok-prims.was at c.check_desc-prims.ensures.refused) in
+    sym c.in_ok-prims.ensures.refused in
     let named : c.in_ok-prims.prims ≡ prim_count c.args.path.now =
-    (rw c.in_ok-prims.was at c.check_desc-prims.ensures.prims) refl in
+    c.in_ok-prims.ensures.prims refl in
     let there = has-node in
     rw c.added_record-node.ensures
     (can-add c.args.arena.now there.0 c.args.desc c.args.path.now there.1 _ _ passes named
@@ -60,9 +60,9 @@ returns c =
     let has-node : let bs = c.args.arena.now in ValidArena bs × (0 < count_in bs) =
     some-node _ (sym c.in_ok-ask_node_zero.ensures) in
     let passes : refusal (add_questions (decode c.args.arena.now) (desc_of c.args.desc c.args.path.now)) ≡ 0 =
-    sym (rw c.in_ok-prims.was at c.check_desc-prims.ensures.refused) in
+    sym c.in_ok-prims.ensures.refused in
     let named : c.in_ok-prims.prims ≡ prim_count c.args.path.now =
-    (rw c.in_ok-prims.was at c.check_desc-prims.ensures.prims) refl in
+    c.in_ok-prims.ensures.prims refl in
     let bs = c.args.arena.now in
     let there = has-node in
     let node = ap (λ (r : Node). node_of r c.args.path.now) c.added_record-node.ensures
@@ -70,12 +70,14 @@ returns c =
     add_done bs (desc_of c.args.desc c.args.path.now) there.0 there.1 _ _ passes c.count-count.ensures
     (c.append_node.ensures ∙ ap (λ (y : model.Node). encode (with_node (decode bs) y) bs) node)
 
-pub returns-in-Refused-checked : goal.returns-in-Refused-checked
-returns-in-Refused-checked c =
+pub returns-in_err-prims : goal.returns-in_err-prims
+returns-in_err-prims c =
     let has-node : let bs = c.args.arena.now in ValidArena bs × (0 < count_in bs) =
     some-node _ (sym c.in_ok-ask_node_zero.ensures) in
+    let p = err_from_is_err_and c.from_residual-in_err-prims.result c.from_residual-in_err-prims.ensures.1 in
+    rw (p.1, p.2) (
     add-refused c.args.arena.now (desc_of c.args.desc c.args.path.now) has-node.0 has-node.1 _
-    (rw c.in-Refused-checked.is at c.check_desc-prims.ensures.refused)
+    c.in_err-prims.ensures.refused)
 
 pub returns-in_err-ask_node_zero : goal.returns-in_err-ask_node_zero
 returns-in_err-ask_node_zero c =

@@ -23,4 +23,4 @@ pub returns-in_err-nodes : goal.returns-in_err-nodes
 returns-in_err-nodes c =
     let p = err_from_is_err_and c.from_residual.result c.from_residual.ensures.1 in
     rw (p.1, p.2) (
-    no-graph _ _ (rw c.in_err-nodes.was at c.count-nodes.ensures.refused))
+    no-graph _ _ c.in_err-nodes.ensures.refused)

@@ -1,6 +1,6 @@
 -- `added_record` meets its contract: what was missing is put in. Assumes nothing.
 use mathlib.Core.Path.{ap, ◌∙◌}
-use Rattle.model.specs.Answers.{node_option, number_option}
+use Rattle.model.specs.Answers.{node_option}
 use Rattle.model.specs.Calls.{given_or}
 use Rattle.nodes.specs.Describing.{added_record}
 use Rattle.nodes.proofs.description.added_record.Goals as goal
@@ -10,7 +10,7 @@ returns c =
     let d = c.args.desc in
     let parent = c.node_or-parent.ensures in
     let origin = c.node_or.ensures ∙ ap (given_or (node_option d.origin)) parent in
-    let depth = c.depth_or.ensures ∙ ap (given_or (number_option d.depth)) c.default_depth-default.ensures in
+    let depth = c.depth_or.ensures ∙ ap (given_or d.depth) c.default_depth-default.ensures in
     let rest = added_record c.args.arena.now d c.args.prims c.args.path_length in
     λ i. record {
       first_child = rest.first_child;

@@ -55,8 +55,8 @@ path-requires c =
     rw c.parent-parent.ensures (readable-parent _ _ there.0 (omega (arith, c.if-n-eq0.false))) in
     has-path _ _ parent-there
 
-pub put-requires-in-Done : goal.put-requires-in-Done
-put-requires-in-Done c =
+pub put-requires-2 : goal.put-requires-2
+put-requires-2 c =
     let asked : refusal (ask_path c.args.arena.now c.args.buffer.now (reads_node (decode c.args.arena.now) c.args.n)) ≡ 0 =
     sym c.in_ok-ask.ensures in
     let there : ValidNode c.args.arena.now c.args.n × (length c.args.buffer.now ≡ 255) =
@@ -77,7 +77,7 @@ returns c =
     (c.path_at_intro_depth.ensures
     ∙ introduced _ _ there.0 c.if-n-eq0.false _ _ _ c.depth_below-depth.ensures.0
     c.parent-parent.ensures c.path.ensures)
-    c.put-in-Done.ensures.result_value c.put-in-Done.ensures.buffer_after
+    c.put-2.ensures.result_value c.put-2.ensures.buffer_after
 
 pub returns-in_err-ask : goal.returns-in_err-ask
 returns-in_err-ask c =

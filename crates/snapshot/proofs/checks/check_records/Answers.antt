@@ -26,16 +26,12 @@ check_one-checked-requires c =
     let long : (28 ≤ length c.record_at-record.result.now) × (length c.record_at-record.result.now ≤ 282) =
     piece-long _ _ _ c.loop-n.invariant.reached here c.record_at-record.result.now c.record_at-record.ensures in record { tables = record { kinds-right = c.kinds-kinds.ensures; pairs-right = c.pairs-pairs.ensures }; in_bounds = (long.0, c.loop-n.invariant.few_bytes) }
 
-pub shape_of-prims-in-Refused : goal.shape_of-prims-in-Refused
-shape_of-prims-in-Refused c =
-    c.loop-n.invariant.whole ∙ sym c.requires.prims_len
-
-pub returns-in-Refused : goal.returns-in-Refused
-returns-in-Refused c =
+pub returns-in-Err : goal.returns-in-Err
+returns-in-Err c =
     let here : c.loop-n.n < length (nodes_read c.args.bytes.now) =
     omega (arith, c.loop-n-test.true, c.requires.exact.counted) in
     refused-here _ _ _ _ _ _ c.loop-n.invariant here c.record_at-record.result.now c.record_at-record.ensures
-    c.check_one-checked.result c.check_one-checked.ensures _ c.in-Refused.is
+    c.check_one-checked.result c.check_one-checked.ensures _ c.in-Err.is
 
 pub bounds-prims-n : goal.bounds-prims-n
 bounds-prims-n c =

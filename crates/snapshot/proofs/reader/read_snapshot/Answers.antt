@@ -1,44 +1,37 @@
 -- `read_snapshot` meets its contract: refused by either pass that asks, the arena keeps its bytes;
 -- else it is filled. Assumes nothing.
-use mathlib.Core.Path.{◌≡◌, refl, sym, ap, ◌∙◌}
-use Rattle.model.specs.Graph.{empty_graph}
-use Rattle.model.specs.Answers.{answer_refusal}
-use Rattle.model.specs.Calls.{read_into}
-use Rattle.snapshot.specs.SnapshotReading.{Exact}
+use Rattle.std.proofs.lemmas.Result.{err_from_is_err_and}
+use mathlib.Core.Path.{refl, sym}
 use Rattle.snapshot.proofs.ReaderLaws.{exact_read, not-exact, refused-read, filled-read}
 use Rattle.snapshot.proofs.reader.read_snapshot.Goals as goal
 
-pub returns-in_default : goal.returns-in_default
-returns-in_default c =
-    not-exact c.args.bytes.now c.args.arena.now _ (sym c.check_lengths.ensures ∙ c.in_default.is)
+pub returns-in_err-count : goal.returns-in_err-count
+returns-in_err-count c =
+    let p = err_from_is_err_and c.from_residual.result c.from_residual.ensures.1 in
+    rw (p.1, p.2) (
+    not-exact c.args.bytes.now c.args.arena.now _ (sym c.in_err-count.ensures))
 
-pub check_records-checked-requires : goal.check_records-checked-requires
-check_records-checked-requires c =
-    let exact : Exact c.args.bytes.now c.in-Number.count =
-    exact_read c.args.bytes.now _ (sym c.check_lengths.ensures ∙ c.in-Number.is) in record { exact = exact; prims_len = refl }
+pub check_records-requires : goal.check_records-requires
+check_records-requires c =
+    record { exact = exact_read c.args.bytes.now _ (sym c.in_ok-count.ensures); prims_len = refl }
 
-pub returns-in-Refused : goal.returns-in-Refused
-returns-in-Refused c =
-    refused-read c.args.bytes.now _ c.args.arena.now _ (rw c.in-Refused.is at c.check_records-checked.ensures)
+pub returns-in_err-check_records : goal.returns-in_err-check_records
+returns-in_err-check_records c =
+    let p = err_from_is_err_and c.from_residual-in_err-check_records.result c.from_residual-in_err-check_records.ensures.1 in
+    rw (p.1, p.2) (
+    refused-read c.args.bytes.now _ c.args.arena.now _ c.in_err-check_records.ensures)
 
 pub fill-requires : goal.fill-requires
 fill-requires c =
-    let exact : Exact c.args.bytes.now c.in-Number.count =
-    exact_read c.args.bytes.now _ (sym c.check_lengths.ensures ∙ c.in-Number.is) in
-    let passed : (read_into c.args.bytes.now empty_graph).refused ≡ 0 =
-    sym c.check_records-checked.ensures.refused ∙ ap answer_refusal c.in_default-checked.is in
     record {
       whole = c.requires;
-      exact = exact;
-      accepted = passed;
-      named = c.check_records-checked.ensures.named (ap answer_refusal c.in_default-checked.is);
-      long = c.check_records-checked.auto.prims;
+      exact = exact_read c.args.bytes.now _ (sym c.in_ok-count.ensures);
+      accepted = sym c.in_ok-check_records.ensures.refused;
+      named = c.in_ok-check_records.ensures.named refl;
+      long = c.check_records.auto.prims;
     }
 
 pub returns : goal.returns
 returns c =
-    let exact : Exact c.args.bytes.now c.in-Number.count =
-    exact_read c.args.bytes.now _ (sym c.check_lengths.ensures ∙ c.in-Number.is) in
-    let passed : (read_into c.args.bytes.now empty_graph).refused ≡ 0 =
-    sym c.check_records-checked.ensures.refused ∙ ap answer_refusal c.in_default-checked.is in
-    filled-read c.args.bytes.now c.args.arena.now _ _ exact passed c.fill.ensures
+    filled-read c.args.bytes.now c.args.arena.now _ _ (exact_read c.args.bytes.now _ (sym c.in_ok-count.ensures))
+    (sym c.in_ok-check_records.ensures.refused) c.fill.ensures
