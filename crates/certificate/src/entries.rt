@@ -32,8 +32,8 @@ pub(crate) fn is_before(places: &[u16], a: Entry, b: Entry, nested: bool) -> boo
     ensures { IsBefore places.now a b nested result }
 {
     match line_table::weigh(a, b, nested) {
-        Verdict::Settled(o) => strength::is_less(o),
-        Verdict::Ask(x, y, o) => strength::is_less(strength::or_else(by_places(places, x, y), o)),
+        Verdict::Settled(o) => o.is_lt(),
+        Verdict::Ask(x, y, o) => by_places(places, x, y).then(o).is_lt(),
     }
 }
 
@@ -56,13 +56,13 @@ fn follows_in_stack(places: &[u16], a: Entry, b: Entry) -> bool
 {
     let implied = strength::by_having(a.implied, b.implied);
     if a.origin == b.origin {
-        return strength::is_less(strength::or_else(implied, strength::by_number(a.node, b.node)));
+        return implied.then(strength::by_number(a.node, b.node)).is_lt();
     }
     let origins = by_places(places, a.origin, b.origin);
     if a.local {
-        return strength::is_less(strength::or_else(implied, origins));
+        return implied.then(origins).is_lt();
     }
-    strength::is_less(origins)
+    origins.is_lt()
 }
 
 // Whether b follows a by lines that pass on from neighbour to neighbour, all HAS_SPECIALIZES;
@@ -72,7 +72,7 @@ fn follows(places: &[u16], a: Entry, b: Entry) -> bool
     ensures { FollowsBy places.now a b result }
 {
     if a.root != b.root {
-        return strength::is_less(by_places(places, a.root, b.root));
+        return by_places(places, a.root, b.root).is_lt();
     }
     if a.class_depth != b.class_depth {
         return a.class_depth < b.class_depth;

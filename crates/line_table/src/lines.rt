@@ -29,10 +29,7 @@ fn same_origin(a: Entry, b: Entry) -> Ordering
     if b.authored {
         return by_sibling(a, b);
     }
-    strength::or_else(
-        strength::by_having(a.implied, b.implied),
-        strength::by_number(a.node, b.node),
-    )
+    strength::by_having(a.implied, b.implied).then(strength::by_number(a.node, b.node))
 }
 
 // "If neither is authored and both have the local root's stack, implied over not".

@@ -11,7 +11,7 @@ pub returns-then-a-b : goal.returns-then-a-b
 returns-then-a-b c =
     λ e u p q.
     root-follows p q c.args.places.now
-    (sym c.by_places.ensures ∙ is-less _ (sym c.is_less.ensures ∙ e))
+    (sym c.by_places.ensures ∙ is-less _ (sym c.is_lt.ensures ∙ e))
 
 pub returns-then-a-b-2 : goal.returns-then-a-b-2
 returns-then-a-b-2 c =

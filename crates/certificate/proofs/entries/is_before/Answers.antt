@@ -14,10 +14,10 @@ by_places-requires c =
 
 pub returns-in-Settled : goal.returns-in-Settled
 returns-in-Settled c =
-    settled_before c.weigh.ensures c.args.places.now c.in-Settled.is c.is_less.ensures
+    settled_before c.weigh.ensures c.args.places.now c.in-Settled.is c.is_lt.ensures
 
 pub returns-in-Ask : goal.returns-in-Ask
 returns-in-Ask c =
     asked-before c.weigh.ensures c.args.places.now c.in-Ask.is refl refl
-    (c.is_less-in-Ask.ensures
-    ∙ ap is_less (c.or_else.ensures ∙ ap (λ (o : Ordering). first o c.in-Ask.o) c.by_places.ensures))
+    (c.is_lt-in-Ask.ensures
+    ∙ ap is_less (c.then.ensures ∙ ap (λ (o : Ordering). first o c.in-Ask.o) c.by_places.ensures))

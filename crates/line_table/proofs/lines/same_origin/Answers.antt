@@ -14,6 +14,6 @@ returns-then-b c =
 pub returns : goal.returns
 returns c =
     λ u p q.
-    c.or_else.ensures
+    c.then.ensures
     ∙ rw (c.by_having.ensures, c.by_number.ensures, p.implied, q.implied)
     (sym (neither-authored u _ _ (sym p.authored ∙ c.if-a.false) (sym q.authored ∙ c.if-b.false)))
