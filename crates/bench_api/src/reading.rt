@@ -23,10 +23,7 @@ pub extern "C" fn bench_graph_info(arena: &[u8]) -> u64
 {
     let read = prim_graph::graph_info(arena);
     match read {
-        Ok(info) => {
-            let root = info.local_root;
-            root.number() as u64
-        }
+        Ok(info) => NodeId::number_of(info.local_root) as u64,
         Err(refusal) => c_api::carry_refusal(refusal),
     }
 }
@@ -146,7 +143,7 @@ pub extern "C" fn bench_starting_node_of_class_hierarchy(arena: &[u8], n: u32) -
 {
     let read = prim_graph::starting_node_of_class_hierarchy(arena, n);
     match read {
-        HierarchyRead::Hierarchy(_, class_node) => class_node.number() as u64,
+        Ok(hierarchy) => NodeId::number_of(hierarchy.class_node) as u64,
         Err(refusal) => c_api::carry_refusal(refusal),
     }
 }

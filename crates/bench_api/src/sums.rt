@@ -105,7 +105,7 @@ fn sum_pairs(arena: &[u8], pairs: &[u8], siblings: bool) -> u64
     while i < n {
         let a = big_endian::read_u32(pairs, 8 * i);
         let b = big_endian::read_u32(pairs, 8 * i + 4);
-        sum += compare_pair(arena, siblings, root, a, b).number() as u64;
+        sum += ordering_number(compare_pair(arena, siblings, root, a, b)) as u64;
         i += 1;
     }
     sum

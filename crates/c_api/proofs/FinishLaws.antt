@@ -1,5 +1,7 @@
 -- Ordering, culling, setting fields of one node and appending a child's name give no value, whether
 -- they are refused or not: their number is their refusal alone. Assumes nothing.
+use Rattle.std.specs.Prelude.{Ok, Err}
+use Rattle.model.specs.Answers.{answer_refusal, answer_value}
 use Rattle.std.specs.Prelude.{None, Option, Some}
 use Rattle.std.specs.Prelude.{Result, ⊤}
 use Rattle.model.specs.declared.Refusal.{Refusal}
@@ -18,7 +20,7 @@ use Rattle.model.specs.Refusals.{Question, ask, refusal}
 use Rattle.model.specs.Calls.{Outcome, unchanged, settled, decided, has_node_zero, sets, mark, set_first_spec, set_has_specs, set_restriction_depth, finalize_strength_order, cull, deepen_questions, append_child_name}
 use Rattle.model.specs.Arena.{decode, holds_graph}
 use Rattle.model.specs.ArenaCalls.{is_arena, on_arena, Finishes}
-use Rattle.c_api.specs.Carried.{carried, carried_finish, WroteCarried}
+use Rattle.c_api.specs.Carried.{carried, carried_as, value_of_nothing, WroteCarried}
 
 pub no_value : (questions : List Question) (g result : Graph) → (decided questions g 0 result).value ≡ 0
 no_value questions g result = go (refusal questions)
@@ -75,8 +77,12 @@ pub append-value : (child bs : List ℕ) → (on_arena (append_child_name child)
 unfolding append_child_name
 append-value child = on-arena-no-value (append_child_name child) (λ g. no_value (deepen_questions child g) g (append_child_name_to_all_sites child g))
 
+nothing : (r : Result ⊤ Refusal) → answer_value value_of_nothing r ≡ 0
+nothing (Ok x) = refl
+nothing (Err e) = refl
+
 -- the number of such a call, and the arena after it
-pub finishes-carried : {o : Outcome} {before after : List ℕ} {r : Result ⊤ Refusal} {n : ℕ} → o.value ≡ 0 → n ≡ carried_finish r → Finishes o before r after
+pub finishes-carried : {o : Outcome} {before after : List ℕ} {r : Result ⊤ Refusal} {n : ℕ} → o.value ≡ 0 → n ≡ carried_as value_of_nothing r → Finishes o before r after
     → WroteCarried o before n after
-finishes-carried {o} valueless number finishes =
-    record { number = number ∙ ap (λ (k : ℕ). carried k 0) finishes.refused ∙ ap (carried o.refused) (sym valueless); arena = finishes.arena }
+finishes-carried {o} {r = r} valueless number finishes =
+    record { number = number ∙ ap (carried (answer_refusal r)) (nothing r) ∙ ap (λ (k : ℕ). carried k 0) finishes.refused ∙ ap (carried o.refused) (sym valueless); arena = finishes.arena }

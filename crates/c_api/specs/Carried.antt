@@ -6,7 +6,7 @@ use Rattle.model.specs.declared.NodeId.{NodeId}
 use Rattle.model.specs.declared.Refusal.{Refusal}
 use Rattle.std.specs.declared.cmp.Ordering.{Ordering}
 use Rattle.std.specs.Prelude.{◌≡◌, List, ℕ, ◌+◌, ◌*◌}
-use Rattle.model.specs.Answers.{answer_refusal, number_value, ordering_value, bool_value, node_option, node_number}
+use Rattle.model.specs.Answers.{answer_refusal, answer_value, node_option, node_number}
 use Rattle.model.specs.Refusals.{refusal_number, Question, refusal}
 use Rattle.model.specs.Calls.{Outcome}
 use Rattle.model.specs.ArenaCalls.{arena_after, value_unless}
@@ -15,23 +15,17 @@ use Rattle.model.specs.ArenaCalls.{arena_after, value_unless}
 abbrev pub carried : ℕ → ℕ → ℕ
 carried number value = number * 4294967296 + value
 
-abbrev pub carried_number : Result ℕ Refusal → ℕ
-carried_number r = carried (answer_refusal r) (number_value r)
+-- the answer of a call whose value is told by `value`
+abbrev pub carried_as : {T : Type 0} → (T → ℕ) → Result T Refusal → ℕ
+carried_as value r = carried (answer_refusal r) (answer_value value r)
 
 -- a node that was looked for
-abbrev pub carried_node : Result (Option NodeId) Refusal → ℕ
-carried_node (Ok node) = node_number (node_option node)
-carried_node (Err r) = carried (refusal_number r) 0
-
-abbrev pub carried_order : Result Ordering Refusal → ℕ
-carried_order r = carried (answer_refusal r) (ordering_value r)
-
-abbrev pub carried_test : Result Bool Refusal → ℕ
-carried_test r = carried (answer_refusal r) (bool_value r)
+abbrev pub node_value_number : Option NodeId → ℕ
+node_value_number node = node_number (node_option node)
 
 -- no value
-abbrev pub carried_finish : Result ⊤ Refusal → ℕ
-carried_finish r = carried (answer_refusal r) 0
+abbrev pub value_of_nothing : ⊤ → ℕ
+value_of_nothing x = 0
 
 -- the number of a call that puts these questions and gives this answer
 abbrev pub carried_answer : List Question → ℕ → ℕ

@@ -16,7 +16,7 @@ ghost use Rattle.model.specs.Strength.{view_of, compare_node_strength, compare_s
 ghost use Rattle.c_api.specs.Carried.{carried_answer, WroteCarried};
 ghost use Rattle.c_api.specs.CarriedOrders.{OrderCarried};
 
-pub use carried::{carry_finish, carry_node, carry_number, carry_order, carry_refusal, carry_test};
+pub use carried::{Value, carry, carry_refusal};
 
 // Reads a snapshot into the arena, whatever it held. The value is how many nodes it has. Refused 1,
 // 12, then 4 to 7; the arena is then as it was.
@@ -25,7 +25,7 @@ pub extern "C" fn cadgweri_read_snapshot(arena: &mut [u8], bytes: &[u8]) -> u64
     ensures { WroteCarried (into_arena (read_into bytes.now empty_graph) arena.old)
         arena.old result arena.new }
 {
-    crate::carried::carry_number(prim_graph::read_snapshot(arena, bytes))
+    carry(prim_graph::read_snapshot(arena, bytes))
 }
 
 // The value is how many nodes the graph has. Refused 1 or 2.
@@ -33,7 +33,7 @@ pub extern "C" fn cadgweri_read_snapshot(arena: &mut [u8], bytes: &[u8]) -> u64
 pub extern "C" fn cadgweri_count(arena: &[u8]) -> u64
     ensures { result ≡ carried_answer (ask_arena arena.now []) (count_in arena.now) }
 {
-    crate::carried::carry_number(prim_graph::count(arena))
+    carry(prim_graph::count(arena))
 }
 
 // The value is 0 where node a is the stronger, 2 where b is, 1 where they are one node. Refused 1
@@ -43,7 +43,7 @@ pub extern "C" fn cadgweri_compare_node_strength(arena: &[u8], a: u32, b: u32) -
     ensures { result ≡ carried_answer (ask_arena arena.now (compares_nodes (decode arena.now) a b))
         (ordering_number (compare_node_strength (view_of (decode arena.now)) a b)) }
 {
-    crate::carried::carry_order(prim_graph::compare_node_strength(arena, a, b))
+    carry(prim_graph::compare_node_strength(arena, a, b))
 }
 
 // The same of two siblings: refused 1 to 4, and 8 where they have not one parent.
@@ -53,7 +53,7 @@ pub extern "C" fn cadgweri_compare_sibling_node_strength(arena: &[u8], a: u32, b
         (ask_arena arena.now (compares_siblings (decode arena.now) a b))
         (ordering_number (compare_sibling_node_strength (view_of (decode arena.now)) a b)) }
 {
-    crate::carried::carry_order(prim_graph::compare_sibling_node_strength(arena, a, b))
+    carry(prim_graph::compare_sibling_node_strength(arena, a, b))
 }
 
 // Orders the graph: each child list is sorted, and the order is their walk; a finalized graph stays
@@ -64,7 +64,7 @@ pub extern "C" fn cadgweri_finalize_strength_order(arena: &mut [u8]) -> u64
     ensures { WroteCarried (on_arena finalize_strength_order arena.old) arena.old result
         arena.new }
 {
-    crate::carried::carry_finish(prim_graph::finalize_strength_order(arena))
+    carry(prim_graph::finalize_strength_order(arena))
 }
 
 // Writes the order to the front of `out`, which has 4,096 bytes: a node's number in 4 bytes each,
@@ -74,7 +74,7 @@ pub extern "C" fn cadgweri_finalize_strength_order(arena: &mut [u8]) -> u64
 pub extern "C" fn cadgweri_strength_order(arena: &[u8], out: &mut [u8]) -> u64
     ensures { OrderCarried arena.now out.old result out.new }
 {
-    crate::carried::carry_number(prim_graph::strength_order(arena, out))
+    carry(prim_graph::strength_order(arena, out))
 }
 
 // The value is the node at a place of the order, from 0 on. Refused 1 to 3, 4 where the place is
@@ -84,5 +84,5 @@ pub extern "C" fn cadgweri_order_entry(arena: &[u8], place: u32) -> u64
     ensures { result ≡ carried_answer (ask_arena arena.now (reads_entry (decode arena.now) place))
         (get_or (decode arena.now).order place 0) }
 {
-    crate::carried::carry_number(prim_graph::order_entry(arena, place))
+    carry(prim_graph::order_entry(arena, place))
 }

@@ -26,9 +26,13 @@ abbrev pub answer_refusal : {T : Type 0} → Result T Refusal → ℕ
 answer_refusal (Ok x) = 0
 answer_refusal (Err r) = refusal_number r
 
+-- the value as a number, by what it says of each
+abbrev pub answer_value : {T : Type 0} → (T → ℕ) → Result T Refusal → ℕ
+answer_value value (Ok x) = value x
+answer_value value (Err r) = 0
+
 abbrev pub number_value : Result ℕ Refusal → ℕ
-number_value (Ok n) = n
-number_value (Err r) = 0
+number_value = answer_value (λ n. n)
 
 -- an ordering as a number: 0 where the first is the stronger, 1 for one node twice, 2 where the
 -- second is
@@ -38,13 +42,11 @@ ordering_number Equal = 1
 ordering_number Greater = 2
 
 abbrev pub ordering_value : Result Ordering Refusal → ℕ
-ordering_value (Ok o) = ordering_number o
-ordering_value (Err r) = 0
+ordering_value = answer_value ordering_number
 
 -- 1 for yes and 0 for no
 abbrev pub bool_value : Result Bool Refusal → ℕ
-bool_value (Ok b) = bit b
-bool_value (Err r) = 0
+bool_value = answer_value bit
 
 abbrev pub node_value : Result (Option NodeId) Refusal → Option ℕ
 node_value (Ok n) = node_option n

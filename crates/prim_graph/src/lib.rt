@@ -10,21 +10,20 @@
 // snapshots in crates/snapshot. Nothing is defined here.
 #![tactic(auto)]
 
-use model::Refusal;
 pub use culling::calls::cull_subtrees_without_opinions;
 pub use deepening::calls::{append_child_name_to_all_sites, seed_child};
 pub use erasing::calls::{erasable, erase};
 pub use nodes::NodeDesc;
 pub use nodes::calls::{
-    GraphInfo, Result<GraphInfo, Refusal>, Result<arena::Node, Refusal>, add_child, depth_below_introduction, graph_info, init_root,
-    is_due_to_ancestor, node, node_using_site,
+    GraphInfo, add_child, depth_below_introduction, graph_info, init_root, is_due_to_ancestor, node,
+    node_using_site,
 };
 pub use nodes::paths::{intro_path, path, path_at_introduction};
 pub use nodes::setting::{mark, set_first_spec, set_has_specs, set_restriction_depth};
 pub use ordering::calls::{finalize_strength_order, order_entry, strength_order};
 pub use snapshot::calls::{read_snapshot, write_snapshot};
 pub use strength::calls::{
-    Result<(NodeId, Option<NodeId>), Refusal>, compare_node_strength, compare_sibling_node_strength,
+    Hierarchy, compare_node_strength, compare_sibling_node_strength,
     get_propagated_specializes_node, is_ancestor_of, is_propagated_specializes, same_site,
     starting_node_of_class_hierarchy,
 };
