@@ -13,7 +13,7 @@ use Rattle.model.specs.Node.{invalid}
 use Rattle.model.specs.Arena.{count_in, next_sibling_in, last_child_in, node_in, chain_ends}
 use Rattle.arena.specs.Slot.{HasSlot, parent_in}
 use Rattle.arena.proofs.SlotLaws.{same-fields}
-use Rattle.child_lists.specs.declared.check.Walked.TheVariants.{Left, Wrong}
+use Rattle.std.specs.Prelude.{Some, None}
 use Rattle.child_lists.specs.ChildLists.{Parented, walked}
 
 module _ (bs : List ℕ) (h : Parented bs) where
@@ -28,35 +28,35 @@ module _ (bs : List ℕ) (h : Parented bs) where
   inside n l = ne_eqb n invalid (λ e. omega (arith, h.few))
 
   module _ (v n last : ℕ) where
-    wrong : (k : ℕ) → chain_ends bs v k n ≡ false → walked bs v k n last ≡ Wrong
+    wrong : (k : ℕ) → chain_ends bs v k n ≡ false → walked bs v k n last ≡ None
     unfolding walked
     wrong k e = rw e
 
     -- the list ends: is the last met the last child?
-    ends : (k : ℕ) → n ≡ invalid → walked bs v k n last ≡ cond (eqb (last_child_in bs v) last) (Left k) Wrong
+    ends : (k : ℕ) → n ≡ invalid → walked bs v k n last ≡ cond (eqb (last_child_in bs v) last) (Some k) None
     unfolding walked
     ends zero e = rw (eq-eqb n invalid e)
     ends (suc k) e = rw (eq-eqb n invalid e, le-ltb n (count_in bs) (omega (arith, h.few)), sub-zero (suc k))
 
-    pub walk-right : (k : ℕ) → n ≡ invalid → last_child_in bs v ≡ last → walked bs v k n last ≡ Left k
+    pub walk-right : (k : ℕ) → n ≡ invalid → last_child_in bs v ≡ last → walked bs v k n last ≡ Some k
     walk-right k e q = ends k e ∙ rw (eq-eqb (last_child_in bs v) last q)
 
-    pub walk-not-last : (k : ℕ) → n ≡ invalid → (last_child_in bs v ≡ last → ⊥) → walked bs v k n last ≡ Wrong
+    pub walk-not-last : (k : ℕ) → n ≡ invalid → (last_child_in bs v ≡ last → ⊥) → walked bs v k n last ≡ None
     walk-not-last k e q = ends k e ∙ rw (ne_eqb (last_child_in bs v) last q)
 
     -- a number that is neither a node's nor `invalid`
-    pub walk-outside : (k : ℕ) → count_in bs ≤ n → (n ≡ invalid → ⊥) → walked bs v k n last ≡ Wrong
+    pub walk-outside : (k : ℕ) → count_in bs ≤ n → (n ≡ invalid → ⊥) → walked bs v k n last ≡ None
     walk-outside zero l e = wrong zero (ne_eqb n invalid e)
     walk-outside (suc k) l e = wrong (suc k) (rw (ne_eqb n invalid e, le-ltb n (count_in bs) l))
 
     module _ (l : n < count_in bs) where
       -- one node too many
-      pub walk-spent : (k : ℕ) → k ≡ 0 → walked bs v k n last ≡ Wrong
+      pub walk-spent : (k : ℕ) → k ≡ 0 → walked bs v k n last ≡ None
       walk-spent zero e = wrong zero (inside n l)
       walk-spent (suc k) e = absurd (omega arith)
 
       -- another node's child
-      pub walk-astray : (k : ℕ) → (parent_in bs n ≡ v → ⊥) → walked bs v k n last ≡ Wrong
+      pub walk-astray : (k : ℕ) → (parent_in bs n ≡ v → ⊥) → walked bs v k n last ≡ None
       walk-astray zero e = wrong zero (inside n l)
       walk-astray (suc k) e = wrong (suc k) (rw (inside n l, lt-ltb n (count_in bs) l, same-parent n l, ne_eqb (parent_in bs n) v e))
 

@@ -19,7 +19,7 @@ use Rattle.model.specs.Arena.{count_in, next_sibling_in, node_in, children_in, c
 use Rattle.laws.proofs.LengthLaws.{length-once, once-of-length}
 use Rattle.laws.proofs.ListLaws.{bit-ne, count-append, count_none, all-imp, all_append, all-below, all-below-fails}
 use Rattle.laws.proofs.SnapshotLaws.{and_first, and_second}
-use Rattle.child_lists.specs.declared.check.Walked.TheVariants.{Left, Wrong}
+use Rattle.std.specs.Prelude.{Some, None}
 use Rattle.child_lists.specs.ChildLists.{Parented, listed_valid, child_lists_valid, left_after}
 use Rattle.child_lists.proofs.ChildListWalk.{same-parent}
 use Rattle.child_lists.proofs.OnceLaws.{linked-once}
@@ -172,7 +172,7 @@ module _ (bs : List ℕ) (h : Parented bs) where
   walking_start left e = record { right = λ v l. absurd (omega arith); total = omega arith }
 
   module _ (p left : ℕ) (w : Walking bs p left) where
-    pub walking_on : (rest : ℕ) → left_after bs p left ≡ Left rest → Walking bs (suc p) rest
+    pub walking_on : (rest : ℕ) → left_after bs p left ≡ Some rest → Walking bs (suc p) rest
     walking_on rest e = record {
       right = λ v l. right v (eq-or-lt_of_le {n = v} {m = p} (omega arith));
       total = omega (arith, w.total, length-append (lists_below bs p) (children_in bs p), list.size);
@@ -185,7 +185,7 @@ module _ (bs : List ℕ) (h : Parented bs) where
         right v (inl q) = rw q list.right
         right v (inr l) = w.right v l
 
-    pub walking-wrong : p < count_in bs → left_after bs p left ≡ Wrong → child_lists_valid bs ≡ false
+    pub walking-wrong : p < count_in bs → left_after bs p left ≡ None → child_lists_valid bs ≡ false
     walking-wrong l e = go (child_lists_valid bs) refl
       where
         go : (t : Bool) → child_lists_valid bs ≡ t → t ≡ false

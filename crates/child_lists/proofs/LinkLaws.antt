@@ -9,16 +9,12 @@ use native.Mathlib.Nat.{eq-or-lt_of_le}
 use native.Mathlib.Omega.{arith}
 use lib.Dec.{eqb}
 use lib.ListN.{length, take, drop, get_or, set, length-set}
-use lib.Seq.{slice, slice_empty, slice-cons, take-suc, drop-append-le, length-take-le, get_or-set_same, get_or-set_other}
+use lib.Seq.{slice, take-suc, drop-append-le, length-take-le, get_or-set_same, get_or-set_other}
 use borrow.Author.Tests.{eqb-true, eqb-false}
 use Rattle.model.specs.Arena.{first_of, last_of, after_in}
 use Rattle.model.specs.Lists.{count}
-use Rattle.model.specs.Node.{invalid}
 use Rattle.laws.proofs.ListLaws.{bit-eq, bit-ne}
 use Rattle.child_lists.specs.Links.{start_of, part, nexts_set, nexts_made}
-
-pub slice-done : (at end : ℕ) (array : List ℕ) → at ≤ end → end ≤ at → slice at end array ≡ []
-slice-done at end array low high = let e : at ≡ end = omega arith in rw e (slice_empty end array)
 
 last_snoc : (xs : List ℕ) (y : ℕ) → last_of (xs ++ y ∷ []) ≡ y
 last_snoc [] y = refl
@@ -38,31 +34,8 @@ last-of-part start end l h fits =
 
 pub record Linking (sorted before : List ℕ) (end at head : ℕ) (next : List ℕ) : Type 0 where
   pub high : at ≤ end
-  pub long : length next ≡ length before
   pub first : head ≡ first_of (slice at end sorted)
   pub same : next ≡ nexts_set (slice at end sorted) before
-
-pub linking-start : (sorted before : List ℕ) (end : ℕ) → Linking sorted before end end invalid before
-linking-start sorted before end = record {
-  high = omega arith;
-  long = refl;
-  first = ap first_of (sym (slice_empty end sorted));
-  same = ap (λ (l : List ℕ). nexts_set l before) (sym (slice_empty end sorted));
-}
-
-pub linking-step : (sorted before : List ℕ) (end at head : ℕ) (next : List ℕ) → Linking sorted before end at head next → 0 < at → end ≤ length sorted
-    → Linking sorted before end (at - 1) (get_or sorted (at - 1) 0) (set next (get_or sorted (at - 1) 0) head)
-linking-step sorted before end at head next linking some fits =
-    let child = get_or sorted (at - 1) 0 in
-    let one_less : suc (at - 1) ≡ at = omega arith in
-    let longer : slice (at - 1) end sorted ≡ child ∷ slice at end sorted =
-    slice-cons (at - 1) end sorted 0 (omega (arith, linking.high)) fits ∙ ap (λ (k : ℕ). child ∷ slice k end sorted) one_less in
-    record {
-      high = omega (arith, linking.high);
-      long = length-set next child head ∙ linking.long;
-      first = ap first_of (sym longer);
-      same = (λ i. set (linking.same i) child (linking.first i)) ∙ ap (λ (l : List ℕ). nexts_set l before) (sym longer);
-    }
 
 pub nexts-length : (cs next : List ℕ) → length (nexts_set cs next) ≡ length next
 nexts-length [] next = refl
@@ -70,21 +43,15 @@ nexts-length (c ∷ cs) next = length-set (nexts_set cs next) c (first_of cs) �
 
 -- ---- Linking the lists of all parents
 
-pub record LinkingAll (sorted ends first₀ last₀ next₀ : List ℕ) (p start : ℕ) (first last next : List ℕ) : Type 0 where
+pub record LinkingAll (sorted ends next₀ : List ℕ) (p start : ℕ) (first last next : List ℕ) : Type 0 where
   pub begun : start ≡ start_of ends p
-  pub first-long : length first ≡ length first₀
-  pub last-long : length last ≡ length last₀
-  pub next-long : length next ≡ length next₀
   pub firsts : (q : ℕ) → q < p → get_or first q 0 ≡ first_of (part sorted ends q)
   pub lasts : (q : ℕ) → q < p → get_or last q 0 ≡ last_of (part sorted ends q)
   pub nexts : next ≡ nexts_made sorted ends p next₀
 
-pub linking-all-start : (sorted ends first₀ last₀ next₀ : List ℕ) → LinkingAll sorted ends first₀ last₀ next₀ 0 0 first₀ last₀ next₀
+pub linking-all-start : (sorted ends first₀ last₀ next₀ : List ℕ) → LinkingAll sorted ends next₀ 0 0 first₀ last₀ next₀
 linking-all-start sorted ends first₀ last₀ next₀ = record {
   begun = refl;
-  first-long = refl;
-  last-long = refl;
-  next-long = refl;
   firsts = λ q h. absurd (omega arith);
   lasts = λ q h. absurd (omega arith);
   nexts = refl;
@@ -99,21 +66,18 @@ filled_more l p v f here filled new q h = go (eq-or-lt_of_le {n = q} {m = p} (om
     go (inl e) = rw e (get_or-set_same l p v 0 here ∙ new)
     go (inr earlier) = get_or-set_other l p q v 0 (λ e. omega arith) ∙ filled q earlier
 
-pub linking-all-step : (sorted ends first₀ last₀ next₀ : List ℕ) (p start : ℕ) (first last next after : List ℕ) (f l : ℕ)
-    → LinkingAll sorted ends first₀ last₀ next₀ p start first last next → p < length first₀ → p < length last₀
+pub linking-all-step : (sorted ends next₀ : List ℕ) (p start : ℕ) (first last next after : List ℕ) (f l : ℕ)
+    → LinkingAll sorted ends next₀ p start first last next → p < length first → p < length last
     → f ≡ first_of (slice start (get_or ends p 0) sorted) → l ≡ last_of (slice start (get_or ends p 0) sorted)
     → after ≡ nexts_set (slice start (get_or ends p 0) sorted) next
-    → LinkingAll sorted ends first₀ last₀ next₀ (p + 1) (get_or ends p 0) (set first p f) (set last p l) after
-linking-all-step sorted ends first₀ last₀ next₀ p start first last next after f l state in-first in-last is-first is_last linked =
+    → LinkingAll sorted ends next₀ (p + 1) (get_or ends p 0) (set first p f) (set last p l) after
+linking-all-step sorted ends next₀ p start first last next after f l state in-first in-last is-first is_last linked =
     let more : suc p ≡ p + 1 = omega arith in
     let here : slice start (get_or ends p 0) sorted ≡ part sorted ends p = ap (λ (s : ℕ). slice s (get_or ends p 0) sorted) state.begun in
     record {
       begun = ap (start_of ends) more;
-      first-long = length-set first p f ∙ state.first-long;
-      last-long = length-set last p l ∙ state.last-long;
-      next-long = ap length linked ∙ nexts-length (slice start (get_or ends p 0) sorted) next ∙ state.next-long;
-      firsts = filled_more first p f (λ q. first_of (part sorted ends q)) (omega (arith, state.first-long)) state.firsts (is-first ∙ ap first_of here);
-      lasts = filled_more last p l (λ q. last_of (part sorted ends q)) (omega (arith, state.last-long)) state.lasts (is_last ∙ ap last_of here);
+      firsts = filled_more first p f (λ q. first_of (part sorted ends q)) in-first state.firsts (is-first ∙ ap first_of here);
+      lasts = filled_more last p l (λ q. last_of (part sorted ends q)) in-last state.lasts (is_last ∙ ap last_of here);
       nexts = linked ∙ (λ i. nexts_set (here i) (state.nexts i)) ∙ ap (λ (q : ℕ). nexts_made sorted ends q next₀) more;
     }
 

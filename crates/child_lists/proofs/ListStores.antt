@@ -144,7 +144,10 @@ module _ (g : Graph) (sorted ends : List ℕ) (ok : Linkable g sorted ends) (s :
       pub first : List ℕ
       pub last : List ℕ
       pub next : List ℕ
-      pub state : LinkingAll sorted ends first₀ last₀ next₀ p (start_of ends p) first last next
+      pub first-long : length first ≡ 1024
+      pub last-long : length last ≡ 1024
+      pub next-long : length next ≡ 1024
+      pub state : LinkingAll sorted ends next₀ p (start_of ends p) first last next
       pub same : lists_stored sorted ends p s ≡ links_written first last next (size g) s
 
     made : (p : ℕ) → p ≤ size g → Made p
@@ -152,6 +155,9 @@ module _ (g : Graph) (sorted ends : List ℕ) (ok : Linkable g sorted ends) (s :
       first = first₀;
       last = last₀;
       next = next₀;
+      first-long = tabulate-length (first_child_in s) 0 m ∙ many;
+      last-long = tabulate-length (last_child_in s) 0 m ∙ many;
+      next-long = length-set before 0 invalid ∙ before-long;
       state = linking-all-start sorted ends first₀ last₀ next₀;
       same = sym (stored-first (size g) (omega (arith, ok.few)));
     }
@@ -165,23 +171,23 @@ module _ (g : Graph) (sorted ends : List ℕ) (ok : Linkable g sorted ends) (s :
 
         step : Made p → Made (suc p)
         step w =
-            let first-long = w.state.first-long ∙ tabulate-length (first_child_in s) 0 m ∙ many in
-            let last-long = w.state.last-long ∙ tabulate-length (last_child_in s) 0 m ∙ many in
-            let next-long = w.state.next-long ∙ length-set before 0 invalid ∙ before-long in
             record {
               first = set w.first p (first_of (part sorted ends p));
               last = set w.last p (last_of (part sorted ends p));
               next = nexts_set (part sorted ends p) w.next;
+              first-long = length-set w.first p (first_of (part sorted ends p)) ∙ w.first-long;
+              last-long = length-set w.last p (last_of (part sorted ends p)) ∙ w.last-long;
+              next-long = nexts-length (part sorted ends p) w.next ∙ w.next-long;
               state = rw (add-one p) at
-                  (linking-all-step sorted ends first₀ last₀ next₀ p (start_of ends p) w.first w.last w.next
+                  (linking-all-step sorted ends next₀ p (start_of ends p) w.first w.last w.next
                   (nexts_set (part sorted ends p) w.next) (first_of (part sorted ends p)) (last_of (part sorted ends p)) w.state
-                  (omega (arith, tabulate-length (first_child_in s) 0 m, ok.few))
-                  (omega (arith, tabulate-length (last_child_in s) 0 m, ok.few)) refl refl refl);
+                  (omega (arith, w.first-long, ok.few))
+                  (omega (arith, w.last-long, ok.few)) refl refl refl);
               same = ap (list_stored p (part sorted ends p)) w.same
                   ∙ ap (ends_stored p (first_of (part sorted ends p)) (last_of (part sorted ends p)))
-                  (nexts-linked w.first w.last w.next (size g) ok.few s whole next-long (part sorted ends p) below)
+                  (nexts-linked w.first w.last w.next (size g) ok.few s whole w.next-long (part sorted ends p) below)
                   ∙ sym (set-ends w.first w.last (nexts_set (part sorted ends p) w.next) (size g) ok.few s whole p h
-                  (first_of (part sorted ends p)) (last_of (part sorted ends p)) first-long last-long);
+                  (first_of (part sorted ends p)) (last_of (part sorted ends p)) w.first-long w.last-long);
             }
 
     lists-right-by : lists_stored sorted ends (size g) s ≡ links_of g (size g) s

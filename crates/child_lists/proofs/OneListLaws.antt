@@ -15,7 +15,7 @@ use Rattle.model.specs.Arena.{count_in, first_child_in, last_child_in, node_in, 
 use Rattle.laws.proofs.ListLaws.{all-imp}
 use Rattle.laws.proofs.SnapshotLaws.{and_first, and_second}
 use Rattle.arena.proofs.ChainLaws.{Chain, chain_length, chain_held, chain-linked, chain-ends-linked}
-use Rattle.child_lists.specs.declared.check.Walked.TheVariants.{Left, Wrong}
+use Rattle.std.specs.Prelude.{Some, None}
 use Rattle.child_lists.specs.ChildLists.{Parented, ends_right, walked, left_after}
 use Rattle.child_lists.proofs.OnceLaws.{Links}
 
@@ -48,12 +48,12 @@ module _ (bs : List ℕ) (h : Parented bs) (v : ℕ) where
     ends = ap (chain_ends bs v k) (sym chain.first) ∙ chain-ends-linked bs v k cs l chain.children chain.linked;
   }
 
-  pub walk-reads : (k rest : ℕ) → k ≤ count_in bs → left_after bs v k ≡ Left rest → ListRead bs v k rest
+  pub walk-reads : (k rest : ℕ) → k ≤ count_in bs → left_after bs v k ≡ Some rest → ListRead bs v k rest
   unfolding walked
   walk-reads k rest l e = go (ends_right bs v k (first_child_in bs v) invalid) refl e
     where
       go : (t : Bool) → ends_right bs v k (first_child_in bs v) invalid ≡ t
-          → cond t (Left (k - length (chain_in bs k (first_child_in bs v)))) Wrong ≡ Left rest → ListRead bs v k rest
+          → cond t (Some (k - length (chain_in bs k (first_child_in bs v)))) None ≡ Some rest → ListRead bs v k rest
       go true q e =
           let found = chain_in bs k (first_child_in bs v) in
           let short : length (chain_in bs k (first_child_in bs v)) ≤ k = chain_length bs k (first_child_in bs v) in
@@ -75,7 +75,7 @@ module _ (bs : List ℕ) (h : Parented bs) (v : ℕ) where
     pub right-links : Links bs (children_in bs v)
     right-links = links-of bs v (first_child_in bs v) (children_in bs v) right-chain
 
-    pub walk-suffices : (k : ℕ) → length (children_in bs v) ≤ k → left_after bs v k ≡ Left (k - length (children_in bs v))
+    pub walk-suffices : (k : ℕ) → length (children_in bs v) ≤ k → left_after bs v k ≡ Some (k - length (children_in bs v))
     unfolding walked
     walk-suffices k l =
         let list = within k (children_in bs v) right-chain l in

@@ -1,13 +1,11 @@
 -- Whether the links of an arena write each node's child list (document 01: chain): the part of
 -- question 2 that is left once the records have been found right. A child list by its links and
 -- what is right of it, node by node, are in model/specs/Arena.antt.
-use Rattle.std.specs.Prelude.{◌≡◌, Bool, ◌&&◌, cond, List, ◌∷◌, ℕ, ◌-◌, ◌≤◌, ◌<◌, eqb, length}
+use Rattle.std.specs.Prelude.{◌≡◌, Bool, ◌&&◌, cond, Option, Some, None, List, ◌∷◌, ℕ, ◌-◌, ◌≤◌, ◌<◌, eqb, length}
 use Rattle.model.specs.Lists.{all_below}
 use Rattle.model.specs.Node.{invalid}
 use Rattle.model.specs.Arena.{arena_bytes, count_in, first_child_in, last_child_in, record_length_in, chain_in, last_of, chain_ends, chain_valid, in_chain_once}
 use Rattle.arena.specs.Slot.{parent_in}
-use Rattle.child_lists.specs.declared.check.Walked.{Walked}
-use Rattle.child_lists.specs.declared.check.Walked.TheVariants.{Left, Wrong}
 
 -- what the check of the records has shown before: each node's record is long enough for its
 -- numbers, node 0 has no parent, the others a lower one
@@ -34,9 +32,9 @@ abbrev pub ends_right : List ℕ → ℕ → ℕ → ℕ → ℕ → Bool
 ends_right bs v k n last = chain_ends bs v k n && eqb (last_child_in bs v) (last_of (last ∷ chain_in bs k n))
 
 -- how many of the k nodes are left then
-unfoldable pub walked : List ℕ → ℕ → ℕ → ℕ → ℕ → Walked
-walked bs v k n last = cond (ends_right bs v k n last) (Left (k - length (chain_in bs k n))) Wrong
+unfoldable pub walked : List ℕ → ℕ → ℕ → ℕ → ℕ → Option ℕ
+walked bs v k n last = cond (ends_right bs v k n last) (Some (k - length (chain_in bs k n))) None
 
 -- how many of k nodes are left after the child list of v
-abbrev pub left_after : List ℕ → ℕ → ℕ → Walked
+abbrev pub left_after : List ℕ → ℕ → ℕ → Option ℕ
 left_after bs v k = walked bs v k (first_child_in bs v) invalid

@@ -9,16 +9,9 @@ ghost use Rattle.std.specs.Prelude.{◌≡◌, ◌<◌};
 ghost use Rattle.model.specs.Arena.{count_in};
 ghost use Rattle.child_lists.specs.ChildLists.{Parented, child_lists_valid, left_after};
 
-// How many nodes are left of a budget after one child list, or that the list is wrong.
-#[derive(Clone, Copy)]
-enum Walked {
-    Left(u32),
-    Wrong,
-}
-
-// How many nodes of `budget` are left after the child list of `parent`. The list is wrong if it has
-// more, has a node that is no child of `parent`, or does not end in its last child.
-fn left_after(arena: &[u8], count: u32, parent: u32, budget: u32) -> Walked
+// How many nodes of `budget` are left after the child list of `parent`. None where the list is
+// wrong: it has more, has a node that is no child of `parent`, or does not end in its last child.
+fn left_after(arena: &[u8], count: u32, parent: u32, budget: u32) -> Option<u32>
     requires parented { Parented arena.now }
     requires count_value { (count ≡ count_in arena.now) × (parent < count) }
     ensures { result ≡ left_after arena.now parent budget }
@@ -28,22 +21,22 @@ fn left_after(arena: &[u8], count: u32, parent: u32, budget: u32) -> Walked
     let mut left = budget;
     while at < count {
         if left == 0 {
-            return Walked::Wrong;
+            return None;
         }
         if arena::parent(arena, at) != parent {
-            return Walked::Wrong;
+            return None;
         }
         last = at;
         at = arena::next_sibling(arena, at);
         left -= 1;
     }
     if at != arena::NO_NODE {
-        return Walked::Wrong;
+        return None;
     }
     if arena::last_child(arena, parent) != last {
-        return Walked::Wrong;
+        return None;
     }
-    Walked::Left(left)
+    Some(left)
 }
 
 // Whether the links of `count` nodes write their child lists. One budget, of as many nodes as there
@@ -61,13 +54,11 @@ pub fn are_valid(arena: &[u8], count: u32) -> bool
         return false;
     }
     let mut left = count - 1;
-    let mut n: u32 = 0;
-    while n < count {
-        let Walked::Left(rest) = left_after(arena, count, n, left) else {
+    for n in 0..count {
+        let Some(rest) = left_after(arena, count, n, left) else {
             return false;
         };
         left = rest;
-        n += 1;
     }
     left == 0
 }

@@ -28,9 +28,7 @@ fn link_list(sorted: &[u32], start: usize, end: usize, next: &mut [u32]) -> u32
         × (next.new ≡ nexts_set (slice start end sorted.now) next.old) }
 {
     let mut head: u32 = arena::NO_NODE;
-    let mut at = end;
-    while start < at {
-        at -= 1;
+    for at in (start..end).rev() {
         let child = sorted[at];
         next[child as usize] = head;
         head = child;
@@ -55,14 +53,12 @@ pub fn link_lists(
 {
     next[0] = arena::NO_NODE;
     let mut start: usize = 0;
-    let mut parent: u32 = 0;
-    while parent < count {
+    for parent in 0..count {
         let i = parent as usize;
         let end = ends[i] as usize;
         last[i] = last_of(sorted, start, end);
         first[i] = link_list(sorted, start, end, next);
         start = end;
-        parent += 1;
     }
 }
 
@@ -73,8 +69,7 @@ pub fn write_links(arena: &mut [u8], count: u32, first: &[u32], last: &[u32], ne
     ensures { arena.new ≡ links_written first.now last.now next.now count
         arena.old }
 {
-    let mut n: u32 = 0;
-    while n < count {
+    for n in 0..count {
         let i = n as usize;
         let node = arena::load_node(arena, n);
         let parent = node
@@ -82,7 +77,6 @@ pub fn write_links(arena: &mut [u8], count: u32, first: &[u32], last: &[u32], ne
             .with_last_child(NodeId(last[i]));
         let linked = parent.with_next_sibling(NodeId(next[i]));
         arena::store_links(arena, n, linked);
-        n += 1;
     }
 }
 
@@ -91,9 +85,7 @@ pub fn write_entries(arena: &mut [u8], count: u32, order: &[u32])
     requires { (length arena.old ≡ arena_bytes) × (count ≤ 1024) × (length order.now ≡ 1024) }
     ensures { arena.new ≡ order_stored (slice 0 count order.now) 0 arena.old }
 {
-    let mut n: u32 = 0;
-    while n < count {
+    for n in 0..count {
         arena::write_order_entry(arena, n, order[n as usize]);
-        n += 1;
     }
 }

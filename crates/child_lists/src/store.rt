@@ -39,9 +39,7 @@ fn store_nexts(arena: &mut [u8], sorted: &[u32], start: usize, end: usize) -> u3
         × (arena.new ≡ nexts_stored (slice start end sorted.now) arena.old) }
 {
     let mut head: u32 = arena::NO_NODE;
-    let mut at = end;
-    while start < at {
-        at -= 1;
+    for at in (start..end).rev() {
         let child = sorted[at];
         store_next(arena, child, head);
         head = child;
@@ -56,13 +54,11 @@ pub fn store_lists(arena: &mut [u8], count: u32, sorted: &[u32], ends: &[u32])
         arena.old }
 {
     let mut start: usize = 0;
-    let mut parent: u32 = 0;
-    while parent < count {
+    for parent in 0..count {
         let end = ends[parent as usize] as usize;
         let first = store_nexts(arena, sorted, start, end);
         let last = crate::links::last_of(sorted, start, end);
         store_ends(arena, parent, first, last);
         start = end;
-        parent += 1;
     }
 }

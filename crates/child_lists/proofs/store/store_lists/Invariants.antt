@@ -1,12 +1,7 @@
--- `storing::store_lists` meets its contract. The invariant of its loop: the lists of the nodes
--- before `parent` are stored, and `start` is where the next part begins. The measure is how many
--- nodes are left. Assumes nothing.
-use Prim.Native.Nat.{◌-◌, ◌≤◌}
+-- `store_lists` meets its contract. The invariant of its loop: the lists of the nodes
+-- before `parent` are stored, and `start` is where the next part begins. Assumes nothing.
 use Rattle.child_lists.proofs.StoringLaws.{StoringLists}
 use Rattle.child_lists.proofs.store.store_lists.Given as goal
 
 abbrev pub invariant-loop-parent : goal.invariant-loop-parent
-invariant-loop-parent l = (l.parent ≤ l.count) × StoringLists l.sorted l.ends l.initial.arena l.parent l.start l.arena
-
-abbrev pub decreases-loop-parent : goal.decreases-loop-parent
-decreases-loop-parent l = l.count - l.parent
+invariant-loop-parent l = StoringLists l.sorted l.ends l.initial.arena l.parent l.start l.arena
