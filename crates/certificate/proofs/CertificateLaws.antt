@@ -1,13 +1,10 @@
 -- The certificate of all lists: the loop over a node's list whose branches have their places one
--- after the other (`Fitting`), the loop over all nodes (`Certifying`), each with its start, step
--- and end; and why lists that pass are the graph's in its order (`certifying-ends`). Assumes
--- nothing.
-use mathlib.Core.Path.{◌≡◌, refl, ◌∙◌}
-use mathlib.Core.Logic.{◌⊎◌, inl, inr}
+-- after the other (`Fitting`), with its step and end; the loop over all nodes (`Certifying`), and
+-- why lists that pass are the graph's in its order (`certifying-ends`). Assumes nothing.
+use mathlib.Core.Path.{◌≡◌, sym, ◌∙◌}
 use mathlib.Core.Bool.{true}
 use mathlib.Core.List.{List}
 use Prim.Native.Nat.{ℕ, suc, ◌+◌, ◌≤◌, ◌<◌}
-use native.Mathlib.Nat.{eq-or-lt_of_le}
 use native.Mathlib.Numerals.{add-one}
 use native.Mathlib.Omega.{arith}
 use lib.ListN.{length, get_or}
@@ -26,89 +23,47 @@ use Rattle.child_lists.specs.Links.{start_of, part}
 use Rattle.child_lists.proofs.LinkLaws.{slice-done}
 use Rattle.certificate.specs.Sorts.{Sorts}
 use Rattle.certificate.specs.Certificate.{place_in, ChildOf, Part, ByLines, FitsIn}
-use Rattle.certificate.proofs.SliceLaws.{Each, each_none, each_more, each_all}
+use Rattle.certificate.proofs.SliceLaws.{Each, each_more, each_all}
 use Rattle.certificate.proofs.SortsLaws.{parts-own, parts-counted, order-sorts}
 
 -- ---- One list
 
 -- the children before `at` are v's, and the list fits where the rest of it does after `from`
 pub record Fitting (bs sorted places stops : List ℕ) (v start end from at : ℕ) : Type 0 where
-  pub low : start ≤ at
-  pub high : at ≤ end
   pub children : Each (ChildOf bs v) sorted start at
   pub fits : Fits (place_in places) (place_in stops) from (place_in stops v) (slice at end sorted)
       → Fits (place_in places) (place_in stops) (suc (place_in places v)) (place_in stops v) (slice start end sorted)
 
 module _ {bs sorted places stops : List ℕ} {v start end : ℕ} where
-  pub fitting-start : start ≤ end → Fitting bs sorted places stops v start end (place_in places v + 1) start
-  fitting-start h = record {
-    low = omega arith;
-    high = h;
-    children = each_none sorted (ChildOf bs v);
-    fits = λ fits. rw (add-one (place_in places v)) at fits;
-  }
-
   module _ {from at : ℕ} (w : Fitting bs sorted places stops v start end from at) (long : length sorted ≡ 1024) (few : end ≤ 1024) where
     pub fitting-step : at < end → ChildOf bs v (get_or sorted at 0) → from ≤ place_in places (get_or sorted at 0)
         → Fitting bs sorted places stops v start end (place_in stops (get_or sorted at 0)) (at + 1)
     fitting-step h child after = record {
-      low = omega (arith, w.low);
-      high = omega arith;
       children = each_more sorted (ChildOf bs v) w.children child;
       fits = λ fits. w.fits (rw (slice-cons at end sorted 0 h (omega arith)) (after, rw (add-one at) at fits));
     }
 
-    pub fitting-ends : end ≤ at → from ≤ place_in stops v → FitsIn bs sorted places stops v start end
-    fitting-ends done within = record {
+    pub fitting-ends : start ≤ end → at ≡ end → from ≤ place_in stops v → FitsIn bs sorted places stops v start end
+    fitting-ends low done within = record {
       part = record {
-        low = omega (arith, w.low, w.high);
+        low = low;
         high = few;
-        children = each_all sorted end (omega arith) (ChildOf bs v) start (omega (arith, w.low, w.high)) (λ k l h. w.children k l (omega arith));
+        children = each_all sorted end (omega arith) (ChildOf bs v) start low (λ k l h. w.children k l (omega arith));
       };
-      fits = w.fits (rw (slice-done at end sorted w.high done) within);
+      fits = w.fits (rw (slice-done at end sorted (omega arith) (omega arith)) within);
     }
 
 -- ---- All lists
 
 -- the lists of the nodes below `parent` fit and are in order, and stand up to `start`
 pub record Certifying (bs sorted ends places stops : List ℕ) (start parent : ℕ) : Type 0 where
-  pub high : parent ≤ count_in bs
   pub few : start ≤ 1024
   pub started : start ≡ start_of ends parent
   pub fits : (p : ℕ) → p < parent → FitsIn bs sorted places stops p (start_of ends p) (get_or ends p 0)
   pub lines : (p : ℕ) → p < parent → ByLines bs places (part sorted ends p)
 
-pub certifying-start : (bs sorted ends places stops : List ℕ) → Certifying bs sorted ends places stops 0 0
-certifying-start bs sorted ends places stops = record {
-  high = omega arith;
-  few = omega arith;
-  started = refl;
-  fits = λ p h. absurd (omega arith);
-  lines = λ p h. absurd (omega arith);
-}
-
-module _ {bs sorted ends places stops : List ℕ} {start parent : ℕ} (w : Certifying bs sorted ends places stops start parent) where
-  pub certifying-step : parent < count_in bs → FitsIn bs sorted places stops parent start (get_or ends parent 0)
-      → ByLines bs places (slice start (get_or ends parent 0) sorted) → Certifying bs sorted ends places stops (get_or ends parent 0) (parent + 1)
-  certifying-step below fits lines =
-      rw (add-one parent) (record {
-        high = below;
-        few = fits.part.high;
-        started = refl;
-        fits = λ p h. fits_more p (eq-or-lt_of_le {n = p} {m = parent} (omega arith));
-        lines = λ p h. lines_more p (eq-or-lt_of_le {n = p} {m = parent} (omega arith));
-      })
-    where
-      fits_more : (p : ℕ) → (p ≡ parent) ⊎ (p < parent) → FitsIn bs sorted places stops p (start_of ends p) (get_or ends p 0)
-      fits_more p (inl e) = rw (e, ← w.started) fits
-      fits_more p (inr h) = w.fits p h
-
-      lines_more : (p : ℕ) → (p ≡ parent) ⊎ (p < parent) → ByLines bs places (part sorted ends p)
-      lines_more p (inl e) = rw (e, ← w.started) lines
-      lines_more p (inr h) = w.lines p h
-
 module _ {bs sorted ends places stops : List ℕ} (o : ValidArena bs) (tree : TreeOf (decode bs)) (long : length sorted ≡ 1024) {start parent : ℕ}
-    (w : Certifying bs sorted ends places stops start parent) (done : count_in bs ≤ parent) where
+    (w : Certifying bs sorted ends places stops start parent) (done : parent ≡ count_in bs) where
   part_at : (v : ℕ) → v < count_in bs → Part bs sorted v (start_of ends v) (get_or ends v 0)
   part_at v h = (w.fits v (omega arith)).part
 
@@ -120,7 +75,7 @@ module _ {bs sorted ends places stops : List ℕ} (o : ValidArena bs) (tree : Tr
 
   module _ (whole : start + 1 ≡ count_in bs) where
     counted : start_of ends (count_in bs) + 1 ≡ count_in bs
-    counted = let e : count_in bs ≡ parent = omega (arith, w.high) in rw (e, ← w.started) (whole ∙ e)
+    counted = rw (← done, ← w.started) (whole ∙ sym done)
 
     same : (v : ℕ) → v < size (decode bs) → SameCounts (part sorted ends v) (children_of (decode bs) v)
     same =

@@ -1,12 +1,11 @@
--- The certificate's tests on a part of a list: what an entry says (`IsEntry`), one depth or rank
--- (`Alike`), each child against the next (`Neighbouring`), each against all later ones (`Pairing`,
--- `Facing`), and one run of a rank after the other (`Ranking`), each loop with its start, step and
--- end. Assumes nothing.
+-- The certificate's tests on a part of a list: what an entry says (`IsEntry`), each child against
+-- the next (`Neighbouring`), and one run of a rank after the other (`Ranking`), with what the loops
+-- need of them. Assumes nothing.
 use mathlib.Core.Path.{◌≡◌, refl, sym, ap, ◌∙◌}
 use mathlib.Core.Logic.{◌⊎◌, inl, inr}
 use mathlib.Core.Bool.{Bool, true, false, not, ◌||◌}
 use mathlib.Core.List.{List}
-use Prim.Native.Nat.{ℕ, ◌+◌, ◌≤◌, ◌<◌}
+use Prim.Native.Nat.{ℕ, ◌+◌, ◌-◌, ◌≤◌, ◌<◌}
 use native.Mathlib.Omega.{arith}
 use native.Mathlib.Decide.{dec_lt}
 use lib.Dec.{eqb}
@@ -34,9 +33,9 @@ use Rattle.model.specs.declared.Verdict.{Verdict}
 use Rattle.model.specs.declared.Verdict.TheVariants.{Settled, Ask}
 use Rattle.strength.specs.Verdicts.{resolve}
 use Rattle.line_table.specs.declared.Entry.{Entry}
-use Rattle.line_table.specs.LineTable.{EntryOf, NestedKnown, Weighs, NestedRow}
-use Rattle.certificate.specs.Certificate.{place_in, Placed, IsBefore, ChildOf, Part, ByLines, RunEnd}
-use Rattle.certificate.proofs.SliceLaws.{Each, EachNext, EachLater, each_none, each_more, next_more, later_more, later-parts, each_all, all-each, each-neighbours, each-pairs, pairs-each}
+use Rattle.line_table.specs.LineTable.{EntryOf, NestedKnown, Weighs, NestedRow, Tabled}
+use Rattle.certificate.specs.Certificate.{place_in, Placed, IsBefore, Given, Reaches, ChildOf, Part, ByLines, RunEnd}
+use Rattle.certificate.proofs.SliceLaws.{Each, EachNext, EachLater, each_none, each_more, next_more, later-parts, each_all, all-each, each-neighbours, each-pairs, pairs-each}
 
 -- ---- Entries
 
@@ -126,6 +125,17 @@ pub part-child : {bs sorted : List ℕ} {v start end : ℕ} → length sorted �
 part-child {bs} {sorted} {v} {start} {end} long part =
     all-each sorted end (omega (arith, part.high)) (ChildOf bs v) start part.low part.children
 
+-- its entry can be read
+pub entry-readable : {bs table sorted : List ℕ} {v start end : ℕ} → Given bs table sorted → Part bs sorted v start end
+    → (k : ℕ) → start ≤ k → k < end → Tabled bs table × (0 < get_or sorted k 0) × (get_or sorted k 0 < count_in bs)
+entry-readable given part k l h = let child = part-child given.long part k l h in (given.tabled, child.0, child.1)
+
+-- and what it asks of has a place
+pub entry-reached : {bs table sorted places : List ℕ} {v start end : ℕ} → Given bs table sorted → Part bs sorted v start end → Reaches bs places
+    → (k : ℕ) → start ≤ k → k < end → {e : Entry} → IsEntry (view_in bs) (get_or sorted k 0) e → Placed places e
+entry-reached {bs} given part there k l h entry =
+    entry-placed (legal bs given.opened) (part-child given.long part k l h) entry there.reaches there.few
+
 -- a graph's arcs rank low
 pub rank-low : {bs : List ℕ} (o : ValidArena bs) (c : ℕ) → c < count_in bs → (view_in bs).rank c ≤ 6
 rank-low {bs} o c h =
@@ -133,119 +143,34 @@ rank-low {bs} o c h =
     let same = fresh-nodes bs all in
     arc-rank-low ((view_in bs).arc c) (rw same at ((fresh-legal bs all).node c (omega (arith, ap length same, size-decode bs all))).arc)
 
--- ---- One depth, one rank
-
--- the children before i have the number of the first, f being their depth or their rank
-pub record Alike (f : ℕ → ℕ) (sorted : List ℕ) (start end i : ℕ) : Type 0 where
-  pub low : start ≤ i
-  pub high : i ≤ end
-  pub same : Each (λ c. f c ≡ f (get_or sorted start 0)) sorted start i
-
-module _ {f : ℕ → ℕ} {sorted : List ℕ} {start end : ℕ} where
-  pub alike-start : start ≤ end → Alike f sorted start end start
-  alike-start h = record { low = omega arith; high = h; same = each_none sorted (λ c. f c ≡ f (get_or sorted start 0)) }
-
-  pub alike-step : {i : ℕ} → Alike f sorted start end i → i < end → f (get_or sorted i 0) ≡ f (get_or sorted start 0) → Alike f sorted start end (i + 1)
-  alike-step w h e = record {
-    low = omega (arith, w.low);
-    high = omega arith;
-    same = each_more sorted (λ c. f c ≡ f (get_or sorted start 0)) w.same e;
-  }
-
 -- ---- Each against the next
 
--- up to i no child is a copy, and each is before the next
-pub record Neighbouring (bs places sorted : List ℕ) (v start end i : ℕ) : Type 0 where
-  pub low : start ≤ i
-  pub here : i < end
-  pub keyed : Each (Keyed (count_in bs) (view_in bs) v) sorted start (i + 1)
-  pub next : EachNext (KeyLess (view_in bs) (place_in places)) sorted start (i + 1)
+-- before i no child is a copy, and each is before the next
+pub record Neighbouring (bs places sorted : List ℕ) (v start i : ℕ) : Type 0 where
+  pub keyed : Each (Keyed (count_in bs) (view_in bs) v) sorted start i
+  pub next : EachNext (KeyLess (view_in bs) (place_in places)) sorted start i
 
-module _ {bs places sorted : List ℕ} {v start end : ℕ} where
-  pub neighbouring-start : start < end → Keyed (count_in bs) (view_in bs) v (get_or sorted start 0) → Neighbouring bs places sorted v start end start
-  neighbouring-start some keyed = record {
-    low = omega arith;
-    here = some;
+module _ {bs places sorted : List ℕ} {v start : ℕ} where
+  pub neighbouring-start : Keyed (count_in bs) (view_in bs) v (get_or sorted start 0) → Neighbouring bs places sorted v start (start + 1)
+  neighbouring-start keyed = record {
     keyed = each_more sorted (Keyed (count_in bs) (view_in bs) v) (each_none sorted (Keyed (count_in bs) (view_in bs) v)) keyed;
     next = λ k l h. absurd (omega arith);
   }
 
-  module _ {i : ℕ} (w : Neighbouring bs places sorted v start end i) where
-    pub neighbouring-step : i + 1 < end → Keyed (count_in bs) (view_in bs) v (get_or sorted (i + 1) 0)
-        → KeyLess (view_in bs) (place_in places) (get_or sorted i 0) (get_or sorted (i + 1) 0) → Neighbouring bs places sorted v start end (i + 1)
-    neighbouring-step more keyed less = record {
-      low = omega (arith, w.low);
-      here = more;
+  module _ {i : ℕ} (w : Neighbouring bs places sorted v start i) where
+    pub neighbouring-step : Keyed (count_in bs) (view_in bs) v (get_or sorted i 0)
+        → KeyLess (view_in bs) (place_in places) (get_or sorted (i - 1) 0) (get_or sorted i 0) → Neighbouring bs places sorted v start (i + 1)
+    neighbouring-step keyed less = record {
       keyed = each_more sorted (Keyed (count_in bs) (view_in bs) v) w.keyed keyed;
       next = next_more sorted (KeyLess (view_in bs) (place_in places)) i w.next less;
     }
 
-    pub neighbouring-ends : ValidArena bs → length sorted ≡ 1024 → end ≤ 1024 → end ≤ i + 1 → ByLines bs places (slice start end sorted)
-    neighbouring-ends o long high done =
+    pub neighbouring-ends : {end : ℕ} → ValidArena bs → length sorted ≡ 1024 → start ≤ end → end ≤ 1024 → end ≤ i
+        → ByLines bs places (slice start end sorted)
+    neighbouring-ends {end} o long low high done =
         neighbours-sorted (legal bs o) v (place_in places) (slice start end sorted)
-        (each_all sorted end (omega arith) (Keyed (count_in bs) (view_in bs) v) start (omega (arith, w.low, w.here))
-        (λ k l h. w.keyed k l (omega arith)))
-        (each-neighbours sorted end (omega arith) (KeyLess (view_in bs) (place_in places)) start (omega (arith, w.low, w.here))
-        (λ k l h. w.next k l (omega arith)))
-
--- ---- Each against all later ones
-
--- each before i is before all later ones
-pub record Pairing (bs places sorted : List ℕ) (start end i : ℕ) : Type 0 where
-  pub low : start ≤ i
-  pub high : i ≤ end
-  pub later : EachLater (Before (view_in bs) places) sorted start i end
-
--- and the one at i is before those up to j
-pub record Facing (bs places sorted : List ℕ) (start end i j : ℕ) : Type 0 where
-  pub outer : Pairing bs places sorted start end i
-  pub here : i < end
-  pub past : i < j
-  pub within : j ≤ end
-  pub each : Each (Before (view_in bs) places (get_or sorted i 0)) sorted (i + 1) j
-
-module _ {bs places sorted : List ℕ} {start end : ℕ} where
-  pub pairing-start : start ≤ end → Pairing bs places sorted start end start
-  pairing-start h = record { low = omega arith; high = h; later = λ i j l m. absurd (omega arith) }
-
-  module _ {i : ℕ} (w : Pairing bs places sorted start end i) where
-    pub pairing-ends : length sorted ≡ 1024 → end ≤ 1024 → end ≤ i → ByLines bs places (slice start end sorted)
-    pairing-ends long high done =
-        each-pairs sorted end (omega arith) (Before (view_in bs) places) start (omega (arith, w.low, w.high))
-        (λ k j l h. w.later k j l (omega arith))
-
-    pub facing-start : i < end → Facing bs places sorted start end i (i + 1)
-    facing-start h = record {
-      outer = w;
-      here = h;
-      past = omega arith;
-      within = omega arith;
-      each = each_none sorted (Before (view_in bs) places (get_or sorted i 0));
-    }
-
-  module _ {i j : ℕ} (w : Facing bs places sorted start end i j) where
-    pub facing-step : j < end → Before (view_in bs) places (get_or sorted i 0) (get_or sorted j 0) → Facing bs places sorted start end i (j + 1)
-    facing-step h before = record {
-      outer = w.outer;
-      here = w.here;
-      past = omega (arith, w.past);
-      within = omega arith;
-      each = each_more sorted (Before (view_in bs) places (get_or sorted i 0)) w.each before;
-    }
-
-    pub facing-ends : end ≤ j → Pairing bs places sorted start end (i + 1)
-    facing-ends done = record {
-      low = omega (arith, w.outer.low);
-      high = omega (arith, w.here);
-      later = later_more sorted (Before (view_in bs) places) w.outer.later (λ k l h. w.each k l (omega arith));
-    }
-
--- one child alone
-pub alone-in-order : (bs places sorted : List ℕ) {start end : ℕ} → length sorted ≡ 1024 → start < end → end ≤ 1024 → end ≤ start + 1
-    → ByLines bs places (slice start end sorted)
-alone-in-order bs places sorted long some high one =
-    let first = facing-start (pairing-start {bs = bs} {places = places} {sorted = sorted} (omega arith)) some in
-    pairing-ends (facing-ends first one) long high one
+        (each_all sorted end (omega arith) (Keyed (count_in bs) (view_in bs) v) start low (λ k l h. w.keyed k l (omega arith)))
+        (each-neighbours sorted end (omega arith) (KeyLess (view_in bs) (place_in places)) start low (λ k l h. w.next k l (omega arith)))
 
 -- ---- Runs of one rank
 
@@ -261,14 +186,6 @@ pub record Ranking (bs places sorted : List ℕ) (start end least at : ℕ) : Ty
   pub below : Each (λ c. (view_in bs).rank c < least) sorted start at
 
 module _ {bs places sorted : List ℕ} {start end : ℕ} where
-  pub ranking-start : start ≤ end → Ranking bs places sorted start end 0 start
-  ranking-start h = record {
-    low = omega arith;
-    high = h;
-    later = λ i j l m. absurd (omega arith);
-    below = each_none sorted (λ c. (view_in bs).rank c < 0);
-  }
-
   module _ {least at : ℕ} (w : Ranking bs places sorted start end least at) (long : length sorted ≡ 1024) where
     pub ranking-ends : end ≤ 1024 → end ≤ at → ByLines bs places (slice start end sorted)
     ranking-ends high done =

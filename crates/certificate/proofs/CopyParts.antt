@@ -1,11 +1,10 @@
 -- The certificate's test by neighbours among copies: what the lines on two entries say
 -- (`root-follows` to `origin-follows`), the authored ones that rise (`UpTo`), and the loop that
--- tests each child against the one before it (`Copying`), with its start, step and end. Assumes
--- nothing.
+-- tests each child against the one before it (`Copying`), with its step and end. Assumes nothing.
 use mathlib.Core.Path.{◌≡◌, refl, sym, ap, ◌∙◌}
 use mathlib.Core.Bool.{Bool, true, false, beq, not, ◌&&◌, cond, false≢true}
 use mathlib.Core.List.{List}
-use Prim.Native.Nat.{ℕ, ◌+◌, ◌≤◌, ◌<◌}
+use Prim.Native.Nat.{ℕ, ◌+◌, ◌-◌, ◌≤◌, ◌<◌}
 use native.Mathlib.Omega.{arith}
 use native.Mathlib.Decide.{dec_lt}
 use lib.ListN.{length, get_or}
@@ -26,7 +25,7 @@ use Rattle.view.proofs.ViewLaws.{legal}
 use Rattle.line_table.specs.declared.Entry.{Entry}
 use Rattle.line_table.specs.LineTable.{EntryOf}
 use Rattle.certificate.specs.Certificate.{place_in, SameStack, NextBy, RisesOver, Part, OneDepth, OneRank, ByLines}
-use Rattle.certificate.proofs.SliceLaws.{Each, EachNext, EachLater, each_none, each_more, next_more, later-parts, each_all, each-neighbours, each-pairs}
+use Rattle.certificate.proofs.SliceLaws.{Each, EachNext, EachLater, each_more, next_more, later-parts, each_all, each-neighbours, each-pairs}
 use Rattle.certificate.proofs.CertificateParts.{IsEntry, part-child}
 
 -- ---- What parts two nodes
@@ -214,45 +213,27 @@ module _ {u : View} {d : ℕ} {e : Entry} (entry : IsEntry u d e) where
 abbrev OfRoot : View → ℕ → ℕ → Type 0
 OfRoot u d c = origin_root_node u c ≡ origin_root_node u d
 
--- up to i all are HAS_SPECIALIZES, of one R where depths differ, each follows the one before it,
--- and the authored ones rise; `last` is the one at i
-pub record Copying (bs places sorted : List ℕ) (start end : ℕ) (uneven : Bool) (last : Entry) (sibling node i : ℕ) : Type 0 where
-  pub low : start ≤ i
-  pub here : i < end
-  pub entry : IsEntry (view_in bs) (get_or sorted i 0) last
-  pub special : Each (λ c. (view_in bs).special c ≡ true) sorted start (i + 1)
-  pub roots : uneven ≡ true → Each (OfRoot (view_in bs) (get_or sorted start 0)) sorted start (i + 1)
-  pub next : EachNext (Follows (view_in bs) (place_in places)) sorted start (i + 1)
-  pub up_to : Each (UpTo (view_in bs) sibling node) sorted start (i + 1)
-  pub rise : EachLater (AuthoredRise (view_in bs)) sorted start (i + 1) (i + 1)
+-- before i all are HAS_SPECIALIZES, of one R where depths differ, each follows the one before it,
+-- and the authored ones rise; `last` is the one right before i
+pub record Copying (bs places sorted : List ℕ) (start : ℕ) (uneven : Bool) (last : Entry) (sibling node i : ℕ) : Type 0 where
+  pub entry : IsEntry (view_in bs) (get_or sorted (i - 1) 0) last
+  pub special : Each (λ c. (view_in bs).special c ≡ true) sorted start i
+  pub roots : uneven ≡ true → Each (OfRoot (view_in bs) (get_or sorted start 0)) sorted start i
+  pub next : EachNext (Follows (view_in bs) (place_in places)) sorted start i
+  pub up_to : Each (UpTo (view_in bs) sibling node) sorted start i
+  pub rise : EachLater (AuthoredRise (view_in bs)) sorted start i i
 
-module _ {bs places sorted : List ℕ} {start end : ℕ} {uneven : Bool} where
-  pub copying-start : {e : Entry} {t n : ℕ} → start < end → IsEntry (view_in bs) (get_or sorted start 0) e → e.special ≡ true
-      → t ≡ cond e.authored e.sibling 0 → n ≡ cond e.authored e.node 0 → Copying bs places sorted start end uneven e t n start
-  copying-start {e} {t} {n} some entry flagged new-sibling new-node = record {
-    low = omega arith;
-    here = some;
-    entry = entry;
-    special = each_more sorted (λ c. (view_in bs).special c ≡ true) (each_none sorted (λ c. (view_in bs).special c ≡ true))
-        (entry-special entry flagged);
-    roots = λ q. each_more sorted (OfRoot (view_in bs) (get_or sorted start 0)) (each_none sorted (OfRoot (view_in bs) (get_or sorted start 0))) refl;
-    next = λ k l h. absurd (omega arith);
-    up_to = each_more sorted (UpTo (view_in bs) t n) (each_none sorted (UpTo (view_in bs) t n)) (up-to-here entry 0 0 new-sibling new-node);
-    rise = λ i j l m less h. absurd (omega arith);
-  }
-
-  module _ {last : Entry} {s m i : ℕ} (w : Copying bs places sorted start end uneven last s m i) where
-    pub copying-step : {e : Entry} {r : Bool} {t n : ℕ} → i + 1 < end → IsEntry (view_in bs) (get_or sorted (i + 1) 0) e
+module _ {bs places sorted : List ℕ} {start : ℕ} {uneven : Bool} where
+  module _ {last : Entry} {s m i : ℕ} (w : Copying bs places sorted start uneven last s m i) where
+    pub copying-step : {e : Entry} {r : Bool} {t n : ℕ} → start < i → IsEntry (view_in bs) (get_or sorted i 0) e
         → NextBy places last e uneven r → r ≡ true → RisesOver s m e → t ≡ cond e.authored e.sibling s
-        → n ≡ cond e.authored e.node m → Copying bs places sorted start end uneven e t n (i + 1)
-    copying-step {e} {r} {t} {n} more entry by answer over new-sibling new-node = record {
-      low = omega (arith, w.low);
-      here = more;
-      entry = entry;
+        → n ≡ cond e.authored e.node m → Copying bs places sorted start uneven e t n (i + 1)
+    copying-step {e} {r} {t} {n} past entry by answer over new-sibling new-node = record {
+      entry = let same : i + 1 - 1 ≡ i = omega arith in rw same entry;
       special = each_more sorted (λ c. (view_in bs).special c ≡ true) w.special (entry-special entry (by.special answer));
       roots = λ q.
           each_more sorted (OfRoot (view_in bs) (get_or sorted start 0)) (w.roots q)
-          (sym (entry-of-root entry) ∙ by.root answer q ∙ entry-of-root w.entry ∙ w.roots q i w.low (omega arith));
+          (sym (entry-of-root entry) ∙ by.root answer q ∙ entry-of-root w.entry ∙ w.roots q (i - 1) (omega arith) (omega arith));
       next = next_more sorted (Follows (view_in bs) (place_in places)) i w.next
           (rw (← w.entry.0, ← entry.0) (by.follows answer (view_in bs) w.entry.1 entry.1));
       up_to = each_more sorted (UpTo (view_in bs) t n) (λ k l h. up-to-kept entry s m new-sibling new-node over (w.up_to k l h))
@@ -260,14 +241,14 @@ module _ {bs places sorted : List ℕ} {start end : ℕ} {uneven : Bool} where
       rise = later-parts sorted (AuthoredRise (view_in bs)) w.rise (λ k j a b c d. absurd (omega arith)) across;
     }
       where
-        across : (k j : ℕ) → start ≤ k → k < i + 1 → i + 1 ≤ j → j < i + 1 + 1 → AuthoredRise (view_in bs) (get_or sorted k 0) (get_or sorted j 0)
+        across : (k j : ℕ) → start ≤ k → k < i → i ≤ j → j < i + 1 → AuthoredRise (view_in bs) (get_or sorted k 0) (get_or sorted j 0)
         across k j a b c d =
-            let e : j ≡ i + 1 = omega arith in
+            let e : j ≡ i = omega arith in
             rw e (up-to-rises entry over (w.up_to k a b))
 
-    pub copying-ends : {v : ℕ} → ValidArena bs → length sorted ≡ 1024 → Part bs sorted v start end → OneRank bs sorted start end
-        → (uneven ≡ false → OneDepth bs sorted start end) → end ≤ i + 1 → ByLines bs places (slice start end sorted)
-    copying-ends {v} o long part one_rank one-depth done =
+    pub copying-ends : {v end : ℕ} → ValidArena bs → length sorted ≡ 1024 → Part bs sorted v start end → OneRank bs sorted start end
+        → (uneven ≡ false → OneDepth bs sorted start end) → end ≤ i → ByLines bs places (slice start end sorted)
+    copying-ends {v} {end} o long part one_rank one-depth done =
         copies-sorted (legal bs o) v ((view_in bs).rank (get_or sorted start 0)) (place_in places) (slice start end sorted)
         (each_all sorted end fits (Flagged (count_in bs) (view_in bs) v ((view_in bs).rank (get_or sorted start 0))) start part.low
         (λ k l h. (part-child long part k l h, w.special k l (omega arith), one_rank k l h)))

@@ -6,7 +6,6 @@ use mathlib.Core.List.{List, [], ◌∷◌}
 use Prim.Native.Nat.{ℕ, zero, suc, ◌+◌, ◌-◌, ◌≤◌, ◌<◌}
 use native.Mathlib.Nat.{eq-or-lt_of_le}
 use native.Mathlib.Decide.{dec_lt}
-use native.Mathlib.Numerals.{add-one}
 use native.Mathlib.Omega.{arith}
 use lib.ListN.{length, get_or}
 use lib.Seq.{slice, slice-cons}
@@ -39,21 +38,13 @@ module _ (array : List ℕ) where
       go (inl e) = rw e here
       go (inr less) = each k l less
 
-  pub next_more : (R : ℕ → ℕ → Type 0) {start : ℕ} (i : ℕ) → EachNext R array start (i + 1) → R (get_or array i 0) (get_or array (i + 1) 0)
-      → EachNext R array start (i + 1 + 1)
-  next_more R {start} i each here k l h = go (eq-or-lt_of_le {n = k} {m = i} (omega arith))
+  pub next_more : (R : ℕ → ℕ → Type 0) {start : ℕ} (i : ℕ) → EachNext R array start i → R (get_or array (i - 1) 0) (get_or array i 0)
+      → EachNext R array start (i + 1)
+  next_more R {start} i each here k l h = go (eq-or-lt_of_le {n = suc k} {m = i} (omega arith))
     where
-      go : (k ≡ i) ⊎ (k < i) → R (get_or array k 0) (get_or array (suc k) 0)
-      go (inl e) = rw e (rw (add-one i) at here)
-      go (inr less) = each k l (omega arith)
-
-  pub later_more : (R : ℕ → ℕ → Type 0) {start i end : ℕ} → EachLater R array start i end → Each (R (get_or array i 0)) array (i + 1) end
-      → EachLater R array start (i + 1) end
-  later_more R {start} {i} {end} each here k j l h less within = go (eq-or-lt_of_le {n = k} {m = i} (omega arith))
-    where
-      go : (k ≡ i) ⊎ (k < i) → R (get_or array k 0) (get_or array j 0)
-      go (inl e) = rw e (here j (omega arith) within)
-      go (inr before) = each k j l before less within
+      go : (suc k ≡ i) ⊎ (suc k < i) → R (get_or array k 0) (get_or array (suc k) 0)
+      go (inl e) = let before : i - 1 ≡ k = omega arith in rw e (rw before at here)
+      go (inr less) = each k l less
 
   -- a part and the next, where R holds of each entry of the one and each of the other
   pub later-parts : (R : ℕ → ℕ → Type 0) {start at next : ℕ} → EachLater R array start at at → EachLater R array at next next

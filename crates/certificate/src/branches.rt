@@ -49,8 +49,7 @@ pub(crate) fn branches_fit(
 {
     let count = arena::count(arena);
     let mut from = wide(places[parent as usize]) + 1;
-    let mut at = start;
-    while at < end {
+    for at in start..end {
         let c = sorted[at];
         if !is_child(arena, count, parent, c) {
             return false;
@@ -59,7 +58,6 @@ pub(crate) fn branches_fit(
             return false;
         }
         from = wide(stops[c as usize]);
-        at += 1;
     }
     from <= wide(stops[parent as usize])
 }

@@ -20,15 +20,13 @@ fn run_end(
 {
     let first = line_table::entry_of(arena, table, sorted[start]);
     let rank = first.rank;
-    let mut i = start + 1;
-    while i < end {
+    for i in start + 1..end {
         let e = line_table::entry_of(arena, table, sorted[i]);
         if e.rank != rank {
             return i;
         }
-        i += 1;
     }
-    i
+    end
 }
 
 // Whether the list of a node is in order: its ranks rise from run to run, and each run is in order.
@@ -48,6 +46,7 @@ pub(crate) fn list_in_order(
 {
     let mut least: u32 = 0;
     let mut at = start;
+    // No range: a step leads to where the run ends, which only `run_end` finds.
     while at < end {
         let first = line_table::entry_of(arena, table, sorted[at]);
         let rank = first.rank;

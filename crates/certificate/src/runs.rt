@@ -27,17 +27,15 @@ fn neighbours_in_order(
     if is_copy(first) {
         return false;
     }
-    let mut i = start;
-    while i + 1 < end {
-        let a = line_table::entry_of(arena, table, sorted[i]);
-        let b = line_table::entry_of(arena, table, sorted[i + 1]);
+    for i in start + 1..end {
+        let a = line_table::entry_of(arena, table, sorted[i - 1]);
+        let b = line_table::entry_of(arena, table, sorted[i]);
         if is_copy(b) {
             return false;
         }
         if !is_before(places, a, b, false) {
             return false;
         }
-        i += 1;
     }
     true
 }
@@ -57,13 +55,11 @@ fn has_two_depths(
 {
     let first = line_table::entry_of(arena, table, sorted[start]);
     let depth = first.depth;
-    let mut i = start;
-    while i < end {
+    for i in start..end {
         let e = line_table::entry_of(arena, table, sorted[i]);
         if e.depth != depth {
             return true;
         }
-        i += 1;
     }
     false
 }
@@ -93,9 +89,8 @@ fn copies_in_order(
     }
     let mut sibling = if_authored(last, last.sibling, 0);
     let mut node = if_authored(last, last.node, 0);
-    let mut i = start;
-    while i + 1 < end {
-        let e = line_table::entry_of(arena, table, sorted[i + 1]);
+    for i in start + 1..end {
+        let e = line_table::entry_of(arena, table, sorted[i]);
         if !comes_next(places, last, e, uneven) {
             return false;
         }
@@ -105,7 +100,6 @@ fn copies_in_order(
         sibling = if_authored(e, e.sibling, sibling);
         node = if_authored(e, e.node, node);
         last = e;
-        i += 1;
     }
     true
 }
@@ -143,21 +137,17 @@ fn pairs_in_order(
 {
     let count = arena::count(arena);
     let mut found = true;
-    let mut i = start;
-    'pairs: while i < end {
+    'pairs: for i in start..end {
         let a = line_table::entry_of(arena, table, sorted[i]);
         nest_where(uneven, arena, table, count, a.root, row);
-        let mut j = i + 1;
-        while j < end {
+        for j in i + 1..end {
             let b = line_table::entry_of(arena, table, sorted[j]);
             let r = b.root as usize;
             if !is_before(places, a, b, row[r] == 1) {
                 found = false;
                 break 'pairs;
             }
-            j += 1;
         }
-        i += 1;
     }
     found
 }

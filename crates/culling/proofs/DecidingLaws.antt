@@ -1,7 +1,6 @@
--- The loop that decides the flags from the highest node down (`Deciding`), with its start, its two
--- steps and its end. When node n is reached each child of it is decided, since children are higher;
--- so the mark of n says whether one is unculled, and that is what `culling-decides` asks. Assumes
--- nothing.
+-- The loop that decides the flags from the highest node down (`Deciding`), with its two steps and
+-- its end. When node n is reached each child of it is decided, since children are higher; so the
+-- mark of n says whether one is unculled, and that is what `culling-decides` asks. Assumes nothing.
 use mathlib.Core.Path.{◌≡◌, refl, sym, ap, ◌∙◌}
 use mathlib.Core.Bool.{Bool, true, false, not, ◌||◌, ◌&&◌, cond, true≢false}
 use mathlib.Core.List.{List, [], ◌∷◌}
@@ -103,6 +102,14 @@ pub record Deciding (bs unculled flags : List ℕ) (n : ℕ) : Type 0 where
   pub clear : (v : ℕ) → get_or unculled v 0 ≡ 0 → ChildrenCulled bs n v
   pub unset : (v : ℕ) → ChildrenCulled bs n v → get_or unculled v 0 ≡ 0
 
+-- the node that the loop decides next can be read, and is in the buffers
+module _ {bs unculled flags : List ℕ} {nodes root n : ℕ} (r : Rooted bs nodes root) (d : Deciding bs unculled flags n) (more : 1 < n) where
+  pub next-stands : ValidNodeAndRoot bs root (n - 1)
+  next-stands = record { readable = record { opened = r.opened; below = omega (arith, d.within) }; root-read = r.root-read }
+
+  pub next-short : n - 1 < 1024
+  next-short = omega (arith, d.within, (held bs r.opened.holds).few)
+
 pub zeros-clear : (n : ℕ) → Clear (replicate n 0)
 zeros-clear zero k = refl
 zeros-clear (suc n) zero = refl
@@ -138,17 +145,6 @@ module _ (bs : List ℕ) (bytes : Bytes bs) (nodes root : ℕ) (r : Rooted bs no
 
   node-0-kept : (node_at g.nodes 0).flags ≡ flags_left bs 0
   node-0-kept = ap (λ (x : Node). x.flags) (sym decides.node-0)
-
-  pub deciding-start : (unculled flags : List ℕ) → length unculled ≡ 1024 → length flags ≡ 1024 → Clear unculled → Deciding bs unculled flags nodes
-  deciding-start unculled flags long also-long clear = record {
-    some = r.some-node;
-    within = omega (arith, r.counted);
-    unculled-long = long;
-    flags_long = also-long;
-    found = λ k l h. absurd (omega (arith, r.counted));
-    clear = λ v e c l h p. absurd (omega (arith, r.counted));
-    unset = λ v all. clear v;
-  }
 
   module _ (unculled flags : List ℕ) (n : ℕ) (d : Deciding bs unculled flags n) (more : 1 < n) where
     abbrev here : ℕ

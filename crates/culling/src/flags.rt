@@ -14,9 +14,7 @@ fn find_flags(arena: &[u8], count: u32, root: u32, unculled: &mut [u8], flags: &
     requires unculled_len { (length unculled.old ≡ 1024) × (length flags.old ≡ 1024) × Clear unculled.old }
     ensures { HasFlagsFrom arena.now 0 flags.new }
 {
-    let mut n = count;
-    while 1 < n {
-        n -= 1;
+    for n in (1..count).rev() {
         let i = n as usize;
         let old = arena::flags(arena, n);
         if crate::deciding::can_cull(arena, root, n, unculled[i] != 0) {
@@ -34,10 +32,8 @@ fn write_all_flags(arena: &mut [u8], count: u32, flags: &[u8])
     requires { (length arena.old ≡ arena_bytes) × (count ≤ 1024) × (length flags.now ≡ 1024) }
     ensures { arena.new ≡ flags_written flags.now count arena.old }
 {
-    let mut n: u32 = 0;
-    while n < count {
+    for n in 0..count {
         arena::write_flags(arena, n, flags[n as usize]);
-        n += 1;
     }
 }
 

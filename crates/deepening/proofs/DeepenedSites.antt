@@ -1,33 +1,40 @@
--- One site with the name appended (`CanJoin`): its prim count, that the record loaded becomes the
--- deepened node's, and that it is stored as such (`record-joined`). Then the sites of the first
--- nodes stored one after the other (`sites-run`): what lies behind them is as it was, so the next
--- node can still be joined (`join-next`, `sites-next`). Assumes nothing.
+-- One site with the name appended (`CanJoin`): where its path ends, its prim count, and that the
+-- record loaded becomes the deepened node's. Then the sites of the first nodes stored one after the
+-- other (`sites-run`): what lies behind them is as it was, so the next node can still be joined
+-- (`join-next`, `sites-next`). Assumes nothing.
 use mathlib.Core.Path.{◌≡◌, refl, sym, ap, subst, ◌∙◌}
-use mathlib.Core.List.{List, ◌∷◌, ◌++◌}
-use Prim.Native.Nat.{ℕ, suc, ◌+◌, ◌-◌, ◌≤◌, ◌<◌}
+use mathlib.Core.List.{List, ◌∷◌}
+use Prim.Native.Nat.{ℕ, suc, ◌+◌, ◌≤◌, ◌<◌}
 use native.Mathlib.Omega.{arith}
 use lib.ListN.{length, take, drop}
 use Rattle.model.specs.Arena.{arena_bytes, slot_at, prim_count_in, record_length_in, node_in}
-use Rattle.model.specs.Bytes.{stored}
 use Rattle.model.specs.Deepening.{deepened}
 use Rattle.model.specs.Node as model
-use Rattle.model.specs.Path.{prim_count, append_name}
-use Rattle.model.specs.Snapshot.{big_endian, value, read_record, record_bytes}
+use Rattle.model.specs.Path.{prim_count, separator, append_name}
+use Rattle.model.specs.Snapshot.{value, read_record, record_bytes}
 use Rattle.laws.proofs.PathGrammar.{Name, well-formed-may-end}
 use Rattle.laws.proofs.PathLaws.{append-prim-count, last-name-is-name, prim-count-half}
 use Rattle.laws.proofs.PathParts.{name-not-empty}
 use Rattle.laws.proofs.SnapshotLaws.{record-length}
-use Rattle.arena.specs.Slot.{Loaded, node_of, record_stored, links_stored}
+use Rattle.arena.specs.Slot.{Loaded, node_of}
 use Rattle.arena.specs.declared.Node.{Node}
 use Rattle.arena.proofs.EncodeSteps.{SlotRun, run_length, run-behind}
 use Rattle.arena.proofs.SlotLaws.{loaded-node}
-use Rattle.deepening.specs.Deepened.{ChildName, CanJoin, AllJoin, Joined, site_stored, sites_deepened, links_seeded}
+use Rattle.path.proofs.JoinLaws.{length-append-name}
+use Rattle.deepening.specs.Deepened.{ChildName, CanJoin, AllJoin, site_stored, sites_deepened}
 
 pub child-is-name : (name : List ℕ) → ChildName name → Name name
 child-is-name name c =
     subst Name (sym c.last) (last-name-is-name c.child (well-formed-may-end c.child c.right) c.ends)
 
 -- ---- One site
+
+-- where a path ends once the name is put after it
+pub end-joined : (path name : List ℕ) {old : List ℕ} {at : ℕ} → at ≡ length old + length (separator old) → old ≡ path
+    → at + length name ≡ length (append_name path name)
+end-joined path name joint same =
+    ap (λ (k : ℕ). k + length name) (joint ∙ ap (λ (p : List ℕ). length p + length (separator p)) same)
+    ∙ sym (length-append-name path name)
 
 module _ (bs name : List ℕ) (n : ℕ) (can : CanJoin bs name n) where
   abbrev path : List ℕ
@@ -46,25 +53,6 @@ module _ (bs name : List ℕ) (n : ℕ) (can : CanJoin bs name n) where
 
   pub node-joined : (x : Node) → Loaded bs n x → node_of x (append_name path name) ≡ deepened name (node_in bs n)
   node-joined x l = ap (deepened name) (loaded-node bs n can.stands.numbered x l)
-
--- the record that is stored is the deepened node's, and as long as its path says
-module _ (bs name : List ℕ) (n : ℕ) (x : Node) (written : List ℕ) (j : Joined bs name n x written) where
-  abbrev front : List ℕ
-  front = take (x.record_length - 27) written
-
-  pub front_length : x.record_length - 27 ≡ length front
-  front_length = omega (arith, ap length j.front, j.long)
-
-  pub front-counted : (x.record_length ≡ 27 + length front) × (length front ≤ 255)
-  front-counted = (omega (arith, front_length, j.long), omega (arith, front_length, j.long, j.short))
-
-  pub record-joined : (s : List ℕ) → record_stored n x front s ≡ site_stored n (deepened name (node_in bs n)) s
-  record-joined s =
-      (λ i. stored (slot_at n + 16) (j.counted i ∷ record_bytes (node_of x (j.front i))) s)
-      ∙ ap (λ (y : model.Node). stored (slot_at n + 16) (prim_count (append_name (node_in bs n).path name) ∷ record_bytes y) s) j.node
-
-  pub links-joined : (s : List ℕ) → links_stored n x s ≡ links_seeded bs n s
-  links-joined s = λ i. stored (slot_at n) (big_endian 4 (j.first-child i) ++ (big_endian 4 (j.last-child i) ++ big_endian 4 (j.next-sibling i))) s
 
 -- ---- Sites
 

@@ -15,10 +15,8 @@ pub fn paths_fit(arena: &[u8], name: &[u8]) -> bool
 {
     let count = arena::count(arena);
     let mut sum: usize = 0;
-    let mut n: u32 = 0;
-    while n < count {
+    for n in 0..count {
         let end = path::join::joint(arena::path(arena, n)) + name.len();
-        n += 1;
         if 255 < end {
             return false;
         }

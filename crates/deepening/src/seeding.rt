@@ -37,10 +37,8 @@ pub(crate) fn seed_slots(from: &[u8], into: &mut [u8], count: u32, name: &[u8])
     ensures { into.new ≡ slots_seeded from.now name.now count
         into.old }
 {
-    let mut n: u32 = 0;
-    while n < count {
+    for n in 0..count {
         seed_slot(from, into, n, name);
-        n += 1;
     }
 }
 
@@ -50,9 +48,7 @@ pub(crate) fn seed_order(from: &[u8], into: &mut [u8], count: u32)
     ensures { into.new ≡ order_stored (tabulate (order_entry_in from.now) 0 count) 0
         into.old }
 {
-    let mut n: u32 = 0;
-    while n < count {
+    for n in 0..count {
         arena::write_order_entry(into, n, arena::order_entry(from, n));
-        n += 1;
     }
 }

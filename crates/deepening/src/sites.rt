@@ -38,9 +38,7 @@ pub(crate) fn deepen_sites(arena: &mut [u8], count: u32, name: &[u8])
     requires { AllJoin arena.old name.now count }
     ensures { arena.new ≡ sites_deepened name.now count arena.old }
 {
-    let mut n: u32 = 0;
-    while n < count {
+    for n in 0..count {
         deepen_site(arena, n, name);
-        n += 1;
     }
 }

@@ -30,58 +30,32 @@ pub bit_byte : (b : Bool) → bool_byte b ≡ bit b
 bit_byte true = refl
 bit_byte false = refl
 
-module _ {u : View} {m r : ℕ} {row : List ℕ} where
-  pub inward-store : {v : ℕ} → Inward u m r row → m < length row → v ≡ bit (is_nested_under u m r) → Inward u (m + 1) r (set row m v)
-  inward-store {v} w h e = record {
+module _ {u : View} {m r : ℕ} {row : List ℕ} (w : Inward u m r row) (here : m < length row) where
+  inward-store : {v : ℕ} {after : List ℕ} → after ≡ set row m v → v ≡ bit (is_nested_under u m r) → Inward u (m + 1) r after
+  inward-store {v} s e = rw s record {
     long = omega (arith, length-set row m v);
     marks = λ k l. go k l (eqb k m) refl;
   }
     where
       go : (k : ℕ) → k < m + 1 → (b : Bool) → eqb k m ≡ b → get_or (set row m v) k 0 ≡ bit (is_nested_under u k r)
-      go k l true z = rw (eqb-true k m z) (get_or-set_same row m v 0 h ∙ e)
+      go k l true z = rw (eqb-true k m z) (get_or-set_same row m v 0 here ∙ e)
       go k l false z = let other = eqb-false k m z in get_or-set_other row m k v 0 other ∙ w.marks k (omega arith)
 
--- the loop has come to m, in a row of its first length
-pub record Marking (u : View) (count r m : ℕ) (first row : List ℕ) : Type 0 where
-  pub inward : Inward u m r row
-  pub above : 0 < m
-  pub within : m ≤ count
-  pub long : count ≤ length row
-  pub same_length : length row ≡ length first
+  pub inward-self : {after : List ℕ} → m ≡ r → after ≡ set row m 1 → Inward u (m + 1) r after
+  inward-self e s = inward-store s (rw e (sym (ap bit (nested-self u r))))
 
-pub marking-start : (u : View) {count r : ℕ} (v : ℕ) (row : List ℕ) → r < count → count ≤ length row → v ≡ bit (eqb r 0)
-    → Marking u count r 1 (set row 0 v) (set row 0 v)
-marking-start u {count} {r} v row h l e = record {
-  inward = inward-store {m = 0} {row = row} (record { long = omega arith; marks = λ k z. absurd (omega arith) }) (omega arith) (rw (nested-zero u r, eqb-sym 0 r) e);
-  above = omega arith;
-  within = omega arith;
-  long = omega (arith, length-set row 0 v);
-  same_length = refl;
-}
+  -- the node that an outward step leads to is lower, and so is marked already
+  module _ {count : ℕ} (legal : LegalView count u) (above : 0 < m) (within : m < count) {out : ℕ} (e : out ≡ outward u m) where
+    pub inward-falls : out < m
+    inward-falls = rw e (outward-lower legal m above within)
 
-module _ {u : View} {count r m : ℕ} {first row : List ℕ} (w : Marking u count r m first row) (here : m < count) where
-  marking-store : {v : ℕ} {after : List ℕ} → after ≡ set row m v → v ≡ bit (is_nested_under u m r) → Marking u count r (m + 1) first after
-  marking-store {v} s e = rw s record {
-    inward = inward-store w.inward (omega (arith, w.long)) e;
-    above = omega arith;
-    within = omega arith;
-    long = omega (arith, w.long, length-set row m v);
-    same_length = length-set row m v ∙ w.same_length;
-  }
+    pub inward-step : {after : List ℕ} → (m ≡ r → ⊥) → after ≡ set row m (get_or row out 0) → Inward u (m + 1) r after
+    inward-step other s =
+        inward-store s (w.marks out inward-falls ∙ rw e (sym (ap bit (nested-step legal m above within r other))))
 
-  pub marking-self : {after : List ℕ} → m ≡ r → after ≡ set row m 1 → Marking u count r (m + 1) first after
-  marking-self e s = marking-store s (rw e (sym (ap bit (nested-self u r))))
-
-  module _ (legal : LegalView count u) {out : ℕ} (e : out ≡ outward u m) where
-    pub marking-falls : out < m
-    marking-falls = rw e (outward-lower legal m w.above here)
-
-    pub marking_step : {after : List ℕ} → (m ≡ r → ⊥) → after ≡ set row m (get_or row out 0) → Marking u count r (m + 1) first after
-    marking_step other s =
-        marking-store s (w.inward.marks out marking-falls ∙ rw e (sym (ap bit (nested-step legal m w.above here r other))))
-
-pub marking-end : {u : View} {count r m : ℕ} {first row : List ℕ} → Marking u count r m first row → count ≤ m → Inward u count r row
-marking-end {u} {count} {r} {m} w h = record { long = w.long; marks = λ k l. w.inward.marks k (omega arith) }
+pub inward-start : (u : View) {r : ℕ} (v : ℕ) (row : List ℕ) → 0 < length row → v ≡ bit (eqb r 0) → Inward u 1 r (set row 0 v)
+inward-start u {r} v row h e =
+    inward-store {m = 0} {row = row} (record { long = omega arith; marks = λ k z. absurd (omega arith) }) h refl (rw (nested-zero u r, eqb-sym 0 r) e)
 
 -- ---- Outward
 

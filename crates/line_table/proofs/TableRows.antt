@@ -6,20 +6,19 @@ use mathlib.Core.List.{List}
 use Prim.Native.Nat.{ℕ, ◌+◌, ◌*◌, ◌≤◌, ◌<◌}
 use native.Mathlib.Omega.{arith}
 use lib.Dec.{eqb, ltb}
-use lib.ListN.{length, get_or}
+use lib.ListN.{get_or}
 use borrow.Author.Tests.{eq-eqb, ne_eqb, lt-ltb}
 use Rattle.model.specs.Lists.{bit}
 use Rattle.model.specs.Node.{relocate_arc, specialize_arc}
 use Rattle.model.specs.Graph.{depth_below_introduction}
-use Rattle.model.specs.Arena.{count_in, local_root_in, decode}
-use Rattle.model.specs.ArenaCalls.{ValidArena}
+use Rattle.model.specs.Arena.{count_in, decode}
 use Rattle.model.specs.Strength.{View, is_authored, is_implied, is_propagated_specializes, origin_root_node, origin_hops, outward, replaced, is_class_based_arc, starting_node_of_class_hierarchy, namespace_depth_for_class_hierarchy, class_depth}
 use Rattle.laws.proofs.Views.{LegalView}
 use Rattle.laws.proofs.StrengthWalks.{class_up, replaced-le, class-up-lower, origin-root-authored, origin-root-step, origin-hops-authored, origin-hops-step, skip_stop, skip_step}
 use Rattle.laws.proofs.StrengthTables.{origin-hops-le, class-from-other, class-from-same, class-from-apart}
 use Rattle.view.specs.View.{view_in}
 use Rattle.view.proofs.ViewLaws.{legal}
-use Rattle.line_table.specs.LineTable.{skipped_depth, hierarchy_depth, node_row, Cell, Filled, Tabled, Filling}
+use Rattle.line_table.specs.LineTable.{skipped_depth, hierarchy_depth, node_row, Cell, Filling}
 use Rattle.line_table.proofs.TableCells.{small, own, lower-row}
 
 -- ---- Sites
@@ -186,40 +185,3 @@ module _ {bs t : List ℕ} {root n columns : ℕ} (f : Filling bs t root n colum
 
   pub hierarchy-none : {v : ℕ} → is_class_based_arc ((view_in bs).arc n) ≡ false → Cell (skipped_depth (view_in bs) n) v → Cell (hierarchy_depth (view_in bs) n) v
   hierarchy-none e h = record { same = h.same ∙ ap (skipped_depth (view_in bs)) (sym (class-from-other (view_in bs) n e)); fits = h.fits }
-
--- ---- The loop over the rows
-
--- the rows below n are filled, in a table of its first length
-pub record Tabling (bs : List ℕ) (count n : ℕ) (first t : List ℕ) : Type 0 where
-  pub above : 0 < n
-  pub within : n ≤ count
-  pub filled : Filled bs t (n * 16)
-  pub same_length : length t ≡ length first
-
-filled-below : {bs t : List ℕ} {i : ℕ} (j : ℕ) → j ≤ i → Filled bs t i → Filled bs t j
-filled-below j h f = record { long = f.long; cells = λ n k l low under. f.cells n k l low (omega arith) }
-
-pub none_filled : (bs t : List ℕ) → count_in bs ≡ 0 → Tabled bs t
-none_filled bs t e = record { long = omega arith; cells = λ n k l low under. absurd (omega arith) }
-
-pub tabling-start : {bs t : List ℕ} {count : ℕ} → 0 < count → Filled bs t 16 → Tabling bs count 1 t t
-tabling-start h f = record { above = omega arith; within = omega arith; filled = f; same_length = refl }
-
-module _ {bs : List ℕ} {count n : ℕ} {first t : List ℕ} (counted : count ≡ count_in bs) (w : Tabling bs count n first t) where
-  pub tabling_row : {root : ℕ} → ValidArena bs → root ≡ local_root_in bs → n < count → Filling bs t root n 0
-  tabling_row o r h = record {
-    standing = record { readable = record { opened = o; below = omega arith }; root-read = r };
-    above = w.above;
-    filled = filled-below (n * 16 + 0) (omega arith) w.filled;
-  }
-
-  pub tabling-step : {after : List ℕ} → n < count → Filled bs after (n * 16 + 16) → length after ≡ length t → Tabling bs count (n + 1) first after
-  tabling-step h f e = record {
-    above = omega arith;
-    within = omega arith;
-    filled = filled-below ((n + 1) * 16) (omega arith) f;
-    same_length = e ∙ w.same_length;
-  }
-
-  pub tabling-end : count ≤ n → Tabled bs t
-  tabling-end h = filled-below (count_in bs * 16) (omega arith) w.filled

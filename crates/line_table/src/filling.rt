@@ -166,9 +166,7 @@ pub fn fill(arena: &[u8], root: u32, count: u32, table: &mut [u16])
         return;
     }
     fill_root(arena, table);
-    let mut n: u32 = 1;
-    while n < count {
+    for n in 1..count {
         fill_row(arena, root, n, table);
-        n += 1;
     }
 }

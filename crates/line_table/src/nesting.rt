@@ -13,15 +13,13 @@ fn mark_inward(arena: &[u8], table: &[u16], count: u32, r: u32, row: &mut [u8])
     ensures { Inward (view_in arena.now) count r row.new }
 {
     row[0] = (r == 0) as u8;
-    let mut m: u32 = 1;
-    while m < count {
+    for m in 1..count {
         let i = m as usize;
         if m == r {
             row[i] = 1;
         } else {
             row[i] = row[table[i * 16 + 9] as usize];
         }
-        m += 1;
     }
 }
 

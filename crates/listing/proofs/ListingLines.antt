@@ -135,7 +135,6 @@ module _ (bs out : List ℕ) (can : CanList bs out) where
 
 -- the lines of i entries are put, at most 300 bytes each
 pub record Listed (bs before after : List ℕ) (start at i : ℕ) : Type 0 where
-  pub within : i ≤ count_in bs
   pub put : Put start (lines_before bs i) before at after
   pub short : at ≤ start + 300 * i
 
@@ -143,14 +142,13 @@ module _ (bs out : List ℕ) (can : CanList bs out) (start : ℕ) (early : start
   pub listed-none : Listed bs out out start start 0
   unfolding lines_before stored
   listed-none = record {
-    within = omega arith;
     put = record { place = omega arith; bytes = rw add-zero (sym (take-append-drop start out)) };
     short = omega arith;
   }
 
-  module _ (after : List ℕ) (at i : ℕ) (listed : Listed bs out after start at i) where
+  module _ (after : List ℕ) (at i : ℕ) (within : i ≤ count_in bs) (listed : Listed bs out after start at i) where
     pub listed-short : at ≤ 307227
-    listed-short = omega (arith, listed.within, listed.short, (held bs can.opened.holds).few)
+    listed-short = omega (arith, listed.short, (held bs can.opened.holds).few)
 
     pub listed-length : length after ≡ length out
     listed-length =
@@ -159,7 +157,7 @@ module _ (bs out : List ℕ) (can : CanList bs out) (start : ℕ) (early : start
 
     pub listed-all : count_in bs ≤ i → Put start (lines_of bs) out at after
     listed-all end =
-        let all : i ≡ count_in bs = omega (arith, listed.within) in
+        let all : i ≡ count_in bs = omega arith in
         put_as _ _ _ _ _ _ (ap (lines_before bs) all ∙ lines-all bs out can) listed.put
 
     module _ (h : i < count_in bs) where
@@ -171,7 +169,6 @@ module _ (bs out : List ℕ) (can : CanList bs out) (start : ℕ) (early : start
       listed_more end next n e line =
           let short = line-short bs n (rw e (entry-readable bs out can i h)) in
           record {
-            within = omega arith;
             put = put_as _ _ _ _ _ _
                 (ap (λ (k : ℕ). lines_before bs i ++ line_of bs k) e ∙ sym (lines_more bs out can i h) ∙ ap (lines_before bs) (sym (add-one i)))
                 (put_then _ _ _ _ _ _ _ _ listed.put line (omega (arith, listed.put.place, listed-length, line-fits)));

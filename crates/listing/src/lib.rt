@@ -76,11 +76,9 @@ fn put_lines(arena: &[u8], count: u32, out: &mut [u8], start: usize) -> usize
     ensures upper_bound { result ≤ 307227 }
 {
     let mut at = start;
-    let mut i: u32 = 0;
-    while i < count {
+    for i in 0..count {
         let n = arena::order_entry(arena, i);
         at = put_line(arena, n, out, at);
-        i += 1;
     }
     at
 }

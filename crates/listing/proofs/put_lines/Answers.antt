@@ -1,9 +1,7 @@
 -- `put_lines` meets its contract. The loop's invariant is `Listed`: the lines of the first i
--- entries are put, and end at `at`. The measure is how many entries are left. Assumes nothing.
-use Prim.Native.Nat.{◌<◌}
+-- entries are put, and end at `at`. Assumes nothing.
 use native.Mathlib.Omega.{arith}
-use Rattle.model.specs.Arena.{count_in}
-use Rattle.listing.proofs.ListingLines.{entry-slot, entry-readable, listed-none, listed_more, listed-all, listed-short, listed-length, line-fits}
+use Rattle.listing.proofs.ListingLines.{entry-slot, entry-readable, listed-none, listed_more, listed-all, listed-short, line-fits}
 use Rattle.listing.proofs.put_lines.Goals as goal
 
 pub loop-i-init : goal.loop-i-init
@@ -12,25 +10,27 @@ loop-i-init c =
 
 pub order_entry-n-requires : goal.order_entry-n-requires
 order_entry-n-requires c =
-    let here : c.loop-i.i < count_in c.args.arena.now =
-    omega (arith, c.loop-i-test.true, c.requires.count_value.0) in
-    entry-slot _ _ c.requires.can_list c.loop-i.i here
+    entry-slot _ _ c.requires.can_list c.loop-i.i (omega (arith, c.requires.count_value.0))
 
-pub put_line-at-requires : goal.put_line-at-requires
-put_line-at-requires c =
-    let here : c.loop-i.i < count_in c.args.arena.now =
-    omega (arith, c.loop-i-test.true, c.requires.count_value.0) in record { valid_node = rw c.order_entry-n.ensures (entry-readable _ _ c.requires.can_list c.loop-i.i here); at_in_bounds = line-fits _ _ c.requires.can_list _ c.requires.count_value.1 _ _ _ c.loop-i.invariant here }
+pub put_line-at-requires-clause-valid_node : goal.put_line-at-requires-clause-valid_node
+put_line-at-requires-clause-valid_node c =
+    rw c.order_entry-n.ensures (entry-readable _ _ c.requires.can_list c.loop-i.i (omega (arith, c.requires.count_value.0)))
+
+pub put_line-at-requires-clause-at_in_bounds : goal.put_line-at-requires-clause-at_in_bounds
+put_line-at-requires-clause-at_in_bounds c =
+    line-fits _ _ c.requires.can_list _ c.requires.count_value.1 _ _ _ (omega (arith, c.requires.count_value.0)) c.loop-i.invariant
+    (omega (arith, c.requires.count_value.0))
 
 pub loop-i-preserved : goal.loop-i-preserved
 loop-i-preserved c =
-    let here : c.loop-i.i < count_in c.args.arena.now =
-    omega (arith, c.loop-i-test.true, c.requires.count_value.0) in
-    listed_more _ _ c.requires.can_list _ c.requires.count_value.1 _ _ _ c.loop-i.invariant here _ _ _ c.order_entry-n.ensures c.put_line-at.ensures
+    listed_more _ _ c.requires.can_list _ c.requires.count_value.1 _ _ _ (omega (arith, c.requires.count_value.0)) c.loop-i.invariant
+    (omega (arith, c.requires.count_value.0)) _ _ _ c.order_entry-n.ensures c.put_line-at.ensures
 
-pub shape_of-out : goal.shape_of-out
-shape_of-out c =
-    listed-length _ _ c.requires.can_list _ c.requires.count_value.1 _ _ _ c.loop-i.invariant
+pub returns-clause-put : goal.returns-clause-put
+returns-clause-put c =
+    listed-all _ _ c.requires.can_list _ c.requires.count_value.1 _ _ _ (omega (arith, c.requires.count_value.0)) c.loop-i.invariant
+    (omega (arith, c.requires.count_value.0))
 
-pub returns : goal.returns
-returns c =
-    record { put = listed-all _ _ c.requires.can_list _ c.requires.count_value.1 _ _ _ c.loop-i.invariant (omega (arith, c.loop-i-test.false, c.requires.count_value.0)); upper_bound = listed-short _ _ c.requires.can_list _ c.requires.count_value.1 _ _ _ c.loop-i.invariant }
+pub returns-clause-upper_bound : goal.returns-clause-upper_bound
+returns-clause-upper_bound c =
+    listed-short _ _ c.requires.can_list _ c.requires.count_value.1 _ _ _ (omega (arith, c.requires.count_value.0)) c.loop-i.invariant

@@ -1,12 +1,8 @@
--- `copies_in_order` meets its contract. The loop's invariant: up to `i` all are HAS_SPECIALIZES, of
--- one R where depths differ, each follows the one before it, and the authored ones rise. The
--- measure is how many are left. Assumes nothing.
-use Prim.Native.Nat.{◌-◌}
+-- `copies_in_order` meets its contract. The loop's invariant: before `i` all are HAS_SPECIALIZES, of
+-- one R where depths differ, each follows the one before it, and the authored ones rise. Assumes
+-- nothing.
 use Rattle.certificate.proofs.CopyParts.{Copying}
 use Rattle.certificate.proofs.runs.copies_in_order.Given as goal
 
 abbrev pub invariant-loop-i : goal.invariant-loop-i
-invariant-loop-i l = Copying l.arena l.places l.sorted l.start l.end l.uneven l.last l.sibling l.node l.i
-
-abbrev pub decreases-loop-i : goal.decreases-loop-i
-decreases-loop-i l = l.end - l.i
+invariant-loop-i l = Copying l.arena l.places l.sorted l.start l.uneven l.last l.sibling l.node l.i

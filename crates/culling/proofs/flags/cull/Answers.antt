@@ -18,13 +18,3 @@ returns-then-root-eq0 c =
     bytes-by-place c.args.arena.now (λ k. (c.slice_known-1.given k).fits) in
     encode-unrooted _ bytes c.requires (omega (arith, c.if-count-eq0.false, c.count-count.ensures))
     (sym c.local_root-root.ensures ∙ c.if-root-eq0.true)
-
-pub cull_rooted-requires : goal.cull_rooted-requires
-cull_rooted-requires c =
-    record {
-      opened = c.requires;
-      counted = c.count-count.ensures;
-      some-node = omega (arith, c.if-count-eq0.false);
-      root-read = c.local_root-root.ensures;
-      some-root = c.if-root-eq0.false;
-    }

@@ -1,7 +1,7 @@
 -- `paths_fit` meets its contract. The invariant of its loop: with the sum so far, the paths from
--- node n on decide question 7. The measure is how many are left. Assumes nothing.
+-- node n on decide question 7. Assumes nothing.
 use mathlib.Core.Path.{◌≡◌}
-use Prim.Native.Nat.{◌-◌, ◌*◌, ◌≤◌}
+use Prim.Native.Nat.{◌*◌, ◌≤◌}
 use Rattle.model.specs.Arena.{decode}
 use Rattle.model.specs.Calls.{paths_fit}
 use Rattle.model.specs.Deepening.{deepen}
@@ -9,7 +9,7 @@ use Rattle.deepening.proofs.DeepenedFits.{fit_from}
 use Rattle.deepening.proofs.appending.paths_fit.Given as goal
 
 abbrev pub invariant-loop-n : goal.invariant-loop-n
-invariant-loop-n l = (l.n ≤ l.count) × (l.sum ≤ l.n * 255) × (fit_from l.arena l.name l.sum l.n ≡ paths_fit (deepen l.name (decode l.arena)))
-
-abbrev pub decreases-loop-n : goal.decreases-loop-n
-decreases-loop-n l = l.count - l.n
+invariant-loop-n l = record {
+  small : l.sum ≤ l.n * 255;
+  decides : fit_from l.arena l.name l.sum l.n ≡ paths_fit (deepen l.name (decode l.arena));
+}

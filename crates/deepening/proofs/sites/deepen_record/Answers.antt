@@ -1,34 +1,23 @@
 -- `sites::deepen_record` meets its contract: the new path is written, and the record has one prim
 -- more and the new path's length. Assumes nothing.
-use mathlib.Core.Path.{◌≡◌, sym, ap, ◌∙◌}
+use mathlib.Core.Path.{ap, ◌∙◌}
 use mathlib.Core.List.{List, ◌++◌}
 use Prim.Native.Nat.{ℕ, ◌+◌, ◌-◌}
 use native.Mathlib.Omega.{arith}
 use lib.ListN.{length, take, drop}
 use lib.Seq.{take_at}
 use Rattle.model.specs.Arena.{node_in}
-use Rattle.model.specs.Path.{separator, append_name}
-use Rattle.path.proofs.JoinLaws.{length-append-name}
-use Rattle.deepening.proofs.DeepenedSites.{name-some, prims-raised, few-prims, node-joined}
+use Rattle.model.specs.Path.{append_name}
+use Rattle.deepening.proofs.DeepenedSites.{end-joined, name-some, prims-raised, few-prims, node-joined}
 use Rattle.deepening.proofs.sites.deepen_record.Goals as goal
-
-pub path-old-requires : goal.path-old-requires
-path-old-requires c =
-    c.requires.0.stands
 
 pub put_joined-requires : goal.put_joined-requires
 put_joined-requires c =
-    let ends : c.joint-at.result + length c.args.name.now ≡ length (append_name (node_in c.args.arena.now c.args.n).path c.args.name.now) =
-    ap (λ (k : ℕ). k + length c.args.name.now) (c.joint-at.ensures ∙ ap (λ (p : List ℕ). length p + length (separator p)) c.path-old.ensures)
-    ∙ sym (length-append-name (node_in c.args.arena.now c.args.n).path c.args.name.now) in (
+    let ends = end-joined (node_in c.args.arena.now c.args.n).path c.args.name.now c.joint-at.ensures c.path-old.ensures in (
       c.joint-at.ensures,
       name-some c.args.arena.now c.args.name.now c.args.n c.requires.0,
       omega (arith, ends, c.requires.0.fits, c.requires.1),
     )
-
-pub load_node-node-requires : goal.load_node-node-requires
-load_node-node-requires c =
-    c.requires.0.stands.slot
 
 pub overflow_add-node : goal.overflow_add-node
 overflow_add-node c =
@@ -36,30 +25,22 @@ overflow_add-node c =
 
 pub overflow_add-node-2 : goal.overflow_add-node-2
 overflow_add-node-2 c =
-    let ends : c.joint-at.result + length c.args.name.now ≡ length (append_name (node_in c.args.arena.now c.args.n).path c.args.name.now) =
-    ap (λ (k : ℕ). k + length c.args.name.now) (c.joint-at.ensures ∙ ap (λ (p : List ℕ). length p + length (separator p)) c.path-old.ensures)
-    ∙ sym (length-append-name (node_in c.args.arena.now c.args.n).path c.args.name.now) in
+    let ends = end-joined (node_in c.args.arena.now c.args.n).path c.args.name.now c.joint-at.ensures c.path-old.ensures in
     omega (arith, ends, c.requires.0.fits)
 
 pub overflow_add-node-3 : goal.overflow_add-node-3
 overflow_add-node-3 c =
-    let ends : c.joint-at.result + length c.args.name.now ≡ length (append_name (node_in c.args.arena.now c.args.n).path c.args.name.now) =
-    ap (λ (k : ℕ). k + length c.args.name.now) (c.joint-at.ensures ∙ ap (λ (p : List ℕ). length p + length (separator p)) c.path-old.ensures)
-    ∙ sym (length-append-name (node_in c.args.arena.now c.args.n).path c.args.name.now) in
+    let ends = end-joined (node_in c.args.arena.now c.args.n).path c.args.name.now c.joint-at.ensures c.path-old.ensures in
     omega (arith, ends, c.requires.0.fits)
 
 pub overflow_cast-node : goal.overflow_cast-node
 overflow_cast-node c =
-    let ends : c.joint-at.result + length c.args.name.now ≡ length (append_name (node_in c.args.arena.now c.args.n).path c.args.name.now) =
-    ap (λ (k : ℕ). k + length c.args.name.now) (c.joint-at.ensures ∙ ap (λ (p : List ℕ). length p + length (separator p)) c.path-old.ensures)
-    ∙ sym (length-append-name (node_in c.args.arena.now c.args.n).path c.args.name.now) in
+    let ends = end-joined (node_in c.args.arena.now c.args.n).path c.args.name.now c.joint-at.ensures c.path-old.ensures in
     omega (arith, ends, c.requires.0.fits)
 
 pub returns : goal.returns
 returns c =
-    let ends : c.joint-at.result + length c.args.name.now ≡ length (append_name (node_in c.args.arena.now c.args.n).path c.args.name.now) =
-    ap (λ (k : ℕ). k + length c.args.name.now) (c.joint-at.ensures ∙ ap (λ (p : List ℕ). length p + length (separator p)) c.path-old.ensures)
-    ∙ sym (length-append-name (node_in c.args.arena.now c.args.n).path c.args.name.now) in
+    let ends = end-joined (node_in c.args.arena.now c.args.n).path c.args.name.now c.joint-at.ensures c.path-old.ensures in
     let bs = c.args.arena.now in
     let name = c.args.name.now in
     let loaded = c.load_node-node.ensures in

@@ -1,13 +1,8 @@
 -- `sites::deepen_sites` meets its contract. The invariant of its loop: the sites of the first n
--- nodes are stored. The measure is how many are left. Assumes nothing.
+-- nodes are stored. Assumes nothing.
 use mathlib.Core.Path.{◌≡◌}
-use Prim.Native.Nat.{◌-◌, ◌≤◌}
-use lib.ListN.{length}
 use Rattle.deepening.specs.Deepened.{sites_deepened}
 use Rattle.deepening.proofs.sites.deepen_sites.Given as goal
 
 abbrev pub invariant-loop-n : goal.invariant-loop-n
-invariant-loop-n l = (l.n ≤ l.count) × (length l.arena ≡ length l.initial.arena) × (l.arena ≡ sites_deepened l.name l.n l.initial.arena)
-
-abbrev pub decreases-loop-n : goal.decreases-loop-n
-decreases-loop-n l = l.count - l.n
+invariant-loop-n l = l.arena ≡ sites_deepened l.name l.n l.initial.arena

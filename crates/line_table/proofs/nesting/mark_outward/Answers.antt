@@ -1,9 +1,9 @@
 -- `mark_outward` meets its contract. The loop's invariant is `Outgoing`. The measure is `x`: an
 -- outward step goes to a lower node. Assumes nothing.
-use mathlib.Core.Path.{◌≡◌, refl}
+use mathlib.Core.Path.{◌≡◌}
 use Prim.Native.Nat.{ℕ, ◌+◌, ◌*◌, ◌<◌}
 use native.Mathlib.Omega.{arith}
-use lib.ListN.{length-set, get_or}
+use lib.ListN.{get_or}
 use Rattle.model.specs.Strength.{outward}
 use Rattle.laws.proofs.StrengthWalks.{outward-lower}
 use Rattle.laws.proofs.Views.{LegalView}
@@ -15,7 +15,7 @@ use Rattle.line_table.proofs.nesting.mark_outward.Goals as goal
 
 pub loop-x-init : goal.loop-x-init
 loop-x-init c =
-    (outgoing-start c.requires.r_lt_count.0 c.requires.r_lt_count.1, refl)
+    outgoing-start c.requires.r_lt_count.0 c.requires.r_lt_count.1
 
 pub bounds-row-x : goal.bounds-row-x
 bounds-row-x c =
@@ -48,7 +48,7 @@ loop-x-smaller c =
     let step : (m : ℕ) → 0 < m → m < c.args.count
     → get_or c.args.table.now (m * 16 + 9) 0 ≡ outward (view_in c.args.arena.now) m =
     λ m h l. outward-cell c.requires.valid_arena.1 h (omega (arith, c.requires.valid_arena.2)) in
-    let w = c.loop-x.invariant.0 in
+    let w = c.loop-x.invariant in
     omega (arith, step c.loop-x.x (positive _ c.loop-x-test.true) w.within, outward-lower lawful c.loop-x.x (positive _ c.loop-x-test.true) w.within)
 
 pub loop-x-preserved : goal.loop-x-preserved
@@ -58,18 +58,14 @@ loop-x-preserved c =
     let step : (m : ℕ) → 0 < m → m < c.args.count
     → get_or c.args.table.now (m * 16 + 9) 0 ≡ outward (view_in c.args.arena.now) m =
     λ m h l. outward-cell c.requires.valid_arena.1 h (omega (arith, c.requires.valid_arena.2)) in
-    let w = c.loop-x.invariant.0 in
+    let w = c.loop-x.invariant in
     let some = positive _ c.loop-x-test.true in
-    (outgoing-step w lawful some (step _ some w.within), simp length-set c.loop-x.invariant.1)
+    outgoing-step w lawful some (step _ some w.within)
 
 pub bounds-row-0 : goal.bounds-row-0
 bounds-row-0 c =
     omega arith
 
-pub shape_of-row : goal.shape_of-row
-shape_of-row c =
-    simp length-set c.loop-x.invariant.1
-
 pub returns : goal.returns
 returns c =
-    outgoing-end c.loop-x.invariant.0 c.loop-x-test.false
+    outgoing-end c.loop-x.invariant c.loop-x-test.false
