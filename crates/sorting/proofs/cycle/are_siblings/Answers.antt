@@ -3,7 +3,6 @@
 use native.Mathlib.Omega.{arith}
 use mathlib.Core.Path.{sym}
 use mathlib.Core.Bool.{false≢true}
-use borrow.Author.Tests.{not-false}
 use Rattle.sorting.proofs.cycle.are_siblings.Goals as goal
 
 pub returns-then-a-eq0 : goal.returns-then-a-eq0
@@ -24,6 +23,6 @@ returns c e =
     record {
       parent = _;
       first = (omega arith, omega (arith, c.if-count-a.false, c.requires.1), sym c.parent-parent.ensures);
-      second = c.is_child.ensures (not-false _ c.if-not-is_child.false-raw);
+      second = c.is_child.ensures c.if-not-is_child.false;
       third = c.is_child-2.ensures e;
     }

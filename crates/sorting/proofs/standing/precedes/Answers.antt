@@ -1,5 +1,4 @@
 -- `standing::precedes` meets its contract. Assumes nothing.
-use borrow.Author.Tests.{not-false}
 use mathlib.Core.Path.{sym, ◌∙◌}
 use mathlib.Core.Bool.{false≢true}
 use Rattle.laws.proofs.WalkLaws.{is-less}
@@ -16,7 +15,7 @@ returns-then-not-is_authored-2 c e =
 pub returns : goal.returns
 returns c e =
     record {
-      left = sym c.is_authored.ensures ∙ not-false _ c.if-not-is_authored.false-raw;
-      right = sym c.is_authored-2.ensures ∙ not-false _ c.if-not-is_authored-2.false-raw;
+      left = sym c.is_authored.ensures ∙ c.if-not-is_authored.false;
+      right = sym c.is_authored-2.ensures ∙ c.if-not-is_authored-2.false;
       less = is-less _ (sym c.is_before.ensures ∙ e);
     }
