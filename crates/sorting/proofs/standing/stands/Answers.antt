@@ -1,22 +1,9 @@
 -- `standing::stands` meets its contract. The invariant of its loop: each node below x that has a
 -- next sibling precedes it. Assumes nothing.
-use mathlib.Core.Bool.{false≢true}
 use native.Mathlib.Omega.{arith}
 use Rattle.laws.proofs.StoredLaws.{bytes-by-place}
 use Rattle.sorting.proofs.StandingLaws.{standing-step, standing-ends}
 use Rattle.sorting.proofs.standing.stands.Goals as goal
-
-pub loop-x-init : goal.loop-x-init
-loop-x-init c =
-    λ x h. absurd (omega arith)
-
-pub precedes_next-requires : goal.precedes_next-requires
-precedes_next-requires c =
-    record { opened = c.requires.0; below = omega (arith, c.loop-x-test.true, c.requires.1) }
-
-pub returns-then-not-precedes_next : goal.returns-then-not-precedes_next
-returns-then-not-precedes_next c =
-    record { sorted = λ e. absurd (false≢true e) }
 
 pub loop-x-preserved : goal.loop-x-preserved
 loop-x-preserved c =
