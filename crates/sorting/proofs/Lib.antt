@@ -1,3 +1,5 @@
+-- The tree that every proof of an order asks for.
+mod TreeLaws
 -- Lists that stand in order already, and lists that are sorted by keys.
 mod StandingLaws
 mod AuthoredLaws

@@ -1,7 +1,6 @@
 -- The names that this crate's contracts cite.
 pub mod Authored
 pub mod Standing
-pub mod Sorting
 pub mod Insertion
 pub mod Placing
 pub mod Cycle

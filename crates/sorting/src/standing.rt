@@ -64,12 +64,10 @@ pub fn stands(arena: &[u8], count: u32) -> bool
     requires { ValidArena arena.now × (count ≡ count_in arena.now) }
     ensures { Stands (decode arena.now) result }
 {
-    let mut x: u32 = 0;
-    while x < count {
+    for x in 0..count {
         if !precedes_next(arena, x) {
             return false;
         }
-        x += 1;
     }
     true
 }

@@ -3,18 +3,12 @@ use mathlib.Core.Path.{sym, subst, ◌∙◌}
 use Rattle.model.specs.ArenaCalls.{ValidNode}
 use Rattle.laws.proofs.StoredLaws.{bytes-by-place}
 use Rattle.arena.proofs.ReadNodes.{has-slot}
-use Rattle.view.specs.View.{view_in}
-use Rattle.sorting.specs.Standing.{Precedes}
 use Rattle.sorting.proofs.StandingLaws.{next-readable}
 use Rattle.sorting.proofs.standing.precedes_next.Goals as goal
 
 pub next_sibling-y-requires : goal.next_sibling-y-requires
 next_sibling-y-requires c =
     has-slot _ _ c.requires
-
-pub returns-then-y : goal.returns-then-y
-returns-then-y c e some =
-    absurd (some (sym c.next_sibling-y.ensures ∙ c.if-y.true))
 
 pub precedes-requires : goal.precedes-requires
 precedes-requires c =
@@ -25,7 +19,3 @@ precedes-requires c =
           c.requires.opened c.args.x
           c.requires.below (λ none. c.if-y.false (e ∙ none))),
     )
-
-pub returns : goal.returns
-returns c e some =
-    subst (Precedes (view_in c.args.arena.now) c.args.x) c.next_sibling-y.ensures (c.precedes.ensures e)

@@ -1,35 +1,13 @@
 -- `standing::stands` meets its contract. The invariant of its loop: each node below x that has a
--- next sibling precedes it. The measure is how many nodes are left. Assumes nothing.
-use mathlib.Core.Bool.{false≢true}
+-- next sibling precedes it. Assumes nothing.
 use native.Mathlib.Omega.{arith}
-use borrow.Author.Tests.{not-false}
 use Rattle.laws.proofs.StoredLaws.{bytes-by-place}
 use Rattle.sorting.proofs.StandingLaws.{standing-step, standing-ends}
 use Rattle.sorting.proofs.standing.stands.Goals as goal
 
-pub loop-x-init : goal.loop-x-init
-loop-x-init c =
-    λ x h. absurd (omega arith)
-
-pub precedes_next-requires : goal.precedes_next-requires
-precedes_next-requires c =
-    record { opened = c.requires.0; below = omega (arith, c.loop-x-test.true, c.requires.1) }
-
-pub returns-then-not-precedes_next : goal.returns-then-not-precedes_next
-returns-then-not-precedes_next c =
-    record { sorted = λ e. absurd (false≢true e) }
-
-pub overflow_add-x : goal.overflow_add-x
-overflow_add-x c =
-    omega (arith, c.loop-x-test.true)
-
-pub loop-x-smaller : goal.loop-x-smaller
-loop-x-smaller c =
-    omega (arith, c.loop-x-test.true)
-
 pub loop-x-preserved : goal.loop-x-preserved
 loop-x-preserved c =
-    standing-step _ c.loop-x.x c.loop-x.invariant (c.precedes_next.ensures (not-false _ c.if-not-precedes_next.false-raw))
+    standing-step _ c.loop-x.x c.loop-x.invariant (c.precedes_next.ensures c.if-not-precedes_next.false)
 
 pub returns : goal.returns
 returns c =
