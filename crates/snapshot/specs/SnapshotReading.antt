@@ -2,6 +2,7 @@
 -- all of the bytes; the nodes of bytes that pass it; and the questions of the records. What reading
 -- comes to in the end is model/specs/Calls.antt's `read_into`.
 use Rattle.std.specs.Prelude.{◌≡◌, Bool, true, cond, List, [], ℕ, ◌+◌, ◌≤◌, ◌<◌, leb, length, drop, get_or}
+use Rattle.std.specs.Prelude as std
 use Rattle.std.proofs.Math.Option.{Option, none, some}
 use Rattle.model.specs.Path.{prim_count}
 use Rattle.model.specs.Node.{Node}
@@ -16,35 +17,16 @@ use Rattle.model.specs.declared.NumberResult.TheVariants.{Number, Refused}
 use Rattle.model.specs.declared.Refusal.TheVariants.{Snapshot}
 use Rattle.validate.specs.declared.record.Before.{Before}
 use Rattle.validate.specs.RecordCheck.{numbers_of, questions_at}
-use Rattle.snapshot.specs.declared.fields.Byte.{Byte}
-use Rattle.snapshot.specs.declared.fields.Byte.TheVariants.{Value as ByteValue, Missing as ByteMissing}
-use Rattle.snapshot.specs.declared.fields.Short.{Short}
-use Rattle.snapshot.specs.declared.fields.Short.TheVariants.{Value as ShortValue, Missing as ShortMissing}
-use Rattle.snapshot.specs.declared.fields.Field.{Field}
-use Rattle.snapshot.specs.declared.fields.Field.TheVariants.{Value as FieldValue, Missing as FieldMissing}
 
 -- ---- Fields: "The reader takes each field or stops at the first that is missing"
 
--- the value of each answer
-abbrev pub byte_value : Byte → Option ℕ
-byte_value (ByteValue n) = some n
-byte_value ByteMissing = none
-
-abbrev pub short_value : Short → Option ℕ
-short_value (ShortValue n) = some n
-short_value ShortMissing = none
-
-abbrev pub field_value : Field → Option ℕ
-field_value (FieldValue n) = some n
-field_value FieldMissing = none
-
 -- w bytes from `at` on
-abbrev pub field_at : ℕ → ℕ → List ℕ → Option ℕ
-field_at at w bytes = cond (leb (at + w) (length bytes)) (some (field at w bytes)) none
+abbrev pub field_at : ℕ → ℕ → List ℕ → std.Option ℕ
+field_at at w bytes = cond (leb (at + w) (length bytes)) (std.Some (field at w bytes)) std.None
 
 -- "2 bytes with the length of the rest of its record (28 to 282, else question 12 fails)"
-abbrev pub length_at : ℕ → List ℕ → Option ℕ
-length_at at bytes = cond (fits_record (drop at bytes)) (some (field at 2 bytes)) none
+abbrev pub length_at : ℕ → List ℕ → std.Option ℕ
+length_at at bytes = cond (fits_record (drop at bytes)) (std.Some (field at 2 bytes)) std.None
 
 -- ---- Question 12
 
