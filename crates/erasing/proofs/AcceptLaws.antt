@@ -1,11 +1,9 @@
 -- Question 11 of one node, by the bytes that are read (`accepts-node-0` to `accepts-gone`), and of
--- all, one after the other (`accepting-start`, `accepting-step`, `accepting-fails`,
--- `accepting-ends`). Assumes nothing.
+-- all (`accepting-fails`, `accepting-ends`). Assumes nothing.
 use mathlib.Core.Path.{◌≡◌, sym}
 use mathlib.Core.Bool.{true, false, not, and-true}
 use mathlib.Core.List.{List}
-use Prim.Native.Nat.{ℕ, ◌+◌, ◌≤◌, ◌<◌}
-use native.Mathlib.Decide.{dec_lt}
+use Prim.Native.Nat.{ℕ, ◌≤◌, ◌<◌}
 use native.Mathlib.Omega.{arith}
 use lib.Dec.{eqb}
 use lib.ListN.{get_or}
@@ -50,17 +48,7 @@ abbrev pub Accepting : Graph → List ℕ → ℕ → Type 0
 Accepting g bytes n = (k : ℕ) → k < n → spares_one g bytes k ≡ true
 
 module _ (g : Graph) (bytes : List ℕ) where
-  pub accepting-start : Accepting g bytes 0
-  accepting-start k h = absurd (omega arith)
-
   module _ (n : ℕ) where
-    pub accepting-step : Accepting g bytes n → spares_one g bytes n ≡ true → Accepting g bytes (n + 1)
-    accepting-step before e k h = go (dec_lt k n)
-      where
-        go : Dec (k < n) → spares_one g bytes k ≡ true
-        go (yes below) = before k below
-        go (no last) = let same : k ≡ n = omega arith in rw same e
-
     pub accepting-fails : n < size g → spares_one g bytes n ≡ false → false ≡ can_erase g bytes
     unfolding can_erase
     accepting-fails below e = sym ((all-below-fails (spares_one g bytes) (size g)).1 (n, below, e))

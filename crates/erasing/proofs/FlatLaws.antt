@@ -44,7 +44,6 @@ lists bs bytes = children_of (erase bytes (decode bs))
 -- the lists of the kept nodes below n stand up to `start`: no more than all lists of the nodes
 -- below n
 pub record Listing (bs bytes : List ℕ) (start n : ℕ) (array ends : List ℕ) : Type 0 where
-  pub high : n ≤ count_in bs
   pub long : length array ≡ 1024
   pub as_long : length ends ≡ 1024
   pub started : start ≡ length (flat (lists bs bytes) (new_number (stays bytes) n))
@@ -54,7 +53,6 @@ pub record Listing (bs bytes : List ℕ) (start n : ℕ) (array ends : List ℕ)
 
 pub listing_start : {bs bytes array ends : List ℕ} → length array ≡ 1024 → length ends ≡ 1024 → Listing bs bytes 0 0 array ends
 listing_start long as_long = record {
-  high = omega arith;
   long = long;
   as_long = as_long;
   started = refl;
@@ -112,7 +110,6 @@ module _ {bs : List ℕ} (o : ValidArena bs) {bytes : List ℕ} {start n : ℕ} 
       pub listing-kept : Listing bs bytes end (n + 1) after (set ends number end)
       listing-kept =
           rw (add-one n) (record {
-            high = here;
             long = gathered.long ∙ w.long;
             as_long = length-set ends number end ∙ w.as_long;
             started = next-length ∙ ap (λ (k : ℕ). length (flat (lists bs bytes) k)) (sym counted);
@@ -130,7 +127,6 @@ module _ {bs : List ℕ} (o : ValidArena bs) {bytes : List ℕ} {start n : ℕ} 
     pub listing-gone : (get_or bytes n 0 ≡ 0 → ⊥) → Listing bs bytes start (n + 1) array ends
     listing-gone goes =
         rw (add-one n) (record {
-          high = here;
           long = w.long;
           as_long = w.as_long;
           started = w.started ∙ ap (λ (k : ℕ). length (flat (lists bs bytes) k)) (sym same);
@@ -142,7 +138,6 @@ module _ {bs : List ℕ} (o : ValidArena bs) {bytes : List ℕ} {start n : ℕ} 
         same : new_number (stays bytes) (suc n) ≡ new_number (stays bytes) n
         same = rw (ne_eqb (get_or bytes n 0) 0 goes) (zero-add (new_number (stays bytes) n))
 
-  pub listing-ends : {count : ℕ} → count ≡ count_in bs → count ≤ n → Segments (lists bs bytes) (new_number (stays bytes) count) array ends
-  listing-ends {count} e h =
-      let all : n ≡ count = omega (arith, w.high) in
+  pub listing-ends : {count : ℕ} → n ≡ count → Segments (lists bs bytes) (new_number (stays bytes) count) array ends
+  listing-ends all =
       rw all at (segments-made (lists bs bytes) (new_number (stays bytes) n) start array ends w.long w.as_long w.front w.ended)

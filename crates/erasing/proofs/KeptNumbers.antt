@@ -13,44 +13,39 @@ use Rattle.child_lists.proofs.LinkLaws.{filled_more}
 use Rattle.erasing.specs.KeptLists.{Numbers}
 
 -- the nodes below n have their numbers, `kept` of them stay
-pub record Numbering (bytes : List ℕ) (count kept n : ℕ) (numbers : List ℕ) : Type 0 where
-  pub high : n ≤ count
+pub record Numbering (bytes : List ℕ) (kept n : ℕ) (numbers : List ℕ) : Type 0 where
   pub below : kept ≡ new_number (stays bytes) n
   pub found : Numbers bytes n numbers
 
-pub numbering_start : (bytes : List ℕ) (count : ℕ) (numbers : List ℕ) → length numbers ≡ 1024 → Numbering bytes count 0 0 numbers
-numbering_start bytes count numbers long = record {
-  high = omega arith;
+pub numbering_start : (bytes numbers : List ℕ) → length numbers ≡ 1024 → Numbering bytes 0 0 numbers
+numbering_start bytes numbers long = record {
   below = refl;
   found = record { long = long; number = λ k h. absurd (omega arith) };
 }
 
-module _ {bytes : List ℕ} {count kept n : ℕ} {numbers : List ℕ} (w : Numbering bytes count kept n numbers) (here : n < count) (few : count ≤ 1024) where
-  pub numbering-few : kept ≤ n
-  numbering-few = omega (arith, w.below, new-number-no-larger (stays bytes) n)
+pub numbering-few : {bytes : List ℕ} {kept n : ℕ} {numbers : List ℕ} → Numbering bytes kept n numbers → kept ≤ n
+numbering-few {bytes} {kept} {n} w = omega (arith, w.below, new-number-no-larger (stays bytes) n)
 
+module _ {bytes : List ℕ} {kept n : ℕ} {numbers : List ℕ} (w : Numbering bytes kept n numbers) (here : n < 1024) where
   found-more : Numbers bytes (n + 1) (set numbers n kept)
   found-more = record {
     long = length-set numbers n kept ∙ w.found.long;
     number = filled_more numbers n kept (new_number (stays bytes)) (omega (arith, w.found.long)) w.found.number w.below;
   }
 
-  pub numbering-kept : {next : ℕ} → get_or bytes n 0 ≡ 0 → next ≡ kept + 1 → Numbering bytes count next (n + 1) (set numbers n kept)
+  pub numbering-kept : {next : ℕ} → get_or bytes n 0 ≡ 0 → next ≡ kept + 1 → Numbering bytes next (n + 1) (set numbers n kept)
   numbering-kept e more = record {
-    high = omega arith;
     below = rw (add-one n) (omega (arith, w.below, ap bit (eq-eqb (get_or bytes n 0) 0 e)));
     found = found-more;
   }
 
-  pub numbering-gone : {next : ℕ} → (get_or bytes n 0 ≡ 0 → ⊥) → next ≡ kept → Numbering bytes count next (n + 1) (set numbers n kept)
+  pub numbering-gone : {next : ℕ} → (get_or bytes n 0 ≡ 0 → ⊥) → next ≡ kept → Numbering bytes next (n + 1) (set numbers n kept)
   numbering-gone e same = record {
-    high = omega arith;
     below = rw (add-one n) (omega (arith, w.below, ap bit (ne_eqb (get_or bytes n 0) 0 e)));
     found = found-more;
   }
 
-pub numbering-ends : {bytes : List ℕ} {count kept n : ℕ} {numbers : List ℕ} → Numbering bytes count kept n numbers → count ≤ n
+pub numbering-ends : {bytes : List ℕ} {count kept n : ℕ} {numbers : List ℕ} → Numbering bytes kept n numbers → n ≡ count
     → (kept ≡ new_number (stays bytes) count) × Numbers bytes count numbers
-numbering-ends {bytes} {count} {kept} {n} {numbers} w h =
-    let all : n ≡ count = omega (arith, w.high) in
+numbering-ends {bytes} w all =
     (w.below ∙ ap (new_number (stays bytes)) all, rw all at w.found)

@@ -23,9 +23,8 @@ use Rattle.erasing.specs.KeptLists.{kept_list}
 use Rattle.erasing.proofs.KeepLaws.{Keeping, keeping_start, keeping-room, keeping-kept, keeping_gone, keeping-ends}
 
 -- the entries from n on are left
-pub record Filtering (bs bytes before : List ℕ) (kept n : ℕ) (array : List ℕ) : Type 0 where
-  pub high : n ≤ count_in bs
-  pub keeping : Keeping bytes (decode bs).order 0 before (drop n (decode bs).order) kept array
+abbrev pub Filtering : List ℕ → List ℕ → List ℕ → ℕ → ℕ → List ℕ → Type 0
+Filtering bs bytes before kept n array = Keeping bytes (decode bs).order 0 before (drop n (decode bs).order) kept array
 
 pub filtered-none : (bs bytes : List ℕ) → (ordered_in bs ≡ 1 → ⊥) → [] ≡ (erase bytes (decode bs)).order
 unfolding decode
@@ -64,30 +63,27 @@ module _ {bs : List ℕ} (o : ValidArena bs) (ordered : ordered_in bs ≡ 1) whe
 
   module _ {bytes before : List ℕ} where
     pub filtering-start : length before ≡ 1024 → Filtering bs bytes before 0 0 before
-    filtering-start long = record {
-      high = omega arith;
-      keeping = keeping_start (omega (arith, order-long, (held bs o.holds).few));
-    }
+    filtering-start long = keeping_start (omega (arith, order-long, (held bs o.holds).few))
 
     module _ {kept n : ℕ} {array : List ℕ} (w : Filtering bs bytes before kept n array) where
       module _ (h : n < count_in bs) {c : ℕ} (e : c ≡ order_entry_in bs n) where
         here : Keeping bytes (decode bs).order 0 before (c ∷ drop (suc n) (decode bs).order) kept array
         here =
             let first : get_or (decode bs).order n 0 ≡ c = entry_read n h ∙ sym e in
-            rw (drop-cons (decode bs).order n 0 (omega (arith, order-long)), first) at w.keeping
+            rw (drop-cons (decode bs).order n 0 (omega (arith, order-long)), first) at w
 
         pub filtering-room : kept < length array
         filtering-room = keeping-room here
 
         pub filtering-kept : {number : ℕ} → get_or bytes c 0 ≡ 0 → number ≡ new_number (stays bytes) c
             → Filtering bs bytes before (kept + 1) (n + 1) (set array kept number)
-        filtering-kept stay new = rw (add-one n) (record { high = h; keeping = keeping-kept here stay new })
+        filtering-kept stay new = rw (add-one n) (keeping-kept here stay new)
 
         pub filtering-gone : (get_or bytes c 0 ≡ 0 → ⊥) → Filtering bs bytes before kept (n + 1) array
-        filtering-gone go = rw (add-one n) (record { high = h; keeping = keeping_gone here go })
+        filtering-gone go = rw (add-one n) (keeping_gone here go)
 
       pub filtering-ends : length before ≡ 1024 → count_in bs ≤ n → (kept ≤ 1024) × (slice 0 kept array ≡ (erase bytes (decode bs)).order)
       filtering-ends long h =
           let none = drop_of_length-le (decode bs).order {i = n} (omega (arith, order-long)) in
-          let done : Keeping bytes (decode bs).order 0 before [] kept array = rw none at w.keeping in
+          let done : Keeping bytes (decode bs).order 0 before [] kept array = rw none at w in
           (omega (arith, done.room), (keeping-ends done).front ∙ sym (order-erased (stays bytes) (decode bs)))

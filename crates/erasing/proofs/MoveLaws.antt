@@ -66,8 +66,7 @@ module _ (h : Graph) (few : size h ≤ 1024) (short : (k : ℕ) → k < size h �
 
 -- ---- The loop: the kept of the first n nodes have moved
 
-pub record Moving (bs set : List ℕ) (count : ℕ) (arena : List ℕ) (n : ℕ) : Type 0 where
-  pub high : n ≤ count
+pub record Moving (bs set arena : List ℕ) (n : ℕ) : Type 0 where
   pub long : length arena ≡ length bs
   pub moved : arena ≡ sites_stored (erase set (decode bs)) (new_number (stays set) n) bs
 
@@ -78,7 +77,7 @@ module _ (bs set : List ℕ) (count : ℕ) (numbers : List ℕ) (bytes : Bytes b
   abbrev kept : ℕ → Bool
   kept = stays set
 
-  module _ (arena : List ℕ) (n : ℕ) (moving : Moving bs set count arena n) (more : n < count) where
+  module _ (arena : List ℕ) (n : ℕ) (moving : Moving bs set arena n) (more : n < count) where
     module _ (stays : get_or set n 0 ≡ 0) where
       keeps : kept n ≡ true
       keeps = eq-eqb (get_or set n 0) 0 stays
@@ -113,9 +112,8 @@ module _ (bs set : List ℕ) (count : ℕ) (numbers : List ℕ) (bytes : Bytes b
       }
 
       pub moving-kept : (after : List ℕ) → length after ≡ length arena → after ≡ record_moved numbers count n (get_or numbers n 0) arena
-          → Moving bs set count after (n + 1)
+          → Moving bs set after (n + 1)
       moving-kept after same e = record {
-        high = omega arith;
         long = same ∙ moving.long;
         moved =
             let site = site-erased bs set count numbers bytes ready n more keeps arena as_before in
@@ -123,17 +121,15 @@ module _ (bs set : List ℕ) (count : ℕ) (numbers : List ℕ) (bytes : Bytes b
             e ∙ (λ i. stored (slot_at (to i) + 16) (site i) (moving.moved i)) ∙ ap (λ (k : ℕ). sites_stored h k bs) next;
       }
 
-    pub moving-gone : (get_or set n 0 ≡ 0 → ⊥) → Moving bs set count arena (n + 1)
+    pub moving-gone : (get_or set n 0 ≡ 0 → ⊥) → Moving bs set arena (n + 1)
     moving-gone goes = record {
-      high = omega arith;
       long = moving.long;
       moved =
           let same : new_number kept n ≡ new_number kept (n + 1) = rw (add-one n, ne_eqb (get_or set n 0) 0 goes, zero-add (new_number kept n)) in
           moving.moved ∙ ap (λ (k : ℕ). sites_stored h k bs) same;
     }
 
-pub moving-end : (bs set : List ℕ) (count : ℕ) (arena : List ℕ) (n : ℕ) → Moving bs set count arena n → count ≤ n
+pub moving-end : (bs set : List ℕ) (count : ℕ) (arena : List ℕ) (n : ℕ) → Moving bs set arena n → n ≡ count
     → arena ≡ sites_stored (erase set (decode bs)) (new_number (stays set) count) bs
-moving-end bs set count arena n moving done =
-    let all : n ≡ count = omega (arith, moving.high) in
+moving-end bs set count arena n moving all =
     moving.moved ∙ ap (λ (k : ℕ). sites_stored (erase set (decode bs)) (new_number (stays set) k) bs) all

@@ -18,14 +18,12 @@ pub fn number(set: &[u8], count: u32, numbers: &mut [u32]) -> u32
         × Numbers set.now count numbers.new }
 {
     let mut kept: u32 = 0;
-    let mut n: u32 = 0;
-    while n < count {
+    for n in 0..count {
         let i = n as usize;
         numbers[i] = kept;
         if set[i] == 0 {
             kept += 1;
         }
-        n += 1;
     }
     kept
 }
@@ -76,10 +74,7 @@ pub fn gather_lists(
         (new_number (stays set.now) count) lists.new ends.new }
 {
     let mut start: usize = 0;
-    let mut n: u32 = 0;
-    while n < count {
-        let parent = n;
-        n += 1;
+    for parent in 0..count {
         if set[parent as usize] == 0 {
             let end = gather_list(arena, set, numbers, parent, lists, start);
             ends[numbers[parent as usize] as usize] = end as u32;
@@ -100,10 +95,8 @@ pub fn filter_order(arena: &[u8], set: &[u8], numbers: &[u32], count: u32, order
         return 0;
     }
     let mut kept: u32 = 0;
-    let mut n: u32 = 0;
-    while n < count {
+    for n in 0..count {
         let i = arena::order_entry(arena, n) as usize;
-        n += 1;
         if set[i] == 0 {
             order[kept as usize] = numbers[i];
             kept += 1;

@@ -55,10 +55,7 @@ pub fn move_records(arena: &mut [u8], set: &[u8], numbers: &[u32], count: u32)
         (new_number (stays set.now) count) arena.old }
 {
     let mut path: [u8; 255] = [0; 255];
-    let mut n: u32 = 0;
-    while n < count {
-        let from = n;
-        n += 1;
+    for from in 0..count {
         if set[from as usize] == 0 {
             move_record(
                 arena,

@@ -35,10 +35,8 @@ fn mark_all(arena: &[u8], count: u32, set: &mut [u8])
     requires set_len { length set.old ≡ 1024 }
     ensures { MarkedBelow (decode arena.now) 1024 set.new }
 {
-    let mut n: u32 = 0;
-    while n < arena::MAX_NODES {
+    for n in 0..arena::MAX_NODES {
         set[n as usize] = mark(arena, count, n);
-        n += 1;
     }
 }
 
@@ -49,9 +47,7 @@ fn unmark_reachable(arena: &[u8], count: u32, set: &mut [u8])
     requires marked_below { MarkedBelow (decode arena.now) 1024 set.old }
     ensures { set.new ≡ erasable (decode arena.now) }
 {
-    let mut n = count;
-    while n > 1 {
-        n -= 1;
+    for n in (1..count).rev() {
         if set[n as usize] == 0 {
             let parent = view::parent(arena, n);
             let origin = view::origin(arena, n);
@@ -104,12 +100,10 @@ pub fn can_erase(arena: &[u8], set: &[u8]) -> bool
     ensures { result ≡ can_erase (decode arena.now) set.now }
 {
     let count = arena::count(arena);
-    let mut n: u32 = 0;
-    while n < count {
+    for n in 0..count {
         if !spares_one(arena, set, n) {
             return false;
         }
-        n += 1;
     }
     true
 }

@@ -13,7 +13,7 @@ use Rattle.model.specs.Bytes.{stored}
 use Rattle.model.specs.Snapshot.{big_endian}
 use Rattle.model.specs.Arena.{count_in, ordered_in, order_entry_in, tabulate, decode}
 use Rattle.model.specs.ArenaCalls.{ValidArena}
-use Rattle.laws.proofs.StoredLaws.{length-stored, stored_next}
+use Rattle.laws.proofs.StoredLaws.{stored_next}
 use Rattle.arena.proofs.HeldArenas.{held}
 use Rattle.arena.proofs.TabulateLaws.{tabulate-length, tabulate-at}
 use Rattle.ordering.specs.OrderReading.{order_bytes, entries_in}
@@ -70,9 +70,8 @@ before_more bs n =
 -- ---- The loop that writes them
 
 -- n entries are written
-pub record Listed (bs before after : List ℕ) (n : ℕ) : Type 0 where
-  pub within : n ≤ count_in bs
-  pub bytes : after ≡ stored 0 (bytes_before bs n) before
+abbrev pub Listed : List ℕ → List ℕ → List ℕ → ℕ → Type 0
+Listed bs before after n = after ≡ stored 0 (bytes_before bs n) before
 
 module _ (bs out : List ℕ) (o : ValidArena bs) (large : length out ≡ 4096) where
   pub few : count_in bs ≤ 1024
@@ -80,27 +79,17 @@ module _ (bs out : List ℕ) (o : ValidArena bs) (large : length out ≡ 4096) w
 
   pub listed-none : Listed bs out out 0
   unfolding stored
-  listed-none = record { within = omega arith; bytes = refl }
+  listed-none = refl
 
   module _ (after : List ℕ) (n : ℕ) (listed : Listed bs out after n) where
-    pub listed-length : length after ≡ 4096
-    listed-length =
-        ap length listed.bytes
-        ∙ length-stored 0 (bytes_before bs n) out (omega (arith, before-length bs n, few, listed.within)) ∙ large
-
-    pub listed-all : count_in bs ≤ n → after ≡ stored 0 (order_bytes (entries_in bs)) out
-    listed-all end =
-        let all : n ≡ count_in bs = omega (arith, listed.within) in
-        listed.bytes ∙ ap (λ (k : ℕ). stored 0 (bytes_before bs k) out) all
+    pub listed-all : n ≡ count_in bs → after ≡ stored 0 (order_bytes (entries_in bs)) out
+    listed-all all =
+        listed ∙ ap (λ (k : ℕ). stored 0 (bytes_before bs k) out) all
 
     pub listed_more : n < count_in bs → (next : List ℕ) → next ≡ stored (4 * n) (big_endian 4 (order_entry_in bs n)) after → Listed bs out next (n + 1)
     listed_more h next q =
         let entry = big_endian 4 (order_entry_in bs n) in
         let place : 4 * n ≡ 0 + length (bytes_before bs n) = omega (arith, before-length bs n) in
-        record {
-          within = omega arith;
-          bytes =
-              q ∙ ap (λ (k : ℕ). stored k entry after) place ∙ ap (stored (0 + length (bytes_before bs n)) entry) listed.bytes
-              ∙ stored_next 0 (bytes_before bs n) entry out (omega (arith, before-length bs n, few))
-              ∙ ap (λ (l : List ℕ). stored 0 l out) (sym (before_more bs n));
-        }
+        q ∙ ap (λ (k : ℕ). stored k entry after) place ∙ ap (stored (0 + length (bytes_before bs n)) entry) listed
+        ∙ stored_next 0 (bytes_before bs n) entry out (omega (arith, before-length bs n, few))
+        ∙ ap (λ (l : List ℕ). stored 0 l out) (sym (before_more bs n))

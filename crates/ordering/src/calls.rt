@@ -56,10 +56,8 @@ fn write_entries(arena: &[u8], count: u32, out: &mut [u8])
     requires { ValidArena arena.now × (count ≡ count_in arena.now) × (length out.old ≡ 4096) }
     ensures { out.new ≡ stored 0 (order_bytes (entries_in arena.now)) out.old }
 {
-    let mut n: u32 = 0;
-    while n < count {
+    for n in 0..count {
         big_endian::write_u32(out, 4 * (n as usize), arena::order_entry(arena, n));
-        n += 1;
     }
 }
 

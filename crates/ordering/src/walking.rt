@@ -77,17 +77,14 @@ pub(crate) fn write_walk(arena: &mut [u8], count: u32)
     ensures { arena.new ≡ walk_stored count arena.old }
 {
     arena::write_order_entry(arena, 0, 0);
-    let last = count - 1;
     let mut known = Ahead {
         node: 0,
         next: arena::NO_NODE,
     };
     let mut x: u32 = 0;
-    let mut at: u32 = 0;
-    while at < last {
+    for at in 1..count {
         known = look_ahead(arena, x, known);
         x = next_of(arena, x, known);
-        at += 1;
         arena::write_order_entry(arena, at, x);
     }
 }

@@ -1,10 +1,11 @@
 -- What the proofs of the reader's first pass cite: a field that is there and one that is missing; a
 -- record that fits (`RecordAt`); the front of a snapshot (`Front`); and the loop over the records,
 -- that the rest passes question 12 where all of it does (`Asked`). Assumes nothing.
-use Rattle.std.specs.Prelude.{None, Option, Some}
-use Rattle.std.specs.Prelude.{Err, Ok}
+use Rattle.std.specs.Prelude.{Err, Ok, Option}
 use mathlib.Core.Path.{◌≡◌, refl, sym, ap, ◌∙◌}
 use mathlib.Core.Bool.{Bool, true, false, ◌&&◌, cond, false≢true, true≢false}
+use Rattle.std.specs.Prelude.{Some, None}
+use Rattle.std.proofs.lemmas.Option.{cond_some, none-some}
 use mathlib.Core.List.{List, [], ◌∷◌}
 use Prim.Native.Nat.{ℕ, zero, suc, ◌+◌, ◌-◌, ◌≤◌, ◌<◌}
 use native.Mathlib.Nat.{add-zero}
@@ -12,7 +13,7 @@ use native.Mathlib.Omega.{arith}
 use lib.Dec.{eqb, leb}
 use lib.ListN.{length, take, drop, length-drop}
 use lib.Seq.{drop-drop}
-use borrow.Author.Tests.{leb-true, leb-false, le-leb, lt-leb, eqb-true, eq-eqb}
+use borrow.Author.Tests.{leb-true, leb-false, le-leb, eqb-true, eq-eqb}
 use Rattle.model.specs.Node.{Node}
 use Rattle.model.specs.Snapshot.{value, field, read_record, fits_record, before, read_records, read_snapshot}
 use Rattle.model.specs.declared.Refusal.TheVariants.{Snapshot}
@@ -21,31 +22,18 @@ use Rattle.snapshot.specs.SnapshotReading.{field_at, length_at, counted_as, Reco
 
 -- ---- One field
 
-picked : (t : Bool) (n v : ℕ) → cond t (Some n) None ≡ Some v → (t ≡ true) × (v ≡ n)
-picked true n v e = (refl, cc)
-picked false n v e = let z : ◌≡◌ {A = ℕ} 0 1 = cc in absurd (omega arith)
-
 not-picked : (t : Bool) (n : ℕ) → cond t (Some n) None ≡ None → t ≡ false
-not-picked true n e = let z : ◌≡◌ {A = ℕ} 0 1 = cc in absurd (omega arith)
+not-picked true n e = absurd (none-some n (sym e))
 not-picked false n e = refl
 
 module _ (at w : ℕ) (bytes : List ℕ) where
-  pub field-there : at + w ≤ length bytes → Some (field at w bytes) ≡ field_at at w bytes
-  field-there h = rw (le-leb (at + w) (length bytes) h)
-
-  pub field-missing : length bytes < at + w → None ≡ field_at at w bytes
-  field-missing h = rw (lt-leb (at + w) (length bytes) h)
-
   pub taken : (v : ℕ) → field_at at w bytes ≡ Some v → (at + w ≤ length bytes) × (v ≡ field at w bytes)
   taken v e =
-      let both = picked (leb (at + w) (length bytes)) (field at w bytes) v e in
-      (leb-true (at + w) (length bytes) both.0, both.1)
+      let both = cond_some (leb (at + w) (length bytes)) (field at w bytes) v e in
+      (leb-true (at + w) (length bytes) both.0, sym both.1)
 
   pub not_taken : field_at at w bytes ≡ None → length bytes < at + w
   not_taken e = leb-false (at + w) (length bytes) (not-picked (leb (at + w) (length bytes)) (field at w bytes) e)
-
-  pub never-missing : at + w ≤ length bytes → field_at at w bytes ≡ None → ⊥
-  never-missing h e = omega (arith, not_taken e)
 
 field-drop : (at a w : ℕ) (bytes : List ℕ) → field a w (drop at bytes) ≡ field (at + a) w bytes
 field-drop at a w bytes = ap (λ (l : List ℕ). value (take w l)) (drop-drop a at bytes)
@@ -79,20 +67,10 @@ module _ (at : ℕ) (bytes : List ℕ) (h : at ≤ length bytes) where
         within = omega (arith, rest-length, leb-true (2 + field at 2 bytes) (length (drop at bytes)) (search (and_first, and_second)));
       }
 
-  pub length-there : RecordAt bytes at → Some (field at 2 bytes) ≡ length_at at bytes
-  length-there fits = rw (fits-record fits)
-
-  pub length-missing : (RecordAt bytes at → ⊥) → None ≡ length_at at bytes
-  length-missing no-fit = go (fits_record (drop at bytes)) refl
-    where
-      go : (t : Bool) → fits_record (drop at bytes) ≡ t → None ≡ cond t (Some (field at 2 bytes)) None
-      go true e = absurd (no-fit (fits-at e))
-      go false e = refl
-
   pub length_taken : (v : ℕ) → length_at at bytes ≡ Some v → RecordAt bytes at × (v ≡ field at 2 bytes)
   length_taken v e =
-      let both = picked (fits_record (drop at bytes)) (field at 2 bytes) v e in
-      (fits-at both.0, both.1)
+      let both = cond_some (fits_record (drop at bytes)) (field at 2 bytes) v e in
+      (fits-at both.0, sym both.1)
 
 -- ---- The front
 

@@ -11,7 +11,7 @@ use lib.Seq.{take_all}
 use Rattle.model.specs.Path.{prim_count}
 use Rattle.model.specs.Node as model
 use Rattle.model.specs.Graph.{Graph, empty_graph, size, node_at, with_node}
-use Rattle.model.specs.Snapshot.{field, read_record}
+use Rattle.model.specs.Snapshot.{read_record}
 use Rattle.model.specs.Refusals.{refusal, record_questions}
 use Rattle.model.specs.Calls.{Outcome, read_into}
 use Rattle.model.specs.Arena.{arena_bytes, count_in, slots_stored, order_stored, header_bytes, root_stored, decode, encode, holds_graph}
@@ -32,40 +32,9 @@ use Rattle.child_lists.proofs.EncodeOver.{added-unordered, encode-next}
 use Rattle.snapshot.specs.SnapshotReading.{nodes_or, nodes_read, Exact}
 use Rattle.snapshot.proofs.SnapshotRecords.{record_part, Reached, reached-none, node-lent, piece-long, reached-more}
 use Rattle.snapshot.proofs.CheckLaws.{built-more, built-sized}
-use Rattle.snapshot.specs.declared.record.Ids.TheVariants as Ids
-use Rattle.snapshot.specs.declared.record.Tail.TheVariants as Tail
-use Rattle.snapshot.specs.Filling.{ids_of, tail_of, NodeRead, CanAppendRecord}
+use Rattle.snapshot.specs.Filling.{NodeRead, CanAppendRecord}
 
 -- ---- A record's node
-
--- no number is missing
-module _ (body : List ℕ) where
-  pub ids-there : ids_of body ≡ Ids.Missing → ⊥
-  ids-there e = let z : ◌≡◌ {A = ℕ} 0 1 = cc in omega arith
-
-  pub tail-there : tail_of body ≡ Tail.Missing → ⊥
-  tail-there e = let z : ◌≡◌ {A = ℕ} 0 1 = cc in omega arith
-
--- and those taken are the record's
-pub numbers-read : (body : List ℕ) (x : Node) → x.record_length ≡ length body → x.arc ≡ field 0 1 body → x.flags ≡ field 1 1 body
-    → Ids.Values x.stack x.layer x.parent.0 x.origin.0 ≡ ids_of body
-    → Tail.Values x.depth x.sibling x.restriction x.spec_from x.has_specs ≡ tail_of body
-    → NodeRead body x.prim_count x
-numbers-read body x long a f ids tail = record {
-  prim_count = refl;
-  record_length = long;
-  arc = a;
-  flags = f;
-  stack = cc;
-  layer = cc;
-  parent = cc;
-  origin = cc;
-  depth = cc;
-  sibling = cc;
-  restriction = cc;
-  spec_from = cc;
-  has_specs = cc;
-}
 
 node-read : (body : List ℕ) (prims : ℕ) (x : Node) → NodeRead body prims x → node_of x (drop 27 body) ≡ read_record body
 unfolding read_record

@@ -70,6 +70,10 @@ reached-none bytes count exact =
       rest = ap (λ (k : ℕ). read_records k (drop 7 bytes)) number ∙ all;
     }
 
+-- each number below the count is a node's
+pub numbered : {bytes : List ℕ} {count n : ℕ} → Exact bytes count → n < count → n < length (nodes_read bytes)
+numbered exact below = omega (arith, exact.counted)
+
 module _ (bytes : List ℕ) (at n : ℕ) (reached : Reached bytes at n) (h : n < length (nodes_read bytes)) where
   abbrev node : Node
   node = node_at (nodes_read bytes) n

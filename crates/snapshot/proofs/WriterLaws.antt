@@ -15,7 +15,7 @@ use Rattle.model.specs.Refusals.{path_bytes}
 use Rattle.model.specs.Snapshot.{big_endian, record_body, record_bytes, records_bytes, snapshot_body, write_snapshot}
 use Rattle.model.specs.Arena.{slot_at, count_in, record_length_in, decode}
 use Rattle.laws.proofs.BigEndianLaws.{Bytes}
-use Rattle.laws.proofs.StoredLaws.{length-stored, stored-apart, stored_next}
+use Rattle.laws.proofs.StoredLaws.{stored-apart, stored_next}
 use Rattle.laws.proofs.SnapshotLaws.{record-length, field-written}
 use Rattle.arena.specs.Slot.{HasPath}
 use Rattle.arena.proofs.HeldArenas.{held}
@@ -112,25 +112,18 @@ module _ (bs out : List ℕ) (bytes : Bytes bs) (can : CanWrite bs out) where
 
 -- n records are copied, and end at `at`
 pub record Copied (bs before after : List ℕ) (at n : ℕ) : Type 0 where
-  pub within : n ≤ count_in bs
   pub place : at ≡ 7 + length (records_before n (decode bs).nodes)
   pub bytes : after ≡ stored 7 (records_before n (decode bs).nodes) before
 
 module _ (bs out : List ℕ) (bytes : Bytes bs) (can : CanWrite bs out) where
   pub copied_none : Copied bs out out 7 0
   unfolding stored
-  copied_none = record { within = omega arith; place = refl; bytes = sym (take-append-drop 7 out) }
+  copied_none = record { place = refl; bytes = sym (take-append-drop 7 out) }
 
   module _ (after : List ℕ) (at n : ℕ) (copied : Copied bs out after at n) where
-    pub copied-length : length after ≡ 65536
-    copied-length =
-        ap length copied.bytes
-        ∙ length-stored 7 (records_before n (decode bs).nodes) out (omega (arith, can.large, records-short bs out bytes can n)) ∙ can.large
-
-    pub copied_all : count_in bs ≤ n
+    pub copied_all : n ≡ count_in bs
         → (at ≡ 7 + length (records_bytes (decode bs).nodes)) × (after ≡ stored 7 (records_bytes (decode bs).nodes) out)
-    copied_all end =
-        let all : n ≡ count_in bs = omega (arith, copied.within) in
+    copied_all all =
         let same : records_before n (decode bs).nodes ≡ records_bytes (decode bs).nodes =
         ap (λ (k : ℕ). records_before k (decode bs).nodes) all ∙ all-before bs out bytes can in
         (omega (arith, copied.place, ap length same), copied.bytes ∙ ap (λ (l : List ℕ). stored 7 l out) same)
@@ -150,7 +143,6 @@ module _ (bs out : List ℕ) (bytes : Bytes bs) (can : CanWrite bs out) where
 
       pub copied_more : (next : List ℕ) → next ≡ stored at piece after → Copied bs out next (at + length piece) (n + 1)
       copied_more next q = record {
-        within = omega arith;
         place = omega (arith, copied.place, more-length);
         bytes =
             q ∙ ap (λ (k : ℕ). stored k piece after) copied.place

@@ -1,6 +1,6 @@
 -- The node of a record by value, and what the reader's last pass asks: a record that may be
 -- appended, and an arena that may be filled.
-use Rattle.std.specs.Prelude.{◌≡◌, List, ℕ, ◌≤◌, length}
+use Rattle.std.specs.Prelude.{◌≡◌, List, Option, Some, None, ℕ, ◌≤◌, length}
 use Rattle.model.specs.Path.{prim_count}
 use Rattle.model.specs.Graph.{empty_graph}
 use Rattle.model.specs.Snapshot.{field, read_record}
@@ -10,16 +10,6 @@ use Rattle.model.specs.ArenaCalls.{ValidArena}
 use Rattle.model.specs.Arena.{arena_bytes, count_in, decode}
 use Rattle.arena.specs.declared.Node.{Node}
 use Rattle.snapshot.specs.SnapshotReading.{nodes_read, Exact, Named}
-use Rattle.snapshot.specs.declared.record.Ids.{Ids}
-use Rattle.snapshot.specs.declared.record.Tail.{Tail}
-use Rattle.snapshot.specs.declared.record.Taken.{Taken}
-
--- the numbers between the flags and the path, all of them there
-abbrev pub ids_of : List ℕ → Ids
-ids_of body = Ids.Values (field 2 4 body) (field 6 4 body) (field 10 4 body) (field 14 4 body)
-
-abbrev pub tail_of : List ℕ → Tail
-tail_of body = Tail.Values (field 18 2 body) (field 20 2 body) (field 22 2 body) (field 24 2 body) (field 26 1 body)
 
 -- x has the prim count, the record's length and its numbers
 pub record NodeRead (body : List ℕ) (prims : ℕ) (x : Node) : Type 0 where
@@ -38,9 +28,9 @@ pub record NodeRead (body : List ℕ) (prims : ℕ) (x : Node) : Type 0 where
   pub has_specs : x.has_specs ≡ field 26 1 body
 
 -- no field was missing
-abbrev pub NodeTaken : List ℕ → ℕ → Taken → Type 0
-NodeTaken body prims (Taken.Node x) = NodeRead body prims x
-NodeTaken body prims Taken.Missing = ⊥
+abbrev pub NodeTaken : List ℕ → ℕ → Option Node → Type 0
+NodeTaken body prims (Some x) = NodeRead body prims x
+NodeTaken body prims None = ⊥
 
 -- the arena holds n nodes, and the record passes the questions after them
 pub record CanAppendRecord (arena : List ℕ) (n : ℕ) (body : List ℕ) (prims : ℕ) : Type 0 where

@@ -14,27 +14,8 @@ use Rattle.model.specs.Calls.{read_into}
 use Rattle.model.specs.declared.Refusal.TheVariants.{Snapshot}
 use Rattle.validate.specs.declared.record.Before.{Before}
 use Rattle.validate.specs.RecordCheck.{numbers_of, questions_at}
-use Rattle.snapshot.specs.declared.fields.Byte.{Byte}
-use Rattle.snapshot.specs.declared.fields.Byte.TheVariants.{Value as ByteValue, Missing as ByteMissing}
-use Rattle.snapshot.specs.declared.fields.Short.{Short}
-use Rattle.snapshot.specs.declared.fields.Short.TheVariants.{Value as ShortValue, Missing as ShortMissing}
-use Rattle.snapshot.specs.declared.fields.Field.{Field}
-use Rattle.snapshot.specs.declared.fields.Field.TheVariants.{Value as FieldValue, Missing as FieldMissing}
 
 -- ---- Fields: "The reader takes each field or stops at the first that is missing"
-
--- the value of each answer
-abbrev pub byte_value : Byte → Option ℕ
-byte_value (ByteValue n) = Some n
-byte_value ByteMissing = None
-
-abbrev pub short_value : Short → Option ℕ
-short_value (ShortValue n) = Some n
-short_value ShortMissing = None
-
-abbrev pub field_value : Field → Option ℕ
-field_value (FieldValue n) = Some n
-field_value FieldMissing = None
 
 -- w bytes from `at` on
 abbrev pub field_at : ℕ → ℕ → List ℕ → Option ℕ

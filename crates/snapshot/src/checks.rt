@@ -6,7 +6,6 @@ ghost use Rattle.path.specs.Tables.{Tables};
 ghost use Rattle.validate.specs.RecordCheck.{RecordChecked};
 ghost use Rattle.snapshot.specs.SnapshotReading.{counted_as, Exact, questions_of, RecordsChecked};
 
-use crate::fields::{Byte, Field, Short};
 use crate::{fields, record};
 use arena::offsets;
 use model::Refusal;
@@ -19,13 +18,11 @@ fn check_record_lengths(bytes: &[u8], count: u32) -> Result<u32, Refusal>
     ensures { result ≡ counted_as (read_records count (drop 7 bytes.now)) }
 {
     let mut at: usize = 7;
-    let mut left = count;
-    while 0 < left {
-        let Short::Value(length) = fields::take_length(bytes, at) else {
+    for _passed in 0..count {
+        let Some(length) = fields::take_length(bytes, at) else {
             return Err(Refusal::Snapshot);
         };
         at += 2 + (length as usize);
-        left -= 1;
     }
     if at < bytes.len() {
         return Err(Refusal::Snapshot);
@@ -37,19 +34,19 @@ fn check_record_lengths(bytes: &[u8], count: u32) -> Result<u32, Refusal>
 pub fn check_lengths(bytes: &[u8]) -> Result<u32, Refusal>
     ensures { result ≡ counted_as (read_snapshot bytes.now) }
 {
-    let Field::Value(following) = fields::take_u32(bytes, 0) else {
+    let Some(following) = fields::take_u32(bytes, 0) else {
         return Err(Refusal::Snapshot);
     };
     if 4 + (following as usize) != bytes.len() {
         return Err(Refusal::Snapshot);
     }
-    let Byte::Value(version) = fields::take_u8(bytes, 4) else {
+    let Some(version) = fields::take_u8(bytes, 4) else {
         return Err(Refusal::Snapshot);
     };
     if version != 1 {
         return Err(Refusal::Snapshot);
     }
-    let Short::Value(count) = fields::take_u16(bytes, 5) else {
+    let Some(count) = fields::take_u16(bytes, 5) else {
         return Err(Refusal::Snapshot);
     };
     check_record_lengths(bytes, count as u32)
@@ -76,19 +73,19 @@ fn check_one(kinds: &[u8], pairs: &[u64], body: &[u8], before: Before) -> Result
     ensures { RecordChecked (questions_of before (read_record body.now))
         (read_record body.now).path result }
 {
-    let Byte::Value(arc) = fields::take_u8(body, offsets::ARC) else {
+    let Some(arc) = fields::take_u8(body, offsets::ARC) else {
         return Err(Refusal::Snapshot);
     };
-    let Byte::Value(flags) = fields::take_u8(body, offsets::FLAGS) else {
+    let Some(flags) = fields::take_u8(body, offsets::FLAGS) else {
         return Err(Refusal::Snapshot);
     };
-    let Field::Value(parent) = fields::take_u32(body, offsets::PARENT) else {
+    let Some(parent) = fields::take_u32(body, offsets::PARENT) else {
         return Err(Refusal::Snapshot);
     };
-    let Field::Value(origin) = fields::take_u32(body, offsets::ORIGIN) else {
+    let Some(origin) = fields::take_u32(body, offsets::ORIGIN) else {
         return Err(Refusal::Snapshot);
     };
-    let Byte::Value(has_specs) = fields::take_u8(body, offsets::HAS_SPECS) else {
+    let Some(has_specs) = fields::take_u8(body, offsets::HAS_SPECS) else {
         return Err(Refusal::Snapshot);
     };
     let numbers = RecordNumbers {
@@ -118,8 +115,7 @@ pub fn check_records(bytes: &[u8], count: u32, prims: &mut [u8]) -> Result<(), R
     let mut at: usize = 7;
     let mut path_bytes: usize = 0;
     let mut has_root = false;
-    let mut n: u32 = 0;
-    while n < count {
+    for n in 0..count {
         let record = record::record_at(bytes, at);
         let before = Before {
             count: n,
@@ -127,19 +123,11 @@ pub fn check_records(bytes: &[u8], count: u32, prims: &mut [u8]) -> Result<(), R
             has_root: has_root,
             culled_allowed: true,
         };
-        let checked = check_one(&kinds, &pairs, record, before);
-        match checked {
-            Err(refusal) => {
-                return Err(refusal);
-            }
-            Ok(prim_count) => {
-                prims[n as usize] = prim_count;
-                has_root = with_root(has_root, n, record[offsets::ARC]);
-                path_bytes += record.len() - offsets::PATH;
-                at += 2 + record.len();
-                n += 1;
-            }
-        }
+        let prim_count = check_one(&kinds, &pairs, record, before)?;
+        prims[n as usize] = prim_count;
+        has_root = with_root(has_root, n, record[offsets::ARC]);
+        path_bytes += record.len() - offsets::PATH;
+        at += 2 + record.len();
     }
     Ok(())
 }

@@ -8,7 +8,6 @@ ghost use Rattle.model.specs.Calls.{read_into};
 ghost use Rattle.snapshot.specs.Filling.{CanAppendRecord, CanFill};
 
 use crate::record;
-use crate::record::Taken;
 use arena::offsets;
 
 // Appends the node of a record, which misses no field, as number n.
@@ -17,7 +16,7 @@ fn append_record(arena: &mut [u8], n: u32, body: &[u8], prim_count: u8)
     ensures { arena.new ≡ encode
         (with_node (decode arena.old) (read_record body.now)) arena.old }
 {
-    let Taken::Node(node) = record::read_node(body, prim_count) else {
+    let Some(node) = record::read_node(body, prim_count) else {
         return;
     };
     child_lists::append_node(arena, n, node, &body[offsets::PATH..]);
@@ -40,11 +39,9 @@ pub(crate) fn fill(arena: &mut [u8], bytes: &[u8], count: u32, prims: &[u8])
 {
     clear(arena);
     let mut at: usize = 7;
-    let mut n: u32 = 0;
-    while n < count {
+    for n in 0..count {
         let record = record::record_at(bytes, at);
         append_record(arena, n, record, prims[n as usize]);
         at += 2 + record.len();
-        n += 1;
     }
 }

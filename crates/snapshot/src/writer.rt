@@ -16,12 +16,10 @@ fn write_records(arena: &[u8], out: &mut [u8]) -> usize
 {
     let count = arena::count(arena);
     let mut at: usize = 7;
-    let mut n: u32 = 0;
-    while n < count {
+    for n in 0..count {
         let record = arena::record(arena, n);
         big_endian::write_bytes(out, at, record);
         at += record.len();
-        n += 1;
     }
     at
 }

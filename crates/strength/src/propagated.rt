@@ -23,8 +23,7 @@ fn first_copy(arena: &[u8], root: u32, n: u32) -> u32
 {
     let count = arena::count(arena);
     let mut child = arena::first_child(arena, root);
-    let mut left = count;
-    while 0 < left {
+    for _passed in 0..count {
         if child >= count {
             return arena::NO_NODE;
         }
@@ -32,7 +31,6 @@ fn first_copy(arena: &[u8], root: u32, n: u32) -> u32
             return child;
         }
         child = arena::next_sibling(arena, child);
-        left -= 1;
     }
     arena::NO_NODE
 }

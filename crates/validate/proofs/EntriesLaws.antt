@@ -22,7 +22,6 @@ use Rattle.validate.proofs.GrownLaws.{tabulate-more}
 
 -- the first k entries are nodes, none twice, and `seen` has a 1 at each
 pub record EntriesTo (bs seen : List ℕ) (k : ℕ) : Type 0 where
-  pub within : k ≤ count_in bs
   pub wide : length seen ≡ 1024
   pub marked : (a : ℕ) → get_or seen a 0 ≡ count a (entries_in bs k)
   pub once : (a : ℕ) → count a (entries_in bs k) ≤ 1
@@ -34,7 +33,7 @@ zeros (suc n) zero = refl
 zeros (suc n) (suc a) = zeros n a
 
 pub entries_none : (bs : List ℕ) → EntriesTo bs (replicate 1024 0) 0
-entries_none bs = record { within = omega arith; wide = length-replicate {A = ℕ} 1024 0; marked = zeros 1024; once = λ a. omega arith; nodes = tt }
+entries_none bs = record { wide = length-replicate {A = ℕ} 1024 0; marked = zeros 1024; once = λ a. omega arith; nodes = tt }
 
 module _ (bs : List ℕ) where
   count-more : (a k : ℕ) → count a (entries_in bs (suc k)) ≡ count a (entries_in bs k) + bit (eqb a (order_entry_in bs k))
@@ -92,7 +91,6 @@ module _ (bs : List ℕ) where
         → EntriesTo bs (set seen (order_entry_in bs k) 1) (k + 1)
     entries-more few l h new =
         rw (add-one k) (record {
-          within = omega arith;
           wide = length-set seen (order_entry_in bs k) 1 ∙ to.wide;
           marked = λ a. marks a (eqb a (order_entry_in bs k)) refl;
           once = λ a. first a (eqb a (order_entry_in bs k)) refl;
@@ -120,13 +118,10 @@ module _ (bs : List ℕ) where
 
     -- ---- All entries: were a node not among them, they and it would be more nodes than there are
 
-    pub entries-all : count_in bs ≤ k → entries_valid bs ≡ true
+    pub entries-all : k ≡ count_in bs → entries_valid bs ≡ true
     unfolding entries_valid
-    entries-all l = (all-below (entered_once bs) (count_in bs)).1 (λ a h. entered-once a (go a h (eqb (count a (entries_in bs (count_in bs))) 0) refl))
+    entries-all same = (all-below (entered_once bs) (count_in bs)).1 (λ a h. entered-once a (go a h (eqb (count a (entries_in bs (count_in bs))) 0) refl))
       where
-        same : k ≡ count_in bs
-        same = omega (arith, to.within)
-
         go : (a : ℕ) → a < count_in bs → (t : Bool) → eqb (count a (entries_in bs (count_in bs))) 0 ≡ t → count a (entries_in bs (count_in bs)) ≡ 1
         go a h false e = omega (arith, eqb-false (count a (entries_in bs (count_in bs))) 0 e, rw same at (to.once a))
         go a h true e =

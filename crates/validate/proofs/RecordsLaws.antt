@@ -158,14 +158,13 @@ module _ (bs : List ℕ) (whole : length bs ≡ arena_bytes) (few : count_in bs 
 
 -- those below n are right, and come to so many bytes of paths and this local root
 pub record RecordsTo (bs : List ℕ) (n path_bytes root : ℕ) : Type 0 where
-  pub within : n ≤ count_in bs
   pub right : all_below (record_valid bs) n ≡ true
   pub bytes : path_bytes ≡ path_bytes_below bs n
   pub few_bytes : path_bytes ≤ most_path_bytes
   pub local-root : root ≡ root_below bs n
 
 pub records-none : (bs : List ℕ) → RecordsTo bs 0 0 0
-records-none bs = record { within = omega arith; right = refl; bytes = refl; few_bytes = omega arith; local-root = refl }
+records-none bs = record { right = refl; bytes = refl; few_bytes = omega arith; local-root = refl }
 
 module _ (bs : List ℕ) (n path_bytes root : ℕ) (to : RecordsTo bs n path_bytes root) where
   here : record_valid_after bs (before_in n path_bytes root) ≡ record_valid bs n
@@ -185,7 +184,6 @@ module _ (bs : List ℕ) (n path_bytes root : ℕ) (to : RecordsTo bs n path_byt
   records-more whole few l long arc found same_length same-arc same-root e =
       let right = right-after bs (before_in n path_bytes root) e in
       rw (add-one n) (record {
-        within = omega arith;
         right = (and-eq-true_iff (record_valid bs n) (all_below (record_valid bs) n)).1 (sym here ∙ e, to.right);
         bytes = λ i. to.bytes i + (same_length i - 27);
         few_bytes = omega (
@@ -196,8 +194,7 @@ module _ (bs : List ℕ) (n path_bytes root : ℕ) (to : RecordsTo bs n path_byt
         local-root = same-root ∙ (λ i. root_with n (same-arc i) (to.local-root i));
       })
 
-  pub records-all : count_in bs ≤ n → records_valid bs ≡ (eqb (count_in bs) 0 || eqb (local_root_in bs) root)
+  pub records-all : n ≡ count_in bs → records_valid bs ≡ (eqb (count_in bs) 0 || eqb (local_root_in bs) root)
   unfolding records_valid
-  records-all l =
-      let all : n ≡ count_in bs = omega (arith, to.within) in
+  records-all all =
       rw (ap (all_below (record_valid bs)) (sym all) ∙ to.right, ap (root_below bs) (sym all) ∙ sym to.local-root)

@@ -145,8 +145,7 @@ fn records_valid(arena: &[u8], count: u32) -> bool
     let pairs = path::rows::pairs();
     let mut path_bytes: usize = 0;
     let mut root: u32 = 0;
-    let mut n: u32 = 0;
-    while n < count {
+    for n in 0..count {
         let length = arena::record_length(arena, n) as usize;
         let before = Before {
             count: n,
@@ -159,7 +158,6 @@ fn records_valid(arena: &[u8], count: u32) -> bool
         }
         path_bytes += length - arena::offsets::PATH;
         root = root_with(n, arena::arc(arena, n), root);
-        n += 1;
     }
     root_valid(arena, count, root)
 }
@@ -171,8 +169,7 @@ fn entries_valid(arena: &[u8], count: u32) -> bool
     ensures { result ≡ entries_valid arena.now }
 {
     let mut seen = [0u8; 1024];
-    let mut k: u32 = 0;
-    while k < count {
+    for k in 0..count {
         let entry = arena::order_entry(arena, k);
         if entry >= count {
             return false;
@@ -182,7 +179,6 @@ fn entries_valid(arena: &[u8], count: u32) -> bool
             return false;
         }
         seen[at] = 1;
-        k += 1;
     }
     true
 }

@@ -1,14 +1,33 @@
 -- `filter_order` meets its contract. The invariant of its loop: the entries from `n` on are left,
--- and what is kept of the others stands up to `kept`. The measure is how many are left. Assumes
--- nothing.
+-- and what is kept of the others stands up to `kept`. Assumes nothing.
 use native.Mathlib.Omega.{arith}
 use mathlib.Core.Path.{◌≡◌, sym, ◌∙◌}
-use Prim.Native.Nat.{◌<◌}
-use Rattle.model.specs.Arena.{count_in, ordered_in}
+use mathlib.Core.List.{List}
+use Prim.Native.Nat.{ℕ, ◌<◌}
+use lib.ListN.{length}
+use Rattle.model.specs.Arena.{count_in, ordered_in, order_entry_in}
 use Rattle.model.specs.ArenaCalls.{ValidArena, ValidNode}
 use Rattle.arena.proofs.ReadNodes.{has-slot}
-use Rattle.erasing.proofs.KeptOrder.{filtered-none, entry-readable, filtering-start, filtering-room, filtering-kept, filtering-gone, filtering-ends}
+use Rattle.erasing.specs.KeptLists.{Numbers}
+use Rattle.erasing.proofs.KeptOrder.{Filtering, filtered-none, entry-readable, filtering-start, filtering-room, filtering-kept, filtering-gone, filtering-ends}
 use Rattle.erasing.proofs.lists.filter_order.Goals as goal
+use Rattle.erasing.proofs.lists.filter_order.Goals.{then-set-i-eq0, else-set-i-eq0}
+
+-- the entry at n is a node, and has places in the arrays
+module _ {bs set numbers : List ℕ} {count mark n entry : ℕ} (valid : ValidArena bs × (count ≡ count_in bs) × Numbers set count numbers)
+    (read : mark ≡ ordered_in bs) (one : mark ≡ 1) (here : n < count) (at : entry ≡ order_entry_in bs n) where
+  below : n < count_in bs
+  below = omega (arith, valid.1)
+
+  readable : ValidNode bs entry
+  readable = entry-readable valid.0 (sym read ∙ one) below at
+
+  small : entry < 1024
+  small = (has-slot _ _ readable).within
+
+  module _ {before : List ℕ} {kept : ℕ} {array : List ℕ} (w : Filtering bs set before kept n array) where
+    room : kept < length array
+    room = filtering-room valid.0 (sym read ∙ one) w below at
 
 pub ordered-requires : goal.ordered-requires
 ordered-requires c =
@@ -24,175 +43,40 @@ loop-n-init c =
 
 pub order_entry-i-requires : goal.order_entry-i-requires
 order_entry-i-requires c =
-    let opened : ValidArena c.args.arena.now =
-    c.requires.valid_arena.0 in
-    let below : c.loop-n.n < count_in c.args.arena.now =
-    omega (arith, c.loop-n-test.true, c.requires.valid_arena.1) in
-    has-slot _ _ (record { opened = opened; below = below })
-
-pub overflow_cast-i : goal.overflow_cast-i
-overflow_cast-i c =
-    let opened : ValidArena c.args.arena.now =
-    c.requires.valid_arena.0 in
-    let ordered : ordered_in c.args.arena.now ≡ 1 =
-    sym c.ordered.ensures ∙ c.if-ordered-ne1.false in
-    let below : c.loop-n.n < count_in c.args.arena.now =
-    omega (arith, c.loop-n-test.true, c.requires.valid_arena.1) in
-    let reads-it : ValidNode c.args.arena.now c.order_entry-i.result =
-    entry-readable opened ordered below c.order_entry-i.ensures in
-    let small : c.order_entry-i.result < 1024 =
-    (has-slot _ _ reads-it).within in
-    omega (arith, small)
-
-pub overflow_add-n : goal.overflow_add-n
-overflow_add-n c =
-    omega (arith, c.loop-n-test.true)
+    has-slot _ _ (record { opened = c.requires.valid_arena.0; below = omega (arith, c.loop-n-test.true, c.requires.valid_arena.1) })
 
 pub bounds-set-i : goal.bounds-set-i
 bounds-set-i c =
-    let opened : ValidArena c.args.arena.now =
-    c.requires.valid_arena.0 in
-    let ordered : ordered_in c.args.arena.now ≡ 1 =
-    sym c.ordered.ensures ∙ c.if-ordered-ne1.false in
-    let below : c.loop-n.n < count_in c.args.arena.now =
-    omega (arith, c.loop-n-test.true, c.requires.valid_arena.1) in
-    let reads-it : ValidNode c.args.arena.now c.order_entry-i.result =
-    entry-readable opened ordered below c.order_entry-i.ensures in
-    let small : c.order_entry-i.result < 1024 =
-    (has-slot _ _ reads-it).within in
-    omega (arith, small, c.requires.set_len.0)
-
-pub offset_bounds-numbers-i : goal.offset_bounds-numbers-i
-offset_bounds-numbers-i c =
-    let opened : ValidArena c.args.arena.now =
-    c.requires.valid_arena.0 in
-    let ordered : ordered_in c.args.arena.now ≡ 1 =
-    sym c.ordered.ensures ∙ c.if-ordered-ne1.false in
-    let below : c.loop-n.n < count_in c.args.arena.now =
-    omega (arith, c.loop-n-test.true, c.requires.valid_arena.1) in
-    let reads-it : ValidNode c.args.arena.now c.order_entry-i.result =
-    entry-readable opened ordered below c.order_entry-i.ensures in
-    let small : c.order_entry-i.result < 1024 =
-    (has-slot _ _ reads-it).within in
-    omega (arith, small)
+    let fits = small c.requires.valid_arena c.ordered.ensures c.if-ordered-ne1.false c.loop-n-test.true c.order_entry-i.ensures in
+    omega (arith, fits, c.requires.set_len.0)
 
 pub bounds-numbers-i : goal.bounds-numbers-i
 bounds-numbers-i c =
-    let opened : ValidArena c.args.arena.now =
-    c.requires.valid_arena.0 in
-    let ordered : ordered_in c.args.arena.now ≡ 1 =
-    sym c.ordered.ensures ∙ c.if-ordered-ne1.false in
-    let below : c.loop-n.n < count_in c.args.arena.now =
-    omega (arith, c.loop-n-test.true, c.requires.valid_arena.1) in
-    let reads-it : ValidNode c.args.arena.now c.order_entry-i.result =
-    entry-readable opened ordered below c.order_entry-i.ensures in
-    let small : c.order_entry-i.result < 1024 =
-    (has-slot _ _ reads-it).within in
-    omega (arith, small, c.requires.valid_arena.2.long)
-
-pub overflow_cast-order : goal.overflow_cast-order
-overflow_cast-order c =
-    let opened : ValidArena c.args.arena.now =
-    c.requires.valid_arena.0 in
-    let ordered : ordered_in c.args.arena.now ≡ 1 =
-    sym c.ordered.ensures ∙ c.if-ordered-ne1.false in
-    let below : c.loop-n.n < count_in c.args.arena.now =
-    omega (arith, c.loop-n-test.true, c.requires.valid_arena.1) in
-    let room : c.loop-n.kept < 1024 =
-    omega (
-      arith,
-      filtering-room opened ordered c.loop-n.invariant below
-          c.order_entry-i.ensures,
-      c.loop-n.invariant.keeping.long,
-      c.requires.set_len.1,
-    ) in
-    omega (arith, room)
-
-pub offset_bounds-order-kept : goal.offset_bounds-order-kept
-offset_bounds-order-kept c =
-    let opened : ValidArena c.args.arena.now =
-    c.requires.valid_arena.0 in
-    let ordered : ordered_in c.args.arena.now ≡ 1 =
-    sym c.ordered.ensures ∙ c.if-ordered-ne1.false in
-    let below : c.loop-n.n < count_in c.args.arena.now =
-    omega (arith, c.loop-n-test.true, c.requires.valid_arena.1) in
-    let room : c.loop-n.kept < 1024 =
-    omega (
-      arith,
-      filtering-room opened ordered c.loop-n.invariant below
-          c.order_entry-i.ensures,
-      c.loop-n.invariant.keeping.long,
-      c.requires.set_len.1,
-    ) in
-    omega (arith, room)
+    let fits = small c.requires.valid_arena c.ordered.ensures c.if-ordered-ne1.false c.loop-n-test.true c.order_entry-i.ensures in
+    omega (arith, fits, c.requires.valid_arena.2.long)
 
 pub bounds-order-kept : goal.bounds-order-kept
 bounds-order-kept c =
-    let opened : ValidArena c.args.arena.now =
-    c.requires.valid_arena.0 in
-    let ordered : ordered_in c.args.arena.now ≡ 1 =
-    sym c.ordered.ensures ∙ c.if-ordered-ne1.false in
-    let below : c.loop-n.n < count_in c.args.arena.now =
-    omega (arith, c.loop-n-test.true, c.requires.valid_arena.1) in
-    filtering-room opened ordered c.loop-n.invariant below c.order_entry-i.ensures
+    room c.requires.valid_arena c.ordered.ensures c.if-ordered-ne1.false c.loop-n-test.true c.order_entry-i.ensures c.loop-n.invariant
 
 pub overflow_add-kept : goal.overflow_add-kept
 overflow_add-kept c =
-    let opened : ValidArena c.args.arena.now =
-    c.requires.valid_arena.0 in
-    let ordered : ordered_in c.args.arena.now ≡ 1 =
-    sym c.ordered.ensures ∙ c.if-ordered-ne1.false in
-    let below : c.loop-n.n < count_in c.args.arena.now =
-    omega (arith, c.loop-n-test.true, c.requires.valid_arena.1) in
-    let room : c.loop-n.kept < 1024 =
-    omega (
-      arith,
-      filtering-room opened ordered c.loop-n.invariant below
-          c.order_entry-i.ensures,
-      c.loop-n.invariant.keeping.long,
-      c.requires.set_len.1,
-    ) in
-    omega (arith, room)
-
-pub loop-n-smaller-then-set-i-eq0 : goal.loop-n-smaller-then-set-i-eq0
-loop-n-smaller-then-set-i-eq0 c =
-    omega (arith, c.loop-n-test.true)
-
-pub loop-n-preserved-then-set-i-eq0 : goal.loop-n-preserved-then-set-i-eq0
-loop-n-preserved-then-set-i-eq0 c =
-    let opened : ValidArena c.args.arena.now =
-    c.requires.valid_arena.0 in
-    let ordered : ordered_in c.args.arena.now ≡ 1 =
-    sym c.ordered.ensures ∙ c.if-ordered-ne1.false in
-    let below : c.loop-n.n < count_in c.args.arena.now =
-    omega (arith, c.loop-n-test.true, c.requires.valid_arena.1) in
-    let reads-it : ValidNode c.args.arena.now c.order_entry-i.result =
-    entry-readable opened ordered below c.order_entry-i.ensures in
-    filtering-kept opened ordered c.loop-n.invariant below c.order_entry-i.ensures c.if-set-i-eq0.true
-    (c.requires.valid_arena.2.number _ (omega (arith, reads-it.below, c.requires.valid_arena.1)))
-
-pub loop-n-smaller : goal.loop-n-smaller
-loop-n-smaller c =
-    omega (arith, c.loop-n-test.true)
+    let fits = room c.requires.valid_arena c.ordered.ensures c.if-ordered-ne1.false c.loop-n-test.true c.order_entry-i.ensures c.loop-n.invariant in
+    omega (arith, fits, c.loop-n.invariant.long, c.requires.set_len.1)
 
 pub loop-n-preserved : goal.loop-n-preserved
 loop-n-preserved c =
-    let opened : ValidArena c.args.arena.now =
-    c.requires.valid_arena.0 in
-    let ordered : ordered_in c.args.arena.now ≡ 1 =
-    sym c.ordered.ensures ∙ c.if-ordered-ne1.false in
-    let below : c.loop-n.n < count_in c.args.arena.now =
-    omega (arith, c.loop-n-test.true, c.requires.valid_arena.1) in
-    filtering-gone opened ordered c.loop-n.invariant below c.order_entry-i.ensures c.if-set-i-eq0.false
-
-pub shape_of-order : goal.shape_of-order
-shape_of-order c =
-    c.loop-n.invariant.keeping.long
+    let valid = c.requires.valid_arena in
+    let ordered = sym c.ordered.ensures ∙ c.if-ordered-ne1.false in
+    let here = below valid c.ordered.ensures c.if-ordered-ne1.false c.loop-n-test.true c.order_entry-i.ensures in
+    let node = readable valid c.ordered.ensures c.if-ordered-ne1.false c.loop-n-test.true c.order_entry-i.ensures in
+    elim c.if-set-i-eq0.branch [
+      | then-set-i-eq0 w ↦ rw (w.order-is, w.kept-is) (filtering-kept valid.0 ordered c.loop-n.invariant here c.order_entry-i.ensures w.if-set-i-eq0.true
+          (valid.2.number _ (omega (arith, node.below, valid.1))))
+      | else-set-i-eq0 w ↦ rw (w.order-is, w.kept-is) (filtering-gone valid.0 ordered c.loop-n.invariant here c.order_entry-i.ensures w.if-set-i-eq0.false)
+    ]
 
 pub returns : goal.returns
 returns c =
-    let opened : ValidArena c.args.arena.now =
-    c.requires.valid_arena.0 in
-    let ordered : ordered_in c.args.arena.now ≡ 1 =
-    sym c.ordered.ensures ∙ c.if-ordered-ne1.false in
-    filtering-ends opened ordered c.loop-n.invariant c.requires.set_len.1 (omega (arith, c.loop-n-test.false, c.requires.valid_arena.1))
+    filtering-ends c.requires.valid_arena.0 (sym c.ordered.ensures ∙ c.if-ordered-ne1.false) c.loop-n.invariant c.requires.set_len.1
+    (omega (arith, c.loop-n-test.false, c.requires.valid_arena.1))

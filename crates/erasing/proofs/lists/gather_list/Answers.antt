@@ -2,11 +2,18 @@
 -- left, and what is kept of the others stands from `start` to `end`. The measure is how many are
 -- left. Assumes nothing.
 use native.Mathlib.Omega.{arith}
-use Prim.Native.Nat.{◌<◌}
+use mathlib.Core.Path.{◌≡◌}
+use mathlib.Core.List.{List}
+use Prim.Native.Nat.{ℕ, ◌<◌}
 use Rattle.model.specs.ArenaCalls.{ValidArena}
 use Rattle.arena.proofs.ReadNodes.{has-slot}
-use Rattle.erasing.proofs.KeptChildren.{walking_start, walking-readable, walking-room, walking-less, walking-kept, walking-gone, walking-ends}
+use Rattle.erasing.proofs.KeptChildren.{Walking, walking_start, walking-readable, walking-room, walking-less, walking-kept, walking-gone, walking-ends}
 use Rattle.erasing.proofs.lists.gather_list.Goals as goal
+
+-- a child has places in the arrays
+small : {bs set : List ℕ} {parent start : ℕ} {before : List ℕ} {child end : ℕ} {array : List ℕ} → ValidArena bs
+    → Walking bs set parent start before child end array → (child ≡ 4294967295 → ⊥) → child < 1024
+small opened w more = (has-slot _ _ (walking-readable opened w more)).within
 
 pub first_child-child-requires : goal.first_child-child-requires
 first_child-child-requires c =
@@ -16,108 +23,46 @@ pub loop-child-init : goal.loop-child-init
 loop-child-init c =
     walking_start c.requires.valid_arena.0 c.requires.valid_arena.1 (omega (arith, c.requires.set_len)) c.first_child-child.ensures
 
-pub overflow_cast-i : goal.overflow_cast-i
-overflow_cast-i c =
-    let opened : ValidArena c.args.arena.now =
-    c.requires.valid_arena.0 in
-    let below : c.loop-child.child < 1024 =
-    (has-slot _ _ (walking-readable opened c.loop-child.invariant c.loop-child-test.true)).within in
-    omega (arith, below)
-
 pub next_sibling-child-requires : goal.next_sibling-child-requires
 next_sibling-child-requires c =
-    let opened : ValidArena c.args.arena.now =
-    c.requires.valid_arena.0 in
-    has-slot _ _ (walking-readable opened c.loop-child.invariant c.loop-child-test.true)
+    has-slot _ _ (walking-readable c.requires.valid_arena.0 c.loop-child.invariant c.loop-child-test.true)
 
 pub bounds-set-i : goal.bounds-set-i
 bounds-set-i c =
-    let opened : ValidArena c.args.arena.now =
-    c.requires.valid_arena.0 in
-    let below : c.loop-child.child < 1024 =
-    (has-slot _ _ (walking-readable opened c.loop-child.invariant c.loop-child-test.true)).within in
-    omega (arith, below, c.requires.set_len.0)
-
-pub offset_bounds-numbers-i : goal.offset_bounds-numbers-i
-offset_bounds-numbers-i c =
-    let opened : ValidArena c.args.arena.now =
-    c.requires.valid_arena.0 in
-    let below : c.loop-child.child < 1024 =
-    (has-slot _ _ (walking-readable opened c.loop-child.invariant c.loop-child-test.true)).within in
-    omega (arith, below)
+    let fits = small c.requires.valid_arena.0 c.loop-child.invariant c.loop-child-test.true in
+    omega (arith, fits, c.requires.set_len.0)
 
 pub bounds-numbers-i : goal.bounds-numbers-i
 bounds-numbers-i c =
-    let opened : ValidArena c.args.arena.now =
-    c.requires.valid_arena.0 in
-    let below : c.loop-child.child < 1024 =
-    (has-slot _ _ (walking-readable opened c.loop-child.invariant c.loop-child-test.true)).within in
-    omega (arith, below, c.requires.valid_arena.2.long)
-
-pub offset_bounds-lists-end : goal.offset_bounds-lists-end
-offset_bounds-lists-end c =
-    let opened : ValidArena c.args.arena.now =
-    c.requires.valid_arena.0 in
-    let room : c.loop-child.end < 1024 =
-    omega (
-      arith,
-      walking-room opened c.loop-child.invariant c.loop-child-test.true,
-      c.loop-child.invariant.keeping.long,
-      c.requires.set_len.1,
-    ) in
-    omega (arith, room)
+    let fits = small c.requires.valid_arena.0 c.loop-child.invariant c.loop-child-test.true in
+    omega (arith, fits, c.requires.valid_arena.2.long)
 
 pub bounds-lists-end : goal.bounds-lists-end
-bounds-lists-end c =
-    let opened : ValidArena c.args.arena.now =
-    c.requires.valid_arena.0 in
-    walking-room opened c.loop-child.invariant c.loop-child-test.true
+bounds-lists-end c = walking-room c.requires.valid_arena.0 c.loop-child.invariant c.loop-child-test.true
 
 pub overflow_add-end : goal.overflow_add-end
 overflow_add-end c =
-    let opened : ValidArena c.args.arena.now =
-    c.requires.valid_arena.0 in
-    let room : c.loop-child.end < 1024 =
-    omega (
-      arith,
-      walking-room opened c.loop-child.invariant c.loop-child-test.true,
-      c.loop-child.invariant.keeping.long,
-      c.requires.set_len.1,
-    ) in
-    omega (arith, room)
+    let room = walking-room c.requires.valid_arena.0 c.loop-child.invariant c.loop-child-test.true in
+    omega (arith, room, c.loop-child.invariant.keeping.long, c.requires.set_len.1)
 
 pub loop-child-smaller-then-set-i-eq0 : goal.loop-child-smaller-then-set-i-eq0
 loop-child-smaller-then-set-i-eq0 c =
-    let opened : ValidArena c.args.arena.now =
-    c.requires.valid_arena.0 in
-    walking-less opened c.loop-child.invariant c.loop-child-test.true c.next_sibling-child.ensures
+    walking-less c.requires.valid_arena.0 c.loop-child.invariant c.loop-child-test.true c.next_sibling-child.ensures
 
 pub loop-child-preserved-then-set-i-eq0 : goal.loop-child-preserved-then-set-i-eq0
 loop-child-preserved-then-set-i-eq0 c =
-    let opened : ValidArena c.args.arena.now =
-    c.requires.valid_arena.0 in
-    let reads = walking-readable opened c.loop-child.invariant c.loop-child-test.true in
+    let opened = c.requires.valid_arena.0 in
+    let node = walking-readable opened c.loop-child.invariant c.loop-child-test.true in
     walking-kept opened c.loop-child.invariant c.loop-child-test.true c.next_sibling-child.ensures
-    c.if-set-i-eq0.true (c.requires.valid_arena.2.number _ reads.below)
+    c.if-set-i-eq0.true (c.requires.valid_arena.2.number _ node.below)
 
 pub loop-child-smaller : goal.loop-child-smaller
 loop-child-smaller c =
-    let opened : ValidArena c.args.arena.now =
-    c.requires.valid_arena.0 in
-    walking-less opened c.loop-child.invariant c.loop-child-test.true c.next_sibling-child.ensures
+    walking-less c.requires.valid_arena.0 c.loop-child.invariant c.loop-child-test.true c.next_sibling-child.ensures
 
 pub loop-child-preserved : goal.loop-child-preserved
 loop-child-preserved c =
-    let opened : ValidArena c.args.arena.now =
-    c.requires.valid_arena.0 in
-    walking-gone opened c.loop-child.invariant c.loop-child-test.true c.next_sibling-child.ensures c.if-set-i-eq0.false
-
-pub shape_of-lists : goal.shape_of-lists
-shape_of-lists c =
-    c.loop-child.invariant.keeping.long
+    walking-gone c.requires.valid_arena.0 c.loop-child.invariant c.loop-child-test.true c.next_sibling-child.ensures c.if-set-i-eq0.false
 
 pub returns : goal.returns
-returns c =
-    let opened : ValidArena c.args.arena.now =
-    c.requires.valid_arena.0 in
-    walking-ends opened c.loop-child.invariant c.loop-child-test.false
+returns c = walking-ends c.requires.valid_arena.0 c.loop-child.invariant c.loop-child-test.false

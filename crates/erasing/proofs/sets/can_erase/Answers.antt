@@ -1,10 +1,13 @@
--- `can_erase` meets its contract. The invariant of its loop: the nodes below `n` pass. The measure
--- is how many are left. Assumes nothing.
+-- `can_erase` meets its contract. The invariant of its loop: the nodes below `n` pass. Assumes
+-- nothing.
 use native.Mathlib.Omega.{arith}
-use mathlib.Core.Path.{sym, ◌∙◌}
+use mathlib.Core.Path.{◌≡◌, sym, ◌∙◌}
+use mathlib.Core.Bool.{true}
+use borrow.Author.Count.{below_none, below_more}
 use Rattle.model.specs.Arena.{decode}
+use Rattle.model.specs.Erasing.{spares_one}
 use Rattle.arena.proofs.ReadNodes.{sizes}
-use Rattle.erasing.proofs.AcceptLaws.{accepting-start, accepting-step, accepting-fails, accepting-ends}
+use Rattle.erasing.proofs.AcceptLaws.{accepting-fails, accepting-ends}
 use Rattle.erasing.proofs.sets.can_erase.Goals as goal
 
 pub count-count-requires : goal.count-count-requires
@@ -12,8 +15,7 @@ count-count-requires c =
     c.requires.valid_arena.whole
 
 pub loop-n-init : goal.loop-n-init
-loop-n-init c =
-    (omega arith, accepting-start (decode c.args.arena.now) c.args.set.now)
+loop-n-init c = below_none (λ k. spares_one (decode c.args.arena.now) c.args.set.now k ≡ true)
 
 pub spares_one-requires : goal.spares_one-requires
 spares_one-requires c =
@@ -25,21 +27,11 @@ returns-then-not-spares_one c =
     (omega (arith, c.loop-n-test, c.count-count.ensures, sizes c.args.arena.now c.requires.valid_arena))
     (sym c.spares_one.ensures ∙ c.if-not-spares_one.true)
 
-pub overflow_add-n : goal.overflow_add-n
-overflow_add-n c =
-    omega (arith, c.loop-n-test)
-
-pub loop-n-smaller : goal.loop-n-smaller
-loop-n-smaller c =
-    omega (arith, c.loop-n-test)
-
 pub loop-n-preserved : goal.loop-n-preserved
-loop-n-preserved c = (
-  omega (arith, c.loop-n-test),
-  accepting-step (decode c.args.arena.now) c.args.set.now c.loop-n.n c.loop-n.invariant.1 (sym c.spares_one.ensures ∙ c.if-not-spares_one.false),
-)
+loop-n-preserved c =
+    below_more (λ k. spares_one (decode c.args.arena.now) c.args.set.now k ≡ true) c.loop-n.n c.loop-n.invariant (sym c.spares_one.ensures ∙ c.if-not-spares_one.false)
 
 pub returns : goal.returns
 returns c =
-    accepting-ends _ _ c.loop-n.n c.loop-n.invariant.1
+    accepting-ends _ _ c.loop-n.n c.loop-n.invariant
     (omega (arith, c.loop-n-test, c.count-count.ensures, sizes c.args.arena.now c.requires.valid_arena))

@@ -1,13 +1,9 @@
--- `walking::write_walk` meets its contract. The invariant of its loop: `at` steps lead to x, all
--- nodes up to it are stored, and what is kept is true. The measure is how many are left. Assumes
--- nothing.
-use Prim.Native.Nat.{◌-◌, ◌≤◌}
+-- `walking::write_walk` meets its contract. The invariant of its loop: `at - 1` steps lead to x, all
+-- nodes up to it are stored, and what is kept is true. Assumes nothing.
+use Prim.Native.Nat.{◌-◌}
 use Rattle.ordering.specs.Ordering.{Knows}
 use Rattle.ordering.proofs.WayLaws.{Walking}
 use Rattle.ordering.proofs.walking.write_walk.Given as goal
 
 abbrev pub invariant-loop-at : goal.invariant-loop-at
-invariant-loop-at l = (l.at ≤ l.last) × Walking l.initial.arena l.count l.arena l.x l.at × Knows l.initial.arena l.known
-
-abbrev pub decreases-loop-at : goal.decreases-loop-at
-decreases-loop-at l = l.last - l.at
+invariant-loop-at l = Walking l.initial.arena l.count l.arena l.x (l.at - 1) × Knows l.initial.arena l.known

@@ -1,11 +1,8 @@
 -- `check_records` meets its contract. The loop's invariant is `CheckedTo`: the records from here on
--- are refused as all of them are. The measure is how many records are left. Assumes nothing.
-use mathlib.Core.Path.{sym, ◌∙◌}
-use Prim.Native.Nat.{◌≤◌, ◌<◌}
+-- are refused as all of them are. Assumes nothing.
+use Rattle.std.proofs.lemmas.Result.{err_from_is_err_and}
 use native.Mathlib.Omega.{arith}
-use lib.ListN.{length}
-use Rattle.snapshot.specs.SnapshotReading.{nodes_read}
-use Rattle.snapshot.proofs.SnapshotRecords.{record-here, piece-long, reached-more}
+use Rattle.snapshot.proofs.SnapshotRecords.{numbered, record-here, piece-long, reached-more}
 use Rattle.snapshot.proofs.CheckLaws.{checked-none, checked-all, refused-here, fits-prims, checked-more}
 use Rattle.snapshot.proofs.checks.check_records.Goals as goal
 
@@ -15,94 +12,56 @@ loop-n-init c =
 
 pub record_at-record-requires : goal.record_at-record-requires
 record_at-record-requires c =
-    let here : c.loop-n.n < length (nodes_read c.args.bytes.now) =
-    omega (arith, c.loop-n-test.true, c.requires.exact.counted) in
-    record-here _ _ _ c.loop-n.invariant.reached here
+    record-here _ _ _ c.loop-n.invariant.reached (numbered c.requires.exact c.loop-n-test.true)
 
-pub check_one-checked-requires : goal.check_one-checked-requires
-check_one-checked-requires c =
-    let here : c.loop-n.n < length (nodes_read c.args.bytes.now) =
-    omega (arith, c.loop-n-test.true, c.requires.exact.counted) in
-    let long : (28 ≤ length c.record_at-record.result.now) × (length c.record_at-record.result.now ≤ 282) =
-    piece-long _ _ _ c.loop-n.invariant.reached here c.record_at-record.result.now c.record_at-record.ensures in record { tables = record { kinds-right = c.kinds-kinds.ensures; pairs-right = c.pairs-pairs.ensures }; in_bounds = (long.0, c.loop-n.invariant.few_bytes) }
+pub check_one-requires : goal.check_one-requires
+check_one-requires c =
+    let long = piece-long _ _ _ c.loop-n.invariant.reached (numbered c.requires.exact c.loop-n-test.true) _ c.record_at-record.ensures in
+    record { tables = record { kinds-right = c.kinds-kinds.ensures; pairs-right = c.pairs-pairs.ensures }; in_bounds = (long.0, c.loop-n.invariant.few_bytes) }
 
-pub returns-in-Err : goal.returns-in-Err
-returns-in-Err c =
-    let here : c.loop-n.n < length (nodes_read c.args.bytes.now) =
-    omega (arith, c.loop-n-test.true, c.requires.exact.counted) in
-    refused-here _ _ _ _ _ _ c.loop-n.invariant here c.record_at-record.result.now c.record_at-record.ensures
-    c.check_one-checked.result c.check_one-checked.ensures _ c.in-Err.is
+pub returns-in_err-prim_count : goal.returns-in_err-prim_count
+returns-in_err-prim_count c =
+    let p = err_from_is_err_and c.from_residual.result c.from_residual.ensures.1 in
+    rw (p.1, p.2) (
+    refused-here _ _ _ _ _ _ c.loop-n.invariant (numbered c.requires.exact c.loop-n-test.true) c.record_at-record.result.now c.record_at-record.ensures
+    c.check_one.result c.check_one.ensures _ c.in_err-prim_count.was)
 
 pub bounds-prims-n : goal.bounds-prims-n
 bounds-prims-n c =
-    let here : c.loop-n.n < length (nodes_read c.args.bytes.now) =
-    omega (arith, c.loop-n-test.true, c.requires.exact.counted) in
-    let small : c.loop-n.n < 1024 =
-    fits-prims _ _ _ _ _ _ c.loop-n.invariant here c.record_at-record.result.now c.record_at-record.ensures
-    c.check_one-checked.result c.check_one-checked.ensures _ c.in-Ok.is in
+    let small = fits-prims _ _ _ _ _ _ c.loop-n.invariant (numbered c.requires.exact c.loop-n-test.true) c.record_at-record.result.now
+    c.record_at-record.ensures c.check_one.result c.check_one.ensures _ c.in_ok-prim_count.was in
     omega (arith, small, c.loop-n.invariant.whole)
 
 pub bounds-record-0 : goal.bounds-record-0
 bounds-record-0 c =
-    let here : c.loop-n.n < length (nodes_read c.args.bytes.now) =
-    omega (arith, c.loop-n-test.true, c.requires.exact.counted) in
-    let long : (28 ≤ length c.record_at-record.result.now) × (length c.record_at-record.result.now ≤ 282) =
-    piece-long _ _ _ c.loop-n.invariant.reached here c.record_at-record.result.now c.record_at-record.ensures in
+    let long = piece-long _ _ _ c.loop-n.invariant.reached (numbered c.requires.exact c.loop-n-test.true) _ c.record_at-record.ensures in
     omega (arith, long.0)
-
-pub with_root-has_root-requires : goal.with_root-has_root-requires
-with_root-has_root-requires c =
-    tt
 
 pub overflow_sub-path_bytes : goal.overflow_sub-path_bytes
 overflow_sub-path_bytes c =
-    let here : c.loop-n.n < length (nodes_read c.args.bytes.now) =
-    omega (arith, c.loop-n-test.true, c.requires.exact.counted) in
-    let long : (28 ≤ length c.record_at-record.result.now) × (length c.record_at-record.result.now ≤ 282) =
-    piece-long _ _ _ c.loop-n.invariant.reached here c.record_at-record.result.now c.record_at-record.ensures in
+    let long = piece-long _ _ _ c.loop-n.invariant.reached (numbered c.requires.exact c.loop-n-test.true) _ c.record_at-record.ensures in
     omega (arith, long.0)
 
 pub overflow_add-path_bytes : goal.overflow_add-path_bytes
 overflow_add-path_bytes c =
-    let here : c.loop-n.n < length (nodes_read c.args.bytes.now) =
-    omega (arith, c.loop-n-test.true, c.requires.exact.counted) in
-    let long : (28 ≤ length c.record_at-record.result.now) × (length c.record_at-record.result.now ≤ 282) =
-    piece-long _ _ _ c.loop-n.invariant.reached here c.record_at-record.result.now c.record_at-record.ensures in
+    let long = piece-long _ _ _ c.loop-n.invariant.reached (numbered c.requires.exact c.loop-n-test.true) _ c.record_at-record.ensures in
     omega (arith, long.1, c.loop-n.invariant.few_bytes)
 
 pub overflow_add-at : goal.overflow_add-at
 overflow_add-at c =
-    let here : c.loop-n.n < length (nodes_read c.args.bytes.now) =
-    omega (arith, c.loop-n-test.true, c.requires.exact.counted) in
-    let long : (28 ≤ length c.record_at-record.result.now) × (length c.record_at-record.result.now ≤ 282) =
-    piece-long _ _ _ c.loop-n.invariant.reached here c.record_at-record.result.now c.record_at-record.ensures in
+    let long = piece-long _ _ _ c.loop-n.invariant.reached (numbered c.requires.exact c.loop-n-test.true) _ c.record_at-record.ensures in
     omega (arith, long.1)
 
-pub overflow_add-at-in-Ok : goal.overflow_add-at-in-Ok
-overflow_add-at-in-Ok c =
-    let here : c.loop-n.n < length (nodes_read c.args.bytes.now) =
-    omega (arith, c.loop-n-test.true, c.requires.exact.counted) in
-    omega (arith, (reached-more _ _ _ c.loop-n.invariant.reached here _ c.record_at-record.ensures).within)
-
-pub overflow_add-n : goal.overflow_add-n
-overflow_add-n c =
-    omega (arith, c.loop-n-test.true)
-
-pub loop-n-smaller : goal.loop-n-smaller
-loop-n-smaller c =
-    omega (arith, c.loop-n-test.true)
+pub overflow_add-at-2 : goal.overflow_add-at-2
+overflow_add-at-2 c =
+    let next = reached-more _ _ _ c.loop-n.invariant.reached (numbered c.requires.exact c.loop-n-test.true) _ c.record_at-record.ensures in
+    omega (arith, next.within)
 
 pub loop-n-preserved : goal.loop-n-preserved
 loop-n-preserved c =
-    let here : c.loop-n.n < length (nodes_read c.args.bytes.now) =
-    omega (arith, c.loop-n-test.true, c.requires.exact.counted) in
     rw c.with_root-has_root.ensures
-    (checked-more _ _ _ _ _ _ c.loop-n.invariant here c.record_at-record.result.now c.record_at-record.ensures
-    c.check_one-checked.result c.check_one-checked.ensures _ c.in-Ok.is)
-
-pub shape_of-prims : goal.shape_of-prims
-shape_of-prims c =
-    c.loop-n.invariant.whole ∙ sym c.requires.prims_len
+    (checked-more _ _ _ _ _ _ c.loop-n.invariant (numbered c.requires.exact c.loop-n-test.true) c.record_at-record.result.now c.record_at-record.ensures
+    c.check_one.result c.check_one.ensures _ c.in_ok-prim_count.was)
 
 pub returns : goal.returns
 returns c =

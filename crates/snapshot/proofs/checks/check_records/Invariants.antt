@@ -1,11 +1,7 @@
 -- `check_records` meets its contract. The loop's invariant is `CheckedTo`: the records from here on
--- are refused as all of them are. The measure is how many records are left. Assumes nothing.
-use Prim.Native.Nat.{◌-◌}
+-- are refused as all of them are. Assumes nothing.
 use Rattle.snapshot.proofs.CheckLaws.{CheckedTo}
 use Rattle.snapshot.proofs.checks.check_records.Given as goal
 
 abbrev pub invariant-loop-n : goal.invariant-loop-n
 invariant-loop-n l = CheckedTo l.bytes l.prims l.at l.path_bytes l.has_root l.n
-
-abbrev pub decreases-loop-n : goal.decreases-loop-n
-decreases-loop-n l = l.count - l.n

