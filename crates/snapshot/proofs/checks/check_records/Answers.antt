@@ -52,8 +52,8 @@ overflow_add-at c =
     let long = piece-long _ _ _ c.loop-n.invariant.reached (numbered c.requires.exact c.loop-n-test.true) _ c.record_at-record.ensures in
     omega (arith, long.1)
 
-pub overflow_add-at-2 : goal.overflow_add-at-2
-overflow_add-at-2 c =
+pub overflow_add-at-in-loop-n : goal.overflow_add-at-2
+overflow_add-at-in-loop-n c =
     let next = reached-more _ _ _ c.loop-n.invariant.reached (numbered c.requires.exact c.loop-n-test.true) _ c.record_at-record.ensures in
     omega (arith, next.within)
 
