@@ -63,25 +63,34 @@ fn answer_block<W: Write>(
     to: &mut W,
     out: &mut [u8],
 ) -> Rest {
-    let mut begun = rest.held;
-    let mut swapped = rest.swapped;
-    let mut used: usize = 0;
-    let mut at: usize = 0;
-    while at < block.len() {
-        let end = calls_text::find(block, at, b'\n');
-        begun = command_io::append(line, begun, &block[at..end]);
-        at = end + 1;
-        if end < block.len() {
-            let answer = answer_line(line, begun, first, second, saved, swapped, to, out, used);
-            used = answer.used;
-            swapped = answer.swapped;
-            begun = 0;
-        }
+    let mut held = rest.held;
+    let mut state = State {
+        used: 0,
+        swapped: rest.swapped,
+    };
+    for part in block.split_inclusive(|byte| *byte == b'\n') {
+        let Some(end) = part.strip_suffix(b"\n") else {
+            held = command_io::append(line, held, part);
+            break;
+        };
+        held = command_io::append(line, held, end);
+        state = answer_line(
+            line,
+            held,
+            first,
+            second,
+            saved,
+            state.swapped,
+            to,
+            out,
+            state.used,
+        );
+        held = 0;
     }
-    calls_text::flush(to, out, used);
+    calls_text::flush(to, out, state.used);
     Rest {
-        held: begun,
-        swapped,
+        held,
+        swapped: state.swapped,
     }
 }
 
@@ -97,8 +106,8 @@ fn read_block<R: Read>(from: &mut R, block: &mut [u8]) -> usize
 }
 
 // Answers each line that ends in a newline, block by block, until the input ends or a read fails. A
-// proved loop has to end, and nothing says that the input does: so it counts its turns down, from a
-// number that no run uses up.
+// proved loop has to end, and nothing says that the input does: so its turns are counted, up to a
+// number that no run reaches.
 fn answer_blocks<R: Read, W: Write>(
     from: &mut R,
     block: &mut [u8],
@@ -109,26 +118,18 @@ fn answer_blocks<R: Read, W: Write>(
     to: &mut W,
     out: &mut [u8],
 ) -> Rest {
-    let mut held: usize = 0;
-    let mut swapped = false;
-    let mut turns = u64::MAX;
-    while 0 < turns {
+    let mut rest = Rest {
+        held: 0,
+        swapped: false,
+    };
+    for _ in 0..u64::MAX {
         let count = read_block(from, block);
-        let rest = answer_block(
-            &block[0..count],
-            line,
-            Rest { held, swapped },
-            first,
-            second,
-            saved,
-            to,
-            out,
-        );
-        held = rest.held;
-        swapped = rest.swapped;
-        turns = calls_text::turns_left(turns - 1, count);
+        if count == 0 {
+            break;
+        }
+        rest = answer_block(&block[..count], line, rest, first, second, saved, to, out);
     }
-    Rest { held, swapped }
+    rest
 }
 
 // Answers a last line without a newline, where `line` holds one, and writes the answer.

@@ -1,7 +1,7 @@
 // The answer to any line, the two arenas that the lines work on, and a third where one of them is
 // saved. The lines about more than one arena are here; the others are answered by the crates
 // `calls_read` and `calls_write`.
-use calls_text::{Answered, bad_line, is_call, put, put_refusal, word};
+use calls_text::{bad_line, is_call, put, put_refusal, word};
 use std::io::Write;
 
 // What goes on from line to line: how many bytes of the output are used, and whether the second
@@ -10,12 +10,6 @@ use std::io::Write;
 pub(crate) struct State {
     pub(crate) used: usize,
     pub(crate) swapped: bool,
-}
-
-fn fill(arena: &mut [u8], byte: u8) {
-    for place in arena.iter_mut() {
-        *place = byte;
-    }
 }
 
 // Copies `from` over `onto`; does nothing where their lengths differ.
@@ -27,9 +21,9 @@ fn overwrite(onto: &mut [u8], from: &[u8]) {
 
 // Makes three arenas hold the empty graph.
 fn empty(first: &mut [u8], second: &mut [u8], saved: &mut [u8]) {
-    fill(first, 0);
-    fill(second, 0);
-    fill(saved, 0);
+    first.fill(0);
+    second.fill(0);
+    saved.fill(0);
 }
 
 // Puts the answer to a line, without a newline.
@@ -117,7 +111,7 @@ fn answer_saving<W: Write>(
         return put(to, out, used, b"ok");
     }
     if is_call(line, b"rubbish", 1) {
-        fill(arena, 255);
+        arena.fill(255);
         return put(to, out, used, b"ok");
     }
     answer_on(line, arena, to, out, used)
@@ -132,15 +126,13 @@ fn answer_on<W: Write>(
     out: &mut [u8],
     used: usize,
 ) -> usize {
-    if line.len() == 0 {
+    if line.is_empty() {
         return used;
     }
-    let made = calls_write::make::answer(line, arena, to, out, used);
-    if let Answered::Used(end) = made {
+    if let Some(end) = calls_write::make::answer(line, arena, to, out, used) {
         return end;
     }
-    let changed = calls_write::change::answer(line, arena, to, out, used);
-    if let Answered::Used(end) = changed {
+    if let Some(end) = calls_write::change::answer(line, arena, to, out, used) {
         return end;
     }
     answer_seen(line, arena, to, out, used)
@@ -154,16 +146,13 @@ fn answer_seen<W: Write>(
     out: &mut [u8],
     used: usize,
 ) -> usize {
-    let seen = calls_read::look::answer(line, arena, to, out, used);
-    if let Answered::Used(end) = seen {
+    if let Some(end) = calls_read::look::answer(line, arena, to, out, used) {
         return end;
     }
-    let compared = calls_read::compare::answer(line, arena, to, out, used);
-    if let Answered::Used(end) = compared {
+    if let Some(end) = calls_read::compare::answer(line, arena, to, out, used) {
         return end;
     }
-    let path = calls_read::paths::answer(line, to, out, used);
-    if let Answered::Used(end) = path {
+    if let Some(end) = calls_read::paths::answer(line, to, out, used) {
         return end;
     }
     bad_line(to, out, used)

@@ -1,5 +1,4 @@
 // The line `chains`: each node's child list (document 01: chain).
-use model::Refusal;
 use calls_text::{put_between, put_number, put_refusal};
 use std::io::Write;
 
@@ -27,21 +26,11 @@ fn put_lists<W: Write>(arena: &[u8], count: u32, to: &mut W, out: &mut [u8], use
 
 // Puts the first child and the next sibling of each node below `count` into its place.
 fn read_links(arena: &[u8], count: u32, first: &mut [usize], next: &mut [usize]) {
-    for n in 0..count {
-        set_links(prim_graph::node(arena, n), n as usize, first, next);
-    }
-}
-
-fn set_links(read: Result<arena::Node, Refusal>, n: usize, first: &mut [usize], next: &mut [usize]) {
-    if let Ok(node) = read {
-        set(first, n, node.first_child.0);
-        set(next, n, node.next_sibling.0);
-    }
-}
-
-fn set(links: &mut [usize], n: usize, link: u32) {
-    if n < links.len() {
-        links[n] = link as usize;
+    for (n, (first, next)) in (0..count).zip(first.iter_mut().zip(next)) {
+        if let Ok(node) = prim_graph::node(arena, n) {
+            *first = node.first_child.0 as usize;
+            *next = node.next_sibling.0 as usize;
+        }
     }
 }
 
@@ -55,12 +44,9 @@ fn put_each<W: Write>(
     used: usize,
 ) -> usize {
     let mut end = used;
-    for n in 0..count {
-        if first.len() <= n {
-            return end;
-        }
+    for (n, child) in first.iter().take(count).enumerate() {
         let start = put_between(to, out, end, n, b";");
-        end = put_list(first[n], next, to, out, start);
+        end = put_list(*child, next, to, out, start);
     }
     end
 }

@@ -1,5 +1,8 @@
 // The lines that look at a graph.
-use calls_text::{Answered, Number, bad_line, front, is_call, put, put_bytes, put_found, put_numbered, put_path, put_refusal, put_tested, read_number, word};
+use model::Refusal;
+use crate::relations::tested_line;
+use calls_text::{bad_line, front, is_call, put, put_bytes, put_found, put_numbered, put_path, put_refusal, read_number, word};
+use prim_graph::{intro_path, is_due_to_ancestor, path_at_introduction};
 use std::io::Write;
 
 // The answer to a line that looks at the whole graph, or at its nodes.
@@ -9,12 +12,12 @@ pub fn answer<W: Write>(
     to: &mut W,
     out: &mut [u8],
     used: usize,
-) -> Answered {
+) -> Option<usize> {
     if is_call(line, b"write", 1) {
-        return Answered::Used(write_line(arena, to, out, used));
+        return Some(write_line(arena, to, out, used));
     }
     if is_call(line, b"marks", 1) {
-        return Answered::Used(marks_line(arena, to, out, used));
+        return Some(marks_line(arena, to, out, used));
     }
     answer_of_nodes(line, arena, to, out, used)
 }
@@ -26,12 +29,12 @@ fn answer_of_nodes<W: Write>(
     to: &mut W,
     out: &mut [u8],
     used: usize,
-) -> Answered {
+) -> Option<usize> {
     if is_call(line, b"dump", 1) {
-        return Answered::Used(crate::records::dump_line(arena, to, out, used));
+        return Some(crate::records::dump_line(arena, to, out, used));
     }
     if is_call(line, b"chains", 1) {
-        return Answered::Used(crate::children::chains_line(arena, to, out, used));
+        return Some(crate::children::chains_line(arena, to, out, used));
     }
     answer_of_node(line, arena, to, out, used)
 }
@@ -43,15 +46,15 @@ fn answer_of_node<W: Write>(
     to: &mut W,
     out: &mut [u8],
     used: usize,
-) -> Answered {
+) -> Option<usize> {
     if is_call(line, b"using", 3) {
-        return Answered::Used(using_line(line, arena, to, out, used));
+        return Some(using_line(line, arena, to, out, used));
     }
     if is_call(line, b"below", 2) {
-        return Answered::Used(below_line(line, arena, to, out, used));
+        return Some(below_line(line, arena, to, out, used));
     }
     if is_call(line, b"due", 2) {
-        return Answered::Used(due_line(line, arena, to, out, used));
+        return Some(tested_line(line, arena, is_due_to_ancestor, to, out, used));
     }
     answer_of_introduction(line, arena, to, out, used)
 }
@@ -63,14 +66,14 @@ fn answer_of_introduction<W: Write>(
     to: &mut W,
     out: &mut [u8],
     used: usize,
-) -> Answered {
+) -> Option<usize> {
     if is_call(line, b"intro", 2) {
-        return Answered::Used(intro_line(line, arena, to, out, used));
+        return Some(path_line(line, arena, path_at_introduction, to, out, used));
     }
     if is_call(line, b"introduced", 2) {
-        return Answered::Used(introduced_line(line, arena, to, out, used));
+        return Some(path_line(line, arena, intro_path, to, out, used));
     }
-    Answered::Unknown
+    None
 }
 
 // `write`: the snapshot.
@@ -107,18 +110,14 @@ fn put_marks<W: Write>(
     out: &mut [u8],
     used: usize,
 ) -> usize {
-    let first = mark(ordered);
-    let second = mark(finalized);
-    let third = mark(shallow);
-    let marks = [first, b' ', second, b' ', third];
+    let marks = [
+        b'0' + ordered as u8,
+        b' ',
+        b'0' + finalized as u8,
+        b' ',
+        b'0' + shallow as u8,
+    ];
     put(to, out, used, &marks)
-}
-
-fn mark(set: bool) -> u8 {
-    if set {
-        return b'1';
-    }
-    b'0'
 }
 
 // `using STACK PATH`: the node that uses the site, or `-`.
@@ -129,8 +128,7 @@ fn using_line<W: Write>(
     out: &mut [u8],
     used: usize,
 ) -> usize {
-    let read = read_number(word(line, 1));
-    let Number::Value(stack) = read else {
+    let Some(stack) = read_number(word(line, 1)) else {
         return bad_line(to, out, used);
     };
     let found = prim_graph::node_using_site(arena, stack, word(line, 2));
@@ -145,8 +143,7 @@ fn below_line<W: Write>(
     out: &mut [u8],
     used: usize,
 ) -> usize {
-    let read = read_number(word(line, 1));
-    let Number::Value(n) = read else {
+    let Some(n) = read_number(word(line, 1)) else {
         return bad_line(to, out, used);
     };
     put_numbered(
@@ -157,45 +154,22 @@ fn below_line<W: Write>(
     )
 }
 
-// `intro N`: the node's path at its introduction.
-fn intro_line<W: Write>(
+// `intro N`: the node's path at its introduction; `introduced N`: the path of the site that
+// introduced the node.
+fn path_line<W: Write, F: Fn(&[u8], u32, &mut [u8]) -> Result<u32, Refusal>>(
     line: &[u8],
     arena: &[u8],
+    find: F,
     to: &mut W,
     out: &mut [u8],
     used: usize,
-) -> usize {
-    let read = read_number(word(line, 1));
-    let Number::Value(n) = read else {
+) -> usize
+    requires { F.IsAlwaysCallable find }
+{
+    let Some(n) = read_number(word(line, 1)) else {
         return bad_line(to, out, used);
     };
     let mut path = [0u8; 255];
-    let found = prim_graph::path_at_introduction(arena, n, &mut path);
+    let found = find(arena, n, &mut path);
     put_path(to, out, used, found, &path)
-}
-
-// `introduced N`: the path of the site that introduced the node.
-fn introduced_line<W: Write>(
-    line: &[u8],
-    arena: &[u8],
-    to: &mut W,
-    out: &mut [u8],
-    used: usize,
-) -> usize {
-    let read = read_number(word(line, 1));
-    let Number::Value(n) = read else {
-        return bad_line(to, out, used);
-    };
-    let mut path = [0u8; 255];
-    let found = prim_graph::intro_path(arena, n, &mut path);
-    put_path(to, out, used, found, &path)
-}
-
-// `due N`: whether the node was introduced above this prim.
-fn due_line<W: Write>(line: &[u8], arena: &[u8], to: &mut W, out: &mut [u8], used: usize) -> usize {
-    let read = read_number(word(line, 1));
-    let Number::Value(n) = read else {
-        return bad_line(to, out, used);
-    };
-    put_tested(to, out, used, prim_graph::is_due_to_ancestor(arena, n))
 }

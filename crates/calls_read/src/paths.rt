@@ -1,26 +1,26 @@
 // The lines on paths.
-use calls_text::{Answered, ShortNumber, bad_line, is_call, put, put_number, put_refusal, read_short_number, word};
+use calls_text::{bad_line, is_call, put, put_number, put_refusal, read_short_number, word};
 use model::Refusal;
 use std::io::Write;
 
 // The answer to a line on paths.
-pub fn answer<W: Write>(line: &[u8], to: &mut W, out: &mut [u8], used: usize) -> Answered {
+pub fn answer<W: Write>(line: &[u8], to: &mut W, out: &mut [u8], used: usize) -> Option<usize> {
     if is_call(line, b"path", 2) {
-        return Answered::Used(path_line(line, to, out, used));
+        return Some(path_line(line, to, out, used));
     }
     if is_call(line, b"back", 3) {
-        return Answered::Used(back_line(line, to, out, used));
+        return Some(back_line(line, to, out, used));
     }
     if is_call(line, b"join", 3) {
-        return Answered::Used(join_line(line, to, out, used));
+        return Some(join_line(line, to, out, used));
     }
-    Answered::Unknown
+    None
 }
 
 // A space, and then the bytes, or `-` where there are none.
 fn put_next<W: Write>(to: &mut W, out: &mut [u8], used: usize, bytes: &[u8]) -> usize {
     let next = put(to, out, used, b" ");
-    if bytes.len() == 0 {
+    if bytes.is_empty() {
         return put(to, out, next, b"-");
     }
     put(to, out, next, bytes)
@@ -44,10 +44,9 @@ fn put_path<W: Write>(to: &mut W, out: &mut [u8], used: usize, path: &[u8], name
 
 // `back D PATH`: the front part of the path as it was D names ago.
 fn back_line<W: Write>(line: &[u8], to: &mut W, out: &mut [u8], used: usize) -> usize {
-    let depth = read_short_number(word(line, 1));
-    match depth {
-        ShortNumber::Value(names) => put_back(to, out, used, word(line, 2), names),
-        ShortNumber::Bad => bad_line(to, out, used),
+    match read_short_number(word(line, 1)) {
+        Some(names) => put_back(to, out, used, word(line, 2), names),
+        None => bad_line(to, out, used),
     }
 }
 

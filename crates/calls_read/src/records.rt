@@ -41,52 +41,18 @@ fn put_node_path<W: Write>(arena: &[u8], n: u32, to: &mut W, out: &mut [u8], use
 
 // The record's numbers, each with a comma.
 fn put_record<W: Write>(node: Node, to: &mut W, out: &mut [u8], used: usize) -> usize {
-    let before_parent = put_head(node.arc, node.flags, node.stack, node.layer, to, out, used);
+    let head = [node.arc as u32, node.flags as u32, node.stack, node.layer];
+    let before_parent = put_numbers(&head, to, out, used);
     let before_origin = put_link(node.parent.0, to, out, before_parent);
     let before_rest = put_link(node.origin.0, to, out, before_origin);
-    put_rest(
-        node.depth,
-        node.sibling,
-        node.restriction,
-        node.spec_from,
-        node.has_specs,
-        to,
-        out,
-        before_rest,
-    )
-}
-
-fn put_head<W: Write>(
-    arc: u8,
-    flags: u8,
-    stack: u32,
-    layer: u32,
-    to: &mut W,
-    out: &mut [u8],
-    used: usize,
-) -> usize {
-    let numbers = [arc as u32, flags as u32, stack, layer];
-    put_numbers(&numbers, to, out, used)
-}
-
-fn put_rest<W: Write>(
-    depth: u16,
-    sibling: u16,
-    restriction: u16,
-    spec_from: u16,
-    has_specs: u8,
-    to: &mut W,
-    out: &mut [u8],
-    used: usize,
-) -> usize {
-    let numbers = [
-        depth as u32,
-        sibling as u32,
-        restriction as u32,
-        spec_from as u32,
-        has_specs as u32,
+    let rest = [
+        node.depth as u32,
+        node.sibling as u32,
+        node.restriction as u32,
+        node.spec_from as u32,
+        node.has_specs as u32,
     ];
-    put_numbers(&numbers, to, out, used)
+    put_numbers(&rest, to, out, before_rest)
 }
 
 // Each number and a comma.

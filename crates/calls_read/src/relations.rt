@@ -1,8 +1,9 @@
 // The lines on what the comparison asks of nodes. They are lines of our own: document 01 has no
 // sentence for these calls of the Rust.
 use model::Refusal;
-use crate::compare::{Pair, read_pair};
-use calls_text::{Answered, Number, bad_line, is_call, put, put_found, put_node, put_number, put_refusal, put_tested, read_number, word};
+use crate::compare::read_pair;
+use calls_text::{bad_line, is_call, put, put_found, put_node, put_number, put_refusal, put_tested, read_number, word};
+use prim_graph::{is_ancestor_of, is_propagated_specializes, same_site};
 use std::io::Write;
 use strength::calls::Result<(NodeId, Option<NodeId>), Refusal>;
 
@@ -13,12 +14,12 @@ pub(crate) fn answer<W: Write>(
     to: &mut W,
     out: &mut [u8],
     used: usize,
-) -> Answered {
+) -> Option<usize> {
     if is_call(line, b"ancestor", 3) {
-        return Answered::Used(ancestor_line(line, arena, to, out, used));
+        return Some(pair_line(line, arena, is_ancestor_of, to, out, used));
     }
     if is_call(line, b"site", 3) {
-        return Answered::Used(site_line(line, arena, to, out, used));
+        return Some(pair_line(line, arena, same_site, to, out, used));
     }
     answer_of_node(line, arena, to, out, used)
 }
@@ -30,67 +31,53 @@ fn answer_of_node<W: Write>(
     to: &mut W,
     out: &mut [u8],
     used: usize,
-) -> Answered {
+) -> Option<usize> {
     if is_call(line, b"propagated", 2) {
-        return Answered::Used(propagated_line(line, arena, to, out, used));
+        return Some(tested_line(line, arena, is_propagated_specializes, to, out, used));
     }
     if is_call(line, b"copy", 2) {
-        return Answered::Used(copy_line(line, arena, to, out, used));
+        return Some(copy_line(line, arena, to, out, used));
     }
     if is_call(line, b"class", 2) {
-        return Answered::Used(class_line(line, arena, to, out, used));
+        return Some(class_line(line, arena, to, out, used));
     }
-    Answered::Unknown
+    None
 }
 
-// `ancestor X Y`: whether X is an ancestor of Y below the local root.
-fn ancestor_line<W: Write>(
+// `ancestor X Y`: whether X is an ancestor of Y below the local root; `site A B`: whether two nodes
+// have one site.
+fn pair_line<W: Write, F: Fn(&[u8], u32, u32) -> Result<bool, Refusal>>(
     line: &[u8],
     arena: &[u8],
+    test: F,
     to: &mut W,
     out: &mut [u8],
     used: usize,
-) -> usize {
-    let pair = read_pair(line);
-    match pair {
-        Pair::Nodes(x, y) => put_tested(to, out, used, prim_graph::is_ancestor_of(arena, x, y)),
-        Pair::Bad => bad_line(to, out, used),
+) -> usize
+    requires { F.IsAlwaysCallable test }
+{
+    match read_pair(line) {
+        Some((a, b)) => put_tested(to, out, used, test(arena, a, b)),
+        None => bad_line(to, out, used),
     }
 }
 
-// `site A B`: whether two nodes have one site.
-fn site_line<W: Write>(
+// `propagated N`: whether the node is a propagated specializes; `due N`: whether it was introduced
+// above this prim.
+pub(crate) fn tested_line<W: Write, F: Fn(&[u8], u32) -> Result<bool, Refusal>>(
     line: &[u8],
     arena: &[u8],
+    test: F,
     to: &mut W,
     out: &mut [u8],
     used: usize,
-) -> usize {
-    let pair = read_pair(line);
-    match pair {
-        Pair::Nodes(a, b) => put_tested(to, out, used, prim_graph::same_site(arena, a, b)),
-        Pair::Bad => bad_line(to, out, used),
+) -> usize
+    requires { F.IsAlwaysCallable test }
+{
+    match read_number(word(line, 1)) {
+        Some(n) => put_tested(to, out, used, test(arena, n)),
+        None => bad_line(to, out, used),
     }
-}
-
-// `propagated N`: whether the node is a propagated specializes.
-fn propagated_line<W: Write>(
-    line: &[u8],
-    arena: &[u8],
-    to: &mut W,
-    out: &mut [u8],
-    used: usize,
-) -> usize {
-    let read = read_number(word(line, 1));
-    let Number::Value(n) = read else {
-        return bad_line(to, out, used);
-    };
-    put_tested(
-        to,
-        out,
-        used,
-        prim_graph::is_propagated_specializes(arena, n),
-    )
 }
 
 // `copy N`: the node's copy under the local root, or `-`.
@@ -101,8 +88,7 @@ fn copy_line<W: Write>(
     out: &mut [u8],
     used: usize,
 ) -> usize {
-    let read = read_number(word(line, 1));
-    let Number::Value(n) = read else {
+    let Some(n) = read_number(word(line, 1)) else {
         return bad_line(to, out, used);
     };
     let found = prim_graph::get_propagated_specializes_node(arena, n);
@@ -117,8 +103,7 @@ fn class_line<W: Write>(
     out: &mut [u8],
     used: usize,
 ) -> usize {
-    let read = read_number(word(line, 1));
-    let Number::Value(n) = read else {
+    let Some(n) = read_number(word(line, 1)) else {
         return bad_line(to, out, used);
     };
     let found = prim_graph::starting_node_of_class_hierarchy(arena, n);

@@ -3,14 +3,6 @@ use crate::output::{front, put, put_number};
 use model::Refusal;
 use std::io::Write;
 
-// What a crate that answers some kinds of lines says to any line: how many bytes of the output are
-// used behind its answer, or that the line is of no kind that it knows.
-#[derive(Clone, Copy)]
-pub enum Answered {
-    Used(usize),
-    Unknown,
-}
-
 // The answer to a line that is no call.
 pub fn bad_line<W: Write>(to: &mut W, out: &mut [u8], used: usize) -> usize {
     put(to, out, used, b"bad line")

@@ -1,87 +1,50 @@
 // Bytes as pairs of hexadecimal digits, in lower case.
-ghost use Rattle.std.specs.Prelude.{◌≤◌};
+ghost use Rattle.std.specs.Prelude.{IfSome, ◌<◌};
 
 use crate::output::put;
 use std::io::Write;
 
-// How many bytes a word gave, or that it is none of pairs.
-#[derive(Clone, Copy)]
-pub enum Bytes {
-    Length(usize),
-    Bad,
-}
-
-// The number of a digit: 16 of a byte that is none.
-fn digit(byte: u8) -> u16
-    ensures { result ≤ 16 }
+// The number of a digit.
+fn digit(byte: u8) -> Option<u8>
+    ensures { IfSome result (λ number. number < 16) }
 {
-    if byte < b'0' {
-        return 16;
+    match byte {
+        b'0'..=b'9' => Some(byte - b'0'),
+        b'a'..=b'f' => Some(byte - b'a' + 10),
+        _ => None,
     }
-    if byte <= b'9' {
-        return (byte - b'0') as u16;
-    }
-    if byte < b'a' {
-        return 16;
-    }
-    if byte <= b'f' {
-        return (byte - b'a' + 10) as u16;
-    }
-    16
 }
 
-// The byte of two digits: 256 where one is none.
-fn pair(high: u8, low: u8) -> u16 {
-    let first = digit(high);
-    let second = digit(low);
-    if first == 16 {
-        return 256;
-    }
-    if second == 16 {
-        return 256;
-    }
-    first * 16 + second
+// The byte of two digits.
+fn pair(high: u8, low: u8) -> Option<u8> {
+    Some(digit(high)? * 16 + digit(low)?)
 }
 
-// Puts the bytes that the word spells at the front of `bytes`. What that holds after a bad word, or
-// one of more bytes than it has, is left free.
-pub fn read_bytes(word: &[u8], bytes: &mut [u8]) -> Bytes {
-    let mut at: usize = 0;
-    let mut count: usize = 0;
-    while at < word.len() {
-        if word.len() - at < 2 {
-            return Bytes::Bad;
-        }
-        if bytes.len() <= count {
-            return Bytes::Bad;
-        }
-        let byte = pair(word[at], word[at + 1]);
-        if 255 < byte {
-            return Bytes::Bad;
-        }
-        bytes[count] = byte as u8;
-        count += 1;
-        at += 2;
+// Puts the bytes that the word spells at the front of `bytes`, and answers how many they are; none
+// where the word is not of pairs, or of more than `bytes` has room for. What `bytes` then holds is
+// left free.
+pub fn read_bytes(word: &[u8], bytes: &mut [u8]) -> Option<usize> {
+    let (pairs, rest) = word.as_chunks::<2>();
+    if !rest.is_empty() || bytes.len() < pairs.len() {
+        return None;
     }
-    Bytes::Length(count)
+    for ([high, low], byte) in pairs.iter().zip(bytes) {
+        *byte = pair(*high, *low)?;
+    }
+    Some(pairs.len())
 }
 
 // The digit of a number below 16.
 fn letter(number: u8) -> u8 {
-    if number < 10 {
-        return b'0' + number;
+    match number {
+        0..=9 => b'0' + number,
+        10..=15 => b'a' - 10 + number,
+        _ => b'-',
     }
-    if number < 16 {
-        return b'a' - 10 + number;
-    }
-    b'-'
 }
 
 fn put_pair<W: Write>(to: &mut W, out: &mut [u8], used: usize, byte: u8) -> usize {
-    let high = letter(byte / 16);
-    let low = letter(byte % 16);
-    let digits = [high, low];
-    put(to, out, used, &digits)
+    put(to, out, used, &[letter(byte / 16), letter(byte % 16)])
 }
 
 // Puts two digits for each byte, and answers how many bytes of `out` are then used.

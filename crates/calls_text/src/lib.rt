@@ -1,18 +1,16 @@
 // The text of the command `calls`: the words of a line and the numbers among them (words.rt), bytes
-// in hexadecimal (hex.rt), the answers that all lines share (answers.rt), the output (output.rt)
-// and the turns of its loop (input.rt). What is proved is where `find` stops, and else only that
-// every function is safe and ends: no public function has a `requires`, and each does nothing with
-// a number that does not fit the buffer beside it.
+// in hexadecimal (hex.rt), the answers that all lines share (answers.rt) and the output
+// (output.rt). What is proved is where `find` stops, and else only that every function is safe and
+// ends: no public function has a `requires`, and each does nothing with a number that does not fit
+// the buffer beside it.
 #![tactic(auto)]
 
 mod answers;
 mod hex;
-mod input;
 mod output;
 mod words;
 
-pub use answers::{Answered, bad_line, put_finished, put_found, put_node, put_numbered, put_path, put_refusal, put_tested};
-pub use hex::{Bytes, put_bytes, read_bytes};
-pub use input::turns_left;
+pub use answers::{bad_line, put_finished, put_found, put_node, put_numbered, put_path, put_refusal, put_tested};
+pub use hex::{put_bytes, read_bytes};
 pub use output::{flush, front, put, put_between, put_number};
-pub use words::{Number, ShortNumber, find, is_call, is_dash, read_number, read_short_number, word};
+pub use words::{find, is_call, is_dash, read_number, read_short_number, word};

@@ -9,7 +9,7 @@ use std::io::Write;
 // Writes the first `used` bytes of `out`.
 pub fn flush<W: Write>(to: &mut W, out: &[u8], used: usize) {
     if used <= out.len() {
-        let _ = to.write_all(&out[0..used]);
+        let _ = to.write_all(&out[..used]);
     }
 }
 
@@ -18,10 +18,8 @@ pub fn flush<W: Write>(to: &mut W, out: &[u8], used: usize) {
 fn place<W: Write>(to: &mut W, out: &[u8], used: usize, more: usize) -> usize
     ensures { result ≤ length out.now }
 {
-    if used <= out.len() {
-        if more <= out.len() - used {
-            return used;
-        }
+    if used <= out.len() && more <= out.len() - used {
+        return used;
     }
     flush(to, out, used);
     0
@@ -44,7 +42,7 @@ pub fn put<W: Write>(to: &mut W, out: &mut [u8], used: usize, bytes: &[u8]) -> u
 pub fn put_number<W: Write>(to: &mut W, out: &mut [u8], used: usize, number: u64) -> usize {
     let mut digits = [0u8; 20];
     let count = io::decimal(number, &mut digits);
-    put(to, out, used, &digits[0..count])
+    put(to, out, used, &digits[..count])
 }
 
 // Puts what parts an item from those before it: nothing where it is the first.
@@ -61,18 +59,7 @@ pub fn put_between<W: Write>(
     put(to, out, used, between)
 }
 
-// Where the first `most` bytes end, or all of them where there are fewer.
-fn front_end(bytes: &[u8], most: usize) -> usize
-    ensures { result ≤ length bytes.now }
-{
-    if bytes.len() < most {
-        return bytes.len();
-    }
-    most
-}
-
 // The first `most` bytes; all of them where there are fewer.
 pub fn front(bytes: &[u8], most: usize) -> &[u8] {
-    let end = front_end(bytes, most);
-    &bytes[0..end]
+    &bytes[..most.min(bytes.len())]
 }

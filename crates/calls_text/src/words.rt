@@ -1,26 +1,9 @@
 // The words of a line, parted by single spaces, and the numbers among them.
 ghost use Rattle.std.specs.Prelude.{◌≡◌, ◌≢◌, ℕ, ◌<◌, ◌≤◌, length, slice_index};
 
-// A number that fits 32 bits, or a word that is none.
-#[derive(Clone, Copy)]
-pub enum Number {
-    Value(u32),
-    Bad,
-}
-
-// A number that fits 16 bits, or a word that is none.
-#[derive(Clone, Copy)]
-pub enum ShortNumber {
-    Value(u16),
-    Bad,
-}
-
 // Whether the word is `-`, which stands for what is missing.
 pub fn is_dash(word: &[u8]) -> bool {
-    if word.len() != 1 {
-        return false;
-    }
-    word[0] == b'-'
+    word == b"-".as_slice()
 }
 
 // The place of the first `byte` from `from` on; the end of `bytes` where there is none.
@@ -40,42 +23,28 @@ pub fn find(bytes: &[u8], from: usize, byte: u8) -> usize
 
 // Whether `name` stands at the line's front, with a space or nothing after it.
 fn begins(line: &[u8], name: &[u8]) -> bool {
-    if line.len() < name.len() {
-        return false;
+    match line.strip_prefix(name) {
+        Some(rest) => rest.is_empty() || rest[0] == b' ',
+        None => false,
     }
-    for i in 0..name.len() {
-        if line[i] != name[i] {
-            return false;
-        }
-    }
-    if name.len() < line.len() {
-        return line[name.len()] == b' ';
-    }
-    true
+}
+
+fn is_space(byte: &u8) -> bool {
+    *byte == b' '
 }
 
 // How many words the line has, or 0 where one of them is empty: where the line begins or ends in a
 // space, or has two in a row.
 fn count(line: &[u8]) -> usize {
-    let mut words: usize = 0;
-    let mut at: usize = 0;
-    while at <= line.len() {
-        let end = find(line, at, b' ');
-        if end == at {
-            return 0;
-        }
-        words += 1;
-        at = end + 1;
+    if line.split(is_space).any(|word| word.is_empty()) {
+        return 0;
     }
-    words
+    line.split(is_space).count()
 }
 
 // Whether the line's first word is `name`, and it has `words` words, none of them empty.
 pub fn is_call(line: &[u8], name: &[u8], words: usize) -> bool {
-    if !begins(line, name) {
-        return false;
-    }
-    count(line) == words
+    begins(line, name) && count(line) == words
 }
 
 // Where the word with `before` words before it starts: the line's end where there are fewer.
@@ -83,14 +52,12 @@ fn start(line: &[u8], before: usize) -> usize
     ensures { result ≤ length line.now }
 {
     let mut at: usize = 0;
-    let mut left = before;
-    while 0 < left {
+    for _ in 0..before {
         let end = find(line, at, b' ');
         if end == line.len() {
             return end;
         }
         at = end + 1;
-        left -= 1;
     }
     at
 }
@@ -102,47 +69,27 @@ pub fn word(line: &[u8], before: usize) -> &[u8] {
     &line[at..end]
 }
 
-// The number whose digits are those of `value` and then `digit`.
-fn with_digit(value: u32, digit: u8) -> Number {
-    if digit < b'0' {
-        return Number::Bad;
+// The number whose digits are those of `value` and then `digit`: none past 32 bits.
+fn with_digit(value: u32, digit: u8) -> Option<u32> {
+    if !digit.is_ascii_digit() {
+        return None;
     }
-    if b'9' < digit {
-        return Number::Bad;
-    }
-    let next = value as u64 * 10 + (digit - b'0') as u64;
-    if (u32::MAX as u64) < next {
-        return Number::Bad;
-    }
-    Number::Value(next as u32)
+    value.checked_mul(10)?.checked_add((digit - b'0') as u32)
 }
 
 // The number that a word of decimal digits spells, with zeros in front or without.
-pub fn read_number(word: &[u8]) -> Number {
-    if word.len() == 0 {
-        return Number::Bad;
+pub fn read_number(word: &[u8]) -> Option<u32> {
+    if word.is_empty() {
+        return None;
     }
     let mut value: u32 = 0;
     for digit in word {
-        let next = with_digit(value, *digit);
-        let Number::Value(number) = next else {
-            return Number::Bad;
-        };
-        value = number;
+        value = with_digit(value, *digit)?;
     }
-    Number::Value(value)
+    Some(value)
 }
 
 // As `read_number`, of 16 bits.
-pub fn read_short_number(word: &[u8]) -> ShortNumber {
-    let n = read_number(word);
-    match n {
-        Number::Value(value) => {
-            if 65535 < value {
-                return ShortNumber::Bad;
-            }
-            ShortNumber::Value(value as u16)
-        }
-        Number::Bad => ShortNumber::Bad,
-    }
+pub fn read_short_number(word: &[u8]) -> Option<u16> {
+    u16::try_from(read_number(word)?).ok()
 }

@@ -1,5 +1,5 @@
 // The lines that order a graph, cull, erase and append a child's name.
-use calls_text::{Answered, is_call, put_finished, word};
+use calls_text::{is_call, put_finished, word};
 use std::io::Write;
 
 // The answer to a line that changes a graph in place, or reads what such a line made.
@@ -9,15 +9,15 @@ pub fn answer<W: Write>(
     to: &mut W,
     out: &mut [u8],
     used: usize,
-) -> Answered {
+) -> Option<usize> {
     if is_call(line, b"order", 1) {
-        return Answered::Used(order_line(arena, to, out, used));
+        return Some(order_line(arena, to, out, used));
     }
     if is_call(line, b"cull", 1) {
-        return Answered::Used(cull_line(arena, to, out, used));
+        return Some(cull_line(arena, to, out, used));
     }
     if is_call(line, b"deepen", 2) {
-        return Answered::Used(deepen_line(line, arena, to, out, used));
+        return Some(deepen_line(line, arena, to, out, used));
     }
     answer_of_order(line, arena, to, out, used)
 }
@@ -29,15 +29,15 @@ fn answer_of_order<W: Write>(
     to: &mut W,
     out: &mut [u8],
     used: usize,
-) -> Answered {
+) -> Option<usize> {
     if is_call(line, b"list", 1) {
-        return Answered::Used(crate::orders::list_line(arena, to, out, used));
+        return Some(crate::orders::list_line(arena, to, out, used));
     }
     if is_call(line, b"erasable", 1) {
-        return Answered::Used(crate::erasures::erasable_line(arena, to, out, used));
+        return Some(crate::erasures::erasable_line(arena, to, out, used));
     }
     if is_call(line, b"erase", 2) {
-        return Answered::Used(crate::erasures::erase_line(line, arena, to, out, used));
+        return Some(crate::erasures::erase_line(line, arena, to, out, used));
     }
     crate::setting::answer(line, arena, to, out, used)
 }

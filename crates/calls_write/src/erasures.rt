@@ -18,10 +18,6 @@ pub(crate) fn erasable_line<W: Write>(
     }
 }
 
-fn put_byte<W: Write>(to: &mut W, out: &mut [u8], used: usize, byte: u8) -> usize {
-    put_number(to, out, used, byte as u64)
-}
-
 // The bytes of the first nodes, as many as were counted.
 fn put_set<W: Write>(
     set: &[u8],
@@ -34,11 +30,8 @@ fn put_set<W: Write>(
         return used;
     };
     let mut end = used;
-    for n in 0..count {
-        if set.len() <= (n as usize) {
-            return end;
-        }
-        end = put_byte(to, out, end, set[n as usize]);
+    for byte in set.iter().take(count as usize) {
+        end = put_number(to, out, end, *byte as u64);
     }
     end
 }
@@ -63,18 +56,14 @@ pub(crate) fn erase_line<W: Write>(
 // Reads a digit for each node, and answers whether there are digits only, and not more than the set
 // has bytes.
 fn read_set(digits: &[u8], set: &mut [u8]) -> bool {
-    for i in 0..digits.len() {
-        let digit = digits[i];
-        if digit < b'0' {
+    if set.len() < digits.len() {
+        return false;
+    }
+    for (digit, place) in digits.iter().zip(set) {
+        if !digit.is_ascii_digit() {
             return false;
         }
-        if b'9' < digit {
-            return false;
-        }
-        if set.len() <= i {
-            return false;
-        }
-        set[i] = digit - b'0';
+        *place = *digit - b'0';
     }
     true
 }

@@ -1,5 +1,5 @@
 // The lines that make graphs.
-use calls_text::{Answered, Bytes, Number, bad_line, front, is_call, put_numbered, read_bytes, read_number, word};
+use calls_text::{bad_line, front, is_call, put_numbered, read_bytes, read_number, word};
 use std::io::Write;
 
 // The answer to a line that makes a graph.
@@ -9,17 +9,17 @@ pub fn answer<W: Write>(
     to: &mut W,
     out: &mut [u8],
     used: usize,
-) -> Answered {
+) -> Option<usize> {
     if is_call(line, b"add", 13) {
-        return Answered::Used(add_line(line, arena, to, out, used));
+        return Some(add_line(line, arena, to, out, used));
     }
     if is_call(line, b"init", 4) {
-        return Answered::Used(init_line(line, arena, to, out, used));
+        return Some(init_line(line, arena, to, out, used));
     }
     if is_call(line, b"read", 2) {
-        return Answered::Used(read_line(line, arena, to, out, used));
+        return Some(read_line(line, arena, to, out, used));
     }
-    Answered::Unknown
+    None
 }
 
 // `init STACK LAYER PATH`: node 0.
@@ -32,10 +32,10 @@ fn init_line<W: Write>(
 ) -> usize {
     let first = read_number(word(line, 1));
     let second = read_number(word(line, 2));
-    let Number::Value(stack) = first else {
+    let Some(stack) = first else {
         return bad_line(to, out, used);
     };
-    let Number::Value(layer) = second else {
+    let Some(layer) = second else {
         return bad_line(to, out, used);
     };
     let answer = prim_graph::init_root(arena, stack, layer, word(line, 3));
@@ -51,11 +51,10 @@ fn add_line<W: Write>(
     out: &mut [u8],
     used: usize,
 ) -> usize {
-    let mut numbers = [0u64; 11];
-    if !crate::fields::read(line, &mut numbers) {
+    let Some(desc) = crate::fields::read(line) else {
         return bad_line(to, out, used);
-    }
-    let answer = prim_graph::add_child(arena, crate::fields::desc(numbers), word(line, 12));
+    };
+    let answer = prim_graph::add_child(arena, desc, word(line, 12));
     put_numbered(to, out, used, answer)
 }
 
@@ -68,8 +67,7 @@ fn read_line<W: Write>(
     used: usize,
 ) -> usize {
     let mut snapshot = io::large_buffer();
-    let bytes = read_bytes(word(line, 1), &mut snapshot);
-    let Bytes::Length(length) = bytes else {
+    let Some(length) = read_bytes(word(line, 1), &mut snapshot) else {
         return bad_line(to, out, used);
     };
     let answer = prim_graph::read_snapshot(arena, front(&snapshot, length));

@@ -21,13 +21,10 @@ fn put_entries<W: Write>(
     used: usize,
 ) -> usize {
     let mut end = used;
-    for n in 0..count {
-        let at = 4 * (n as usize);
-        if order.len() < at + 4 {
-            return end;
-        }
-        let start = put_between(to, out, end, n as usize, b" ");
-        end = put_number(to, out, start, big_endian::read_u32(order, at) as u64);
+    let (entries, _) = order.as_chunks::<4>();
+    for (n, entry) in entries.iter().take(count as usize).enumerate() {
+        let start = put_between(to, out, end, n, b" ");
+        end = put_number(to, out, start, u32::from_be_bytes(*entry) as u64);
     }
     end
 }

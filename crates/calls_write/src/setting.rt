@@ -1,13 +1,9 @@
-// The lines that set fields of one node: its flags, its specs and its restriction depth.
-use calls_text::{Answered, Number, ShortNumber, bad_line, is_call, is_dash, put_finished, read_number, read_short_number, word};
+// The lines that set fields of one node: its flags, its specs and its restriction depth. Each call
+// is none where a word is no number of its field.
+use model::Refusal;
+use crate::fields::{read_byte, read_optional};
+use calls_text::{bad_line, is_call, put_finished, read_number, read_short_number, word};
 use std::io::Write;
-
-// The node that a line names and a number that it gives, or that one of them is none.
-#[derive(Clone, Copy)]
-enum Setting {
-    Of(u32, u16),
-    Bad,
-}
 
 // The answer to such a line.
 pub(crate) fn answer<W: Write>(
@@ -16,137 +12,58 @@ pub(crate) fn answer<W: Write>(
     to: &mut W,
     out: &mut [u8],
     used: usize,
-) -> Answered {
+) -> Option<usize> {
     if is_call(line, b"mark", 3) {
-        return Answered::Used(mark_line(line, arena, to, out, used));
+        return Some(put_set(mark(line, arena), to, out, used));
     }
     if is_call(line, b"spec", 3) {
-        return Answered::Used(spec_line(line, arena, to, out, used));
+        return Some(put_set(spec(line, arena), to, out, used));
     }
     if is_call(line, b"specs", 3) {
-        return Answered::Used(specs_line(line, arena, to, out, used));
+        return Some(put_set(specs(line, arena), to, out, used));
     }
     if is_call(line, b"restrict", 3) {
-        return Answered::Used(restrict_line(line, arena, to, out, used));
+        return Some(put_set(restrict(line, arena), to, out, used));
     }
-    Answered::Unknown
+    None
 }
 
-// The second word and the third.
-fn read(line: &[u8]) -> Setting {
-    let first = read_number(word(line, 1));
-    let second = read_short_number(word(line, 2));
-    let Number::Value(n) = first else {
-        return Setting::Bad;
-    };
-    let ShortNumber::Value(number) = second else {
-        return Setting::Bad;
-    };
-    Setting::Of(n, number)
+// The answer to a call, or to a line that is none.
+fn put_set<W: Write>(set: Option<Result<(), Refusal>>, to: &mut W, out: &mut [u8], used: usize) -> usize {
+    match set {
+        Some(answer) => put_finished(to, out, used, answer),
+        None => bad_line(to, out, used),
+    }
 }
 
 // `mark N FLAGS`: flags joined with the node's.
-fn mark_line<W: Write>(
-    line: &[u8],
-    arena: &mut [u8],
-    to: &mut W,
-    out: &mut [u8],
-    used: usize,
-) -> usize {
-    let setting = read(line);
-    let Setting::Of(n, flags) = setting else {
-        return bad_line(to, out, used);
-    };
-    if 255 < flags {
-        return bad_line(to, out, used);
-    }
-    put_finished(to, out, used, prim_graph::mark(arena, n, flags as u8))
+fn mark(line: &[u8], arena: &mut [u8]) -> Option<Result<(), Refusal>> {
+    let n = read_number(word(line, 1))?;
+    let flags = read_byte(word(line, 2))?;
+    Some(prim_graph::mark(arena, n, flags))
 }
 
 // `spec N FIRST`: the first layer with a spec, `-` for none.
-fn spec_line<W: Write>(
-    line: &[u8],
-    arena: &mut [u8],
-    to: &mut W,
-    out: &mut [u8],
-    used: usize,
-) -> usize {
-    if is_dash(word(line, 2)) {
-        return no_spec_line(line, arena, to, out, used);
-    }
-    let setting = read(line);
-    let Setting::Of(n, first) = setting else {
-        return bad_line(to, out, used);
-    };
-    put_finished(
-        to,
-        out,
-        used,
-        prim_graph::set_first_spec(arena, n, Some(first)),
-    )
-}
-
-fn no_spec_line<W: Write>(
-    line: &[u8],
-    arena: &mut [u8],
-    to: &mut W,
-    out: &mut [u8],
-    used: usize,
-) -> usize {
-    let read = read_number(word(line, 1));
-    let Number::Value(n) = read else {
-        return bad_line(to, out, used);
-    };
-    put_finished(
-        to,
-        out,
-        used,
-        prim_graph::set_first_spec(arena, n, None),
-    )
+fn spec(line: &[u8], arena: &mut [u8]) -> Option<Result<(), Refusal>> {
+    let n = read_number(word(line, 1))?;
+    let first = read_optional(word(line, 2))?;
+    Some(prim_graph::set_first_spec(arena, n, first))
 }
 
 // `specs N YES`: whether there are specs, 1 or 0.
-fn specs_line<W: Write>(
-    line: &[u8],
-    arena: &mut [u8],
-    to: &mut W,
-    out: &mut [u8],
-    used: usize,
-) -> usize {
-    let setting = read(line);
-    let Setting::Of(n, authored) = setting else {
-        return bad_line(to, out, used);
+fn specs(line: &[u8], arena: &mut [u8]) -> Option<Result<(), Refusal>> {
+    let n = read_number(word(line, 1))?;
+    let authored = match word(line, 2) {
+        [b'0'] => false,
+        [b'1'] => true,
+        _ => return None,
     };
-    if word(line, 2).len() != 1 {
-        return bad_line(to, out, used);
-    }
-    if 1 < authored {
-        return bad_line(to, out, used);
-    }
-    put_finished(
-        to,
-        out,
-        used,
-        prim_graph::set_has_specs(arena, n, authored == 1),
-    )
+    Some(prim_graph::set_has_specs(arena, n, authored))
 }
 
 // `restrict N DEPTH`: the restriction depth.
-fn restrict_line<W: Write>(
-    line: &[u8],
-    arena: &mut [u8],
-    to: &mut W,
-    out: &mut [u8],
-    used: usize,
-) -> usize {
-    let setting = read(line);
-    let Setting::Of(n, depth) = setting else {
-        return bad_line(to, out, used);
-    };
-    put_finished(
-        to,
-        out,
-        used,
-        prim_graph::set_restriction_depth(arena, n, depth),
-    )
+fn restrict(line: &[u8], arena: &mut [u8]) -> Option<Result<(), Refusal>> {
+    let n = read_number(word(line, 1))?;
+    let depth = read_short_number(word(line, 2))?;
+    Some(prim_graph::set_restriction_depth(arena, n, depth))
 }

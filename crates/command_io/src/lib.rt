@@ -13,5 +13,5 @@ mod printing;
 mod tests;
 
 pub use buffers::{append, zeros};
-pub use input::{Input, read_input};
+pub use input::{InputError, read_input};
 pub use printing::{complain, print, print_refusal};

@@ -3,6 +3,7 @@
 // what they are lent they cannot change, they answer nothing, and of what comes out of a program
 // the library says nothing to cite. examples/order tests it.
 use model::Refusal;
+use std::io;
 use std::io::Write;
 
 // Says on standard error what failed, after the command's name.
@@ -11,11 +12,16 @@ pub fn complain<E: Write>(err: &mut E, command: &[u8], what: &[u8]) {
     let _ = err.write_all(what);
 }
 
-// Prints all of `text`.
-pub fn print<W: Write, E: Write>(out: &mut W, err: &mut E, command: &[u8], text: &[u8]) {
-    if let Err(_) = out.write_all(text) {
+// Says so where a write has failed.
+fn report<E: Write>(written: io::Result<()>, err: &mut E, command: &[u8]) {
+    if written.is_err() {
         complain(err, command, b": standard output cannot be written\n");
     }
+}
+
+// Prints all of `text`.
+pub fn print<W: Write, E: Write>(out: &mut W, err: &mut E, command: &[u8], text: &[u8]) {
+    report(out.write_all(text), err, command);
 }
 
 // Prints `refused` and the question's number.
@@ -26,8 +32,6 @@ pub fn print_refusal<W: Write, E: Write>(
     refusal: Refusal,
 ) {
     print(out, err, command, b"refused ");
-    let mut digits = [0u8; 20];
-    let count = io::decimal(refusal.number() as u64, &mut digits);
-    print(out, err, command, &digits[..count]);
+    report(write!(out, "{}", refusal.number()), err, command);
     print(out, err, command, b"\n");
 }

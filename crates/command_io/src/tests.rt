@@ -1,5 +1,5 @@
 // A read that fails, and a write: what no clause says of them.
-use super::{Input, print, print_refusal, read_input};
+use super::{InputError, print, print_refusal, read_input};
 use model::Refusal;
 use std::io;
 use std::io::{ErrorKind, Read, Write};
@@ -40,9 +40,9 @@ impl Write for Full {
 fn a_read_that_fails_is_no_end(rt: HostRuntime) -> Result<(), Fail> {
     let mut bytes = [0u8; 4];
     let input = read_input(&mut Broken { given: false }, &mut bytes);
-    assert!(rt; matches!(input, Input::Failed));
+    assert!(rt; matches!(input, Err(InputError::Failed)));
     let whole = read_input(&mut b"abc".as_slice(), &mut bytes);
-    assert!(rt; matches!(whole, Input::Held(3)));
+    assert!(rt; matches!(whole, Ok(3)));
     Ok(())
 }
 

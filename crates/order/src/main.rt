@@ -7,7 +7,7 @@
 // each proved there.
 #![tactic(auto)]
 
-use command_io::Input;
+use command_io::InputError;
 use model::Refusal;
 use std::io::Write;
 
@@ -54,10 +54,9 @@ fn main(rt: HostRuntime) {
     let mut out = rt.stdout();
     let mut err = rt.stderr();
     let mut bytes = io::large_buffer();
-    let input = command_io::read_input(&mut rt.stdin(), &mut bytes);
-    match input {
-        Input::Held(count) => order(&mut out, &mut err, &bytes[..count]),
-        Input::Long => print_refusal(&mut out, &mut err, Refusal::Snapshot),
-        Input::Failed => complain(&mut err, b": standard input cannot be read\n"),
+    match command_io::read_input(&mut rt.stdin(), &mut bytes) {
+        Ok(count) => order(&mut out, &mut err, &bytes[..count]),
+        Err(InputError::Long) => print_refusal(&mut out, &mut err, Refusal::Snapshot),
+        Err(InputError::Failed) => complain(&mut err, b": standard input cannot be read\n"),
     }
 }

@@ -1,9 +1,6 @@
--- The place lies within the line. The measure is how many words are still to be passed.
+-- The place lies within the line.
 use Rattle.std.proofs.Common.{◌≤◌, length}
 use Rattle.calls_text.proofs.words.start.Given as goal
 
-abbrev pub invariant-loop-left : goal.invariant-loop-left
-invariant-loop-left l = l.at ≤ length l.line
-
-abbrev pub decreases-loop-left : goal.decreases-loop-left
-decreases-loop-left l = l.left
+abbrev pub invariant-loop : goal.invariant-loop
+invariant-loop l = l.at ≤ length l.line

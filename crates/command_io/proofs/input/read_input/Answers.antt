@@ -23,6 +23,6 @@ loop-held-preserved g c =
     let held = c.loop-held.held in
     let room = length c.loop-held.bytes - held in
     let within = c.loop-held.invariant.1 in
-    let part = slice_range-put_mid held room c.in-Ok.count c.loop-held.bytes c.read.new.buf within c.in-Ok.ensures.bound.0 in
-    let joined = take_split held (held + c.in-Ok.count) c.loop-held.bytes (put_mid held room c.loop-held.bytes c.read.new.buf) (omega arith) (take-put_mid_below _ _ _ _ _ (le_refl _) within) in
-    (search rules, search rules, subst (Consumes _ _) (ap (λ l. take held c.loop-held.bytes ++ l) (sym part) ∙ joined) (Consumes-trans _ _ _ _ _ c.loop-held.invariant.2 c.in-Ok.ensures.bytes.0))
+    let part = slice_range-put_mid held room c.in_ok-count.count c.loop-held.bytes c.read.new.buf within c.in_ok-count.ensures.bound.0 in
+    let joined = take_split held (held + c.in_ok-count.count) c.loop-held.bytes (put_mid held room c.loop-held.bytes c.read.new.buf) (omega arith) (take-put_mid_below _ _ _ _ _ (le_refl _) within) in
+    (search rules, search rules, subst (Consumes _ _) (ap (λ l. take held c.loop-held.bytes ++ l) (sym part) ∙ joined) (Consumes-trans _ _ _ _ _ c.loop-held.invariant.2 c.in_ok-count.ensures.bytes.0))

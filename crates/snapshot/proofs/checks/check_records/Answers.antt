@@ -52,7 +52,7 @@ overflow_add-at c =
     let long = piece-long _ _ _ c.loop-n.invariant.reached (numbered c.requires.exact c.loop-n-test.true) _ c.record_at-record.ensures in
     omega (arith, long.1)
 
-pub overflow_add-at-in-loop-n : goal.overflow_add-at-2
+pub overflow_add-at-in-loop-n : goal.overflow_add-at-in-loop-n
 overflow_add-at-in-loop-n c =
     let next = reached-more _ _ _ c.loop-n.invariant.reached (numbered c.requires.exact c.loop-n-test.true) _ c.record_at-record.ensures in
     omega (arith, next.within)
