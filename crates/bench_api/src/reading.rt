@@ -14,6 +14,7 @@ ghost use Rattle.model.specs.Strength.{view, is_propagated_specializes};
 ghost use Rattle.c_api.specs.Carried.{carried_answer};
 ghost use Rattle.nodes.specs.Queries.{local_root_option};
 
+use model::NodeId;
 
 // `graph_info`: the local root, 4,294,967,295 for none.
 #[unsafe(no_mangle)]

@@ -4,7 +4,6 @@ ghost use Rattle.model.specs.ArenaCalls.{on_arena};
 ghost use Rattle.model.specs.Calls.{mark, set_first_spec, set_has_specs, set_restriction_depth};
 ghost use Rattle.c_api.specs.Carried.{WroteCarried};
 
-
 // `mark`.
 #[unsafe(no_mangle)]
 pub extern "C" fn bench_mark(arena: &mut [u8], n: u32, flags: u8) -> u64

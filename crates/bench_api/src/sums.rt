@@ -8,7 +8,6 @@ ghost use Rattle.bench_api.specs.Pairs.{asked_number, pairs_number, most_pair_by
 
 use std::cmp::Ordering;
 
-
 // Whether two nodes have one parent, and neither is node 0.
 fn are_siblings(arena: &[u8], a: u32, b: u32) -> bool
     requires { ValidNode arena.now a × ValidNode arena.now b }

@@ -1,9 +1,9 @@
 // The lines that compare nodes, or put the questions that the comparison puts.
-use model::Refusal;
 use calls_text::{bad_line, is_call, put, put_refusal, read_number, word};
+use model::Refusal;
 use prim_graph::{compare_node_strength, compare_sibling_node_strength};
-use std::io::Write;
 use std::cmp::Ordering;
+use std::io::Write;
 
 // The answer to a line that compares nodes.
 pub fn answer<W: Write>(

@@ -1,7 +1,10 @@
 // The lines that look at a graph.
-use model::Refusal;
 use crate::relations::tested_line;
-use calls_text::{bad_line, front, is_call, put, put_bytes, put_found, put_numbered, put_path, put_refusal, read_number, word};
+use calls_text::{
+    bad_line, front, is_call, put, put_bytes, put_found, put_numbered, put_path, put_refusal,
+    read_number, word,
+};
+use model::Refusal;
 use prim_graph::{intro_path, is_due_to_ancestor, path_at_introduction};
 use std::io::Write;
 
@@ -90,14 +93,7 @@ fn write_line<W: Write>(arena: &[u8], to: &mut W, out: &mut [u8], used: usize) -
 fn marks_line<W: Write>(arena: &[u8], to: &mut W, out: &mut [u8], used: usize) -> usize {
     let read = prim_graph::graph_info(arena);
     match read {
-        Ok(graph) => put_marks(
-            graph.ordered,
-            graph.finalized,
-            graph.shallow,
-            to,
-            out,
-            used,
-        ),
+        Ok(graph) => put_marks(graph.ordered, graph.finalized, graph.shallow, to, out, used),
         Err(refusal) => put_refusal(to, out, used, refusal),
     }
 }

@@ -108,10 +108,10 @@ fn class_line<W: Write>(
     };
     let found = prim_graph::starting_node_of_class_hierarchy(arena, n);
     match found {
-        HierarchyRead::Hierarchy(instance, class_node) => {
-            let end = put_number(to, out, used, instance.0 as u64);
+        Ok(hierarchy) => {
+            let end = put_number(to, out, used, hierarchy.instance.0 as u64);
             let next = put(to, out, end, b" ");
-            put_node(to, out, next, class_node)
+            put_node(to, out, next, hierarchy.class_node)
         }
         Err(refusal) => put_refusal(to, out, used, refusal),
     }

@@ -7,8 +7,8 @@ ghost use Rattle.view.specs.View.{ValidNodeAndRoot};
 
 use calls_text::{put, put_between, put_refusal};
 use model::Refusal;
-use std::io::Write;
 use std::cmp::Ordering;
+use std::io::Write;
 
 // `compares`: a word for each node, a letter in it for each node.
 pub(crate) fn compares_line<W: Write>(

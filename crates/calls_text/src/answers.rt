@@ -1,6 +1,6 @@
 // The answers that every kind of line shares.
 use crate::output::{front, put, put_number};
-use model::Refusal;
+use model::{NodeId, Refusal};
 use std::io::Write;
 
 // The answer to a line that is no call.
@@ -49,7 +49,12 @@ pub fn put_node<W: Write>(to: &mut W, out: &mut [u8], used: usize, node: Option<
 }
 
 // The answer to a call that looks for a node.
-pub fn put_found<W: Write>(to: &mut W, out: &mut [u8], used: usize, answer: Result<Option<NodeId>, Refusal>) -> usize {
+pub fn put_found<W: Write>(
+    to: &mut W,
+    out: &mut [u8],
+    used: usize,
+    answer: Result<Option<NodeId>, Refusal>,
+) -> usize {
     match answer {
         Ok(node) => put_node(to, out, used, node),
         Err(refusal) => put_refusal(to, out, used, refusal),
@@ -57,7 +62,12 @@ pub fn put_found<W: Write>(to: &mut W, out: &mut [u8], used: usize, answer: Resu
 }
 
 // The answer to a test: 1 for yes and 0 for no.
-pub fn put_tested<W: Write>(to: &mut W, out: &mut [u8], used: usize, answer: Result<bool, Refusal>) -> usize {
+pub fn put_tested<W: Write>(
+    to: &mut W,
+    out: &mut [u8],
+    used: usize,
+    answer: Result<bool, Refusal>,
+) -> usize {
     match answer {
         Ok(test) => put_number(to, out, used, test as u64),
         Err(refusal) => put_refusal(to, out, used, refusal),

@@ -1,6 +1,6 @@
 // The lines on sets of nodes that may be erased.
-use model::Refusal;
 use calls_text::{bad_line, put_number, put_numbered, put_refusal, word};
+use model::Refusal;
 use std::io::Write;
 
 // `erasable`: a digit for each node, 1 for one that may go.

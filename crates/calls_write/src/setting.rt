@@ -1,8 +1,8 @@
 // The lines that set fields of one node: its flags, its specs and its restriction depth. Each call
 // is none where a word is no number of its field.
-use model::Refusal;
 use crate::fields::{read_byte, read_optional};
 use calls_text::{bad_line, is_call, put_finished, read_number, read_short_number, word};
+use model::Refusal;
 use std::io::Write;
 
 // The answer to such a line.
@@ -29,7 +29,12 @@ pub(crate) fn answer<W: Write>(
 }
 
 // The answer to a call, or to a line that is none.
-fn put_set<W: Write>(set: Option<Result<(), Refusal>>, to: &mut W, out: &mut [u8], used: usize) -> usize {
+fn put_set<W: Write>(
+    set: Option<Result<(), Refusal>>,
+    to: &mut W,
+    out: &mut [u8],
+    used: usize,
+) -> usize {
     match set {
         Some(answer) => put_finished(to, out, used, answer),
         None => bad_line(to, out, used),

@@ -6,7 +6,6 @@ ghost use Rattle.model.specs.Path.{start, slash, name, between, is_name_start, i
 ghost use Rattle.path.specs.PathReading.{Run, Stops, NameRead, SelectionRead, ElementRead, reading};
 ghost use Rattle.path.specs.PathReading.{in_run, standing, begins_name, stands_at, as_name, as_selection};
 
-
 // A part of a path: where it ends, or that it is malformed.
 #[derive(Clone, Copy)]
 pub enum Part {

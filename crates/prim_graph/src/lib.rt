@@ -15,8 +15,8 @@ pub use deepening::calls::{append_child_name_to_all_sites, seed_child};
 pub use erasing::calls::{erasable, erase};
 pub use nodes::NodeDesc;
 pub use nodes::calls::{
-    GraphInfo, add_child, depth_below_introduction, graph_info, init_root, is_due_to_ancestor, node,
-    node_using_site,
+    GraphInfo, add_child, depth_below_introduction, graph_info, init_root, is_due_to_ancestor,
+    node, node_using_site,
 };
 pub use nodes::paths::{intro_path, path, path_at_introduction};
 pub use nodes::setting::{mark, set_first_spec, set_has_specs, set_restriction_depth};

@@ -9,8 +9,8 @@ ghost use Rattle.view.specs.View.{view_in, ValidNodeAndRoot};
 ghost use Rattle.strength.specs.Verdicts.{Pair};
 
 use model::Verdict;
-use view::Parting;
 use std::cmp::Ordering;
+use view::Parting;
 
 // Which of two siblings is the stronger. Two arcs settle it here: a caller's loop has no call for
 // them.

@@ -7,8 +7,8 @@ ghost use Rattle.view.specs.Walks.{RootOf};
 ghost use Rattle.strength.specs.Verdicts.{Pair, DecidedBy};
 
 use model::Verdict;
-use view::OriginRoot;
 use std::cmp::Ordering;
+use view::OriginRoot;
 
 // "2. Same origin: authored, sibling number, then node number; else implied over not implied, then
 // node number."

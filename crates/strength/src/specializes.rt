@@ -7,8 +7,8 @@ ghost use Rattle.view.specs.Walks.{RootOf};
 ghost use Rattle.strength.specs.Verdicts.{Pair, DecidedBy};
 
 use model::Verdict;
-use view::OriginRoot;
 use std::cmp::Ordering;
+use view::OriginRoot;
 
 // "2. Same origin [..] 3. R differ: node strength of them. 4. [..]"
 fn weigh_origins(arena: &[u8], root: u32, a: u32, b: u32, ra: OriginRoot, rb: OriginRoot) -> Verdict

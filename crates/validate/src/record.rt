@@ -140,7 +140,12 @@ fn narrow(names: u16) -> u8
 
 // The first question that the answer to is no, of a record with these numbers and this path; or its
 // prim count. `read` is what its path was read as: how it is read is the caller's choice.
-pub fn check_record(before: Before, numbers: RecordNumbers, path: &[u8], read: Option<u16>) -> Result<u8, Refusal>
+pub fn check_record(
+    before: Before,
+    numbers: RecordNumbers,
+    path: &[u8],
+    read: Option<u16>,
+) -> Result<u8, Refusal>
     requires { (before.path_bytes ≤ 32768) × (read ≡ count_prims path.now) }
     ensures { RecordChecked (questions_at before numbers path.now) path.now result }
 {
