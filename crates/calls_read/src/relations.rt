@@ -5,7 +5,7 @@ use crate::compare::read_pair;
 use calls_text::{bad_line, is_call, put, put_found, put_node, put_number, put_refusal, put_tested, read_number, word};
 use prim_graph::{is_ancestor_of, is_propagated_specializes, same_site};
 use std::io::Write;
-use strength::calls::Result<(NodeId, Option<NodeId>), Refusal>;
+
 
 // The answer to such a line.
 pub(crate) fn answer<W: Write>(
