@@ -7,7 +7,8 @@ use mathlib.Core.List.{List, [], ◌∷◌}
 use Prim.Native.Nat.{ℕ, ◌<◌}
 use lib.Dec.{eqb}
 use lib.ListN.{length}
-use borrow.Author.Tests.{eq-eqb, ne_eqb}
+use native.Mathlib.Omega.{arith}
+use borrow.Author.Tests.{eq-eqb, ne_eqb, eqb-true, eqb-false}
 use Rattle.model.specs.Graph.{Graph, size}
 use Rattle.model.specs.Erasing.{stays, erasable, can_erase, new_number, erase}
 use Rattle.model.specs.Refusals.{refusal_number, Question, ask, refusal}
@@ -15,9 +16,10 @@ use Rattle.model.specs.Calls.{Outcome, unchanged, decided, has_node_zero, erase_
 use Rattle.model.specs.Arena.{count_in, decode, holds_graph}
 use Rattle.model.specs.ArenaCalls.{is_arena, ValidArena, ask_arena}
 use Rattle.model.specs.declared.Refusal.{Refusal}
-use Rattle.model.specs.declared.Refusal.TheVariants.{Size, EraseSet}
+use Rattle.model.specs.declared.Refusal.TheVariants.{EraseSet}
 use Rattle.laws.proofs.ArenaCallLaws.{refusal-some, refused-before, asked-on, ask_both, buffer-refused, buffer-passed, on-arena-asks, wrote-decided-refused, wrote-decided}
 use Rattle.arena.proofs.ReadNodes.{sizes, node-zero}
+use Rattle.validate.proofs.AskingLaws.{some-node}
 use Rattle.erasing.specs.EraseNodes.{ErasedArena}
 use Rattle.erasing.specs.Erasures.{ErasableWritten, erase_in, Erased}
 
@@ -28,11 +30,11 @@ module _ (bs set : List ℕ) (questions : List Question) where
   abbrev pub ask_set : List Question
   ask_set = ask_both bs (eqb (length set) 1024) questions
 
-  not_set : (length set ≡ 1024 → ⊥) → 1 ≡ refusal ask_set
+  pub not_set : (length set ≡ 1024 → ⊥) → 1 ≡ refusal ask_set
   not_set h = buffer-refused bs (eqb (length set) 1024) questions (ne_eqb (length set) 1024 h)
 
   -- a set of the right size leaves the questions of the arena
-  whole_set : length set ≡ 1024 → refusal ask_set ≡ refusal (ask_arena bs questions)
+  pub whole_set : length set ≡ 1024 → refusal ask_set ≡ refusal (ask_arena bs questions)
   whole_set large = buffer-passed bs (eqb (length set) 1024) questions (eq-eqb (length set) 1024 large)
 
   pub asks-own : length set ≡ 1024 → ValidArena bs → refusal ask_set ≡ refusal questions
@@ -51,20 +53,21 @@ module _ (bs set : List ℕ) where
   abbrev set_refusal : ℕ
   set_refusal = refusal (ask_set bs set (needs_node (decode bs)))
 
-  refused_as : (r : Refusal) → refusal_number r ≡ set_refusal → ErasableWritten bs set (Err r) set
-  refused_as r e = record { refused = e; bytes = rw (ne_eqb set_refusal 0 (λ z. refusal-some r (e ∙ z))) }
+  pub set-refused : (r : Refusal) → refusal_number r ≡ set_refusal → ErasableWritten bs set (Err r) set
+  set-refused r e = record { refused = e; bytes = rw (ne_eqb set_refusal 0 (λ z. refusal-some r (e ∙ z))) }
 
-  pub set-not-whole : (length set ≡ 1024 → ⊥) → ErasableWritten bs set (Err Size) set
-  set-not-whole h = refused_as Size (not_set bs set (needs_node (decode bs)) h)
+  pub set-done : set_refusal ≡ 0 → (after : List ℕ) → after ≡ erasable (decode bs) → ErasableWritten bs set (Ok tt) after
+  set-done e after a = record { refused = sym e; bytes = rw (eq-eqb set_refusal 0 e) a }
 
-  module _ (large : length set ≡ 1024) where
-    pub set-refused : (r : Refusal) → refusal_number r ≡ refusal (ask_arena bs (needs_node (decode bs))) → ErasableWritten bs set (Err r) set
-    set-refused r e = refused_as r (e ∙ sym (whole_set bs set (needs_node (decode bs)) large))
-
-    pub set-done : refusal (ask_arena bs (needs_node (decode bs))) ≡ 0 → (after : List ℕ) → after ≡ erasable (decode bs) → ErasableWritten bs set (Ok tt) after
-    set-done e after a =
-        let passes : set_refusal ≡ 0 = whole_set bs set (needs_node (decode bs)) large ∙ e in
-        record { refused = sym passes; bytes = rw (eq-eqb set_refusal 0 passes) a }
+  -- what the questions that have passed say
+  pub set-asked : set_refusal ≡ 0 → (length set ≡ 1024) × (ValidArena bs × (0 < count_in bs))
+  set-asked e = go (eqb (length set) 1024) refl
+    where
+      go : (t : Bool) → eqb (length set) 1024 ≡ t → (length set ≡ 1024) × (ValidArena bs × (0 < count_in bs))
+      go true t =
+          let large = eqb-true (length set) 1024 t in
+          (large, some-node bs (sym (whole_set bs set (needs_node (decode bs)) large) ∙ e))
+      go false t = absurd (omega (arith, not_set bs set (needs_node (decode bs)) (eqb-false (length set) 1024 t), e))
 
 -- ---- Erasing
 
@@ -92,17 +95,12 @@ module _ (set bs : List ℕ) where
   refused-by : (r : Refusal) → refusal_number r ≡ refusal erase_all → Erased set bs (Err r) bs
   refused-by r e = rw erase-asks (wrote-decided-refused erase_all (decode bs) kept_count (erase set (decode bs)) bs r e)
 
-  pub erase-not-whole : (length set ≡ 1024 → ⊥) → Erased set bs (Err Size) bs
-  erase-not-whole h = refused-by Size (not_set bs set (erase_questions set (decode bs)) h)
+  -- by the questions that the erasable set is put too
+  pub erase-refused : (r : Refusal) → refusal_number r ≡ refusal (ask_set bs set (needs_node (decode bs))) → Erased set bs (Err r) bs
+  erase-refused r e =
+      refused-by r (refused-before r (ask_set bs set (needs_node (decode bs))) (ask 11 (can_erase (decode bs) set) ∷ []) e)
 
   module _ (large : length set ≡ 1024) where
-    -- by the questions that the erasable set is put too
-    pub erase-refused : (r : Refusal) → refusal_number r ≡ refusal (ask_arena bs (needs_node (decode bs))) → Erased set bs (Err r) bs
-    erase-refused r e =
-        refused-by r
-        (refused-before r (ask_arena bs (needs_node (decode bs))) (ask 11 (can_erase (decode bs) set) ∷ []) e
-        ∙ sym (whole_set bs set (erase_questions set (decode bs)) large))
-
     module _ (o : ValidArena bs) (some : 0 < count_in bs) where
       set-left : refusal erase_all ≡ refusal (ask 11 (can_erase (decode bs) set) ∷ [])
       set-left = asks-own bs set (erase_questions set (decode bs)) large o ∙ rw (node-zero bs o some)

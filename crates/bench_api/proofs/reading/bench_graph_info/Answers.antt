@@ -12,7 +12,7 @@ returns-in-Graph c =
     accepted-number (sym (ap graph_read_refusal case) ∙ answer.refused)
     (c.number.ensures ∙ ap node_number (answer.graph _ (ap graph_read_value case)).local-root)
 
-pub returns-in-Refused : goal.returns-in-Refused
-returns-in-Refused c =
-    let case = c.in-Refused.is in
-    refused-number _ c.in-Refused.refusal (sym (ap graph_read_refusal case) ∙ c.graph_info-read.ensures.refused) c.carry_refusal.ensures
+pub returns-in-Err : goal.returns-in-Err
+returns-in-Err c =
+    let case = c.in-Err.is in
+    refused-number _ c.in-Err.refusal (sym (ap graph_read_refusal case) ∙ c.graph_info-read.ensures.refused) c.carry_refusal.ensures

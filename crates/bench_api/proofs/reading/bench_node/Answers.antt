@@ -10,7 +10,7 @@ returns-in-Node c =
     let case = c.in-Node.is in
     accepted-number (sym (ap node_read_refusal case) ∙ answer.refused) (answer.node _ (ap node_read_value case)).first-child
 
-pub returns-in-Refused : goal.returns-in-Refused
-returns-in-Refused c =
-    let case = c.in-Refused.is in
-    refused-number _ c.in-Refused.refusal (sym (ap node_read_refusal case) ∙ c.node-read.ensures.refused) c.carry_refusal.ensures
+pub returns-in-Err : goal.returns-in-Err
+returns-in-Err c =
+    let case = c.in-Err.is in
+    refused-number _ c.in-Err.refusal (sym (ap node_read_refusal case) ∙ c.node-read.ensures.refused) c.carry_refusal.ensures

@@ -11,7 +11,7 @@ returns-in-Hierarchy c =
     let passed = sym (ap hierarchy_refusal case) ∙ answer.refused in
     accepted-number passed (c.number.ensures ∙ optional-number _ _ _ passed (sym (ap hierarchy_class case) ∙ answer.class-node))
 
-pub returns-in-Refused : goal.returns-in-Refused
-returns-in-Refused c =
-    let case = c.in-Refused.is in
-    refused-number _ c.in-Refused.refusal (sym (ap hierarchy_refusal case) ∙ c.starting_node_of_class_hierarchy-read.ensures.refused) c.carry_refusal.ensures
+pub returns-in-Err : goal.returns-in-Err
+returns-in-Err c =
+    let case = c.in-Err.is in
+    refused-number _ c.in-Err.refusal (sym (ap hierarchy_refusal case) ∙ c.starting_node_of_class_hierarchy-read.ensures.refused) c.carry_refusal.ensures
