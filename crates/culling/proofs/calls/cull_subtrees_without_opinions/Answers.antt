@@ -13,15 +13,11 @@ use Rattle.culling.proofs.calls.cull_subtrees_without_opinions.Goals as goal
 
 pub cull-requires : goal.cull-requires
 cull-requires c =
-    let passes : let bs = c.args.arena.now in refusal (ask_arena bs (has_node_zero (decode bs) ∷ [])) ≡ 0 =
-    sym c.in_ok-ask_node_zero.ensures in
-    let bs = c.args.arena.now in passed-opened bs (has_node_zero (decode bs) ∷ []) passes
+    passed-opened _ (has_node_zero (decode c.args.arena.now) ∷ []) (sym c.in_ok-ask_node_zero.ensures)
 
 pub returns : goal.returns
 returns c =
-    let passes : let bs = c.args.arena.now in refusal (ask_arena bs (has_node_zero (decode bs) ∷ [])) ≡ 0 =
-    sym c.in_ok-ask_node_zero.ensures in
-    cull-done _ passes _ c.cull.ensures
+    cull-done _ (sym c.in_ok-ask_node_zero.ensures) _ c.cull.ensures
 
 pub returns-in_err-ask_node_zero : goal.returns-in_err-ask_node_zero
 returns-in_err-ask_node_zero c =

@@ -53,10 +53,9 @@ append_node-requires c =
     sym c.prim_count-read.ensures ∙ c.in-Some.is in
     let formed : well_formed c.args.path.now ≡ true =
     sym (counted-well-formed _ _ counted) in
-    let empty : count_in c.args.arena.now ≡ 0 =
-    sym c.count.ensures ∙ c.if-count-ne0.false in
     rw c.start_record.ensures
-    (can-start c.args.arena.now c.args.stack c.args.layer c.args.path.now opened empty _ formed (counted-names _ _ counted))
+    (can-start c.args.arena.now c.args.stack c.args.layer c.args.path.now opened (sym c.count.ensures ∙ c.if-count-ne0.false) _ formed
+    (counted-names _ _ counted))
 
 pub returns : goal.returns
 returns c =
@@ -66,12 +65,10 @@ returns c =
     sym c.prim_count-read.ensures ∙ c.in-Some.is in
     let formed : well_formed c.args.path.now ≡ true =
     sym (counted-well-formed _ _ counted) in
-    let empty : count_in c.args.arena.now ≡ 0 =
-    sym c.count.ensures ∙ c.if-count-ne0.false in
     let bs = c.args.arena.now in
     let node = ap (λ (r : Node). node_of r c.args.path.now) c.start_record.ensures
     ∙ start-node c.args.stack c.args.layer c.in-Some.prims c.args.path.now (counted-names _ _ counted) in
-    start-done bs c.args.stack c.args.layer c.args.path.now opened empty _ formed
+    start-done bs c.args.stack c.args.layer c.args.path.now opened (sym c.count.ensures ∙ c.if-count-ne0.false) _ formed
     (c.append_node.ensures ∙ ap (λ (y : model.Node). encode (with_node (decode bs) y) bs) node)
 
 pub returns-in_err-ask_graph : goal.returns-in_err-ask_graph

@@ -35,19 +35,13 @@ pub returns-then-not-order_graph : goal.returns-then-not-order_graph
 returns-then-not-order_graph c =
     let has-node : let bs = c.args.arena.now in ValidArena bs × (0 < count_in bs) =
     some-node _ (sym c.in_ok-ask_node_zero.ensures) in
-    let not-finalized : finalized_in c.args.arena.now ≡ 1 → ⊥ =
-    λ e. c.if-finalized-eq1.false (c.finalized.ensures ∙ e) in
-    let there = has-node in
-    no-order _ there.0 there.1 not-finalized _ _ c.order_graph.ensures (not-true _ c.if-not-order_graph.true-raw)
+    no-order _ has-node.0 has-node.1 (λ e. c.if-finalized-eq1.false (c.finalized.ensures ∙ e)) _ _ c.order_graph.ensures (not-true _ c.if-not-order_graph.true-raw)
 
 pub returns : goal.returns
 returns c =
     let has-node : let bs = c.args.arena.now in ValidArena bs × (0 < count_in bs) =
     some-node _ (sym c.in_ok-ask_node_zero.ensures) in
-    let not-finalized : finalized_in c.args.arena.now ≡ 1 → ⊥ =
-    λ e. c.if-finalized-eq1.false (c.finalized.ensures ∙ e) in
-    let there = has-node in
-    finalize-done _ there.0 there.1 not-finalized _ _ c.order_graph.ensures (not-false _ c.if-not-order_graph.false-raw)
+    finalize-done _ has-node.0 has-node.1 (λ e. c.if-finalized-eq1.false (c.finalized.ensures ∙ e)) _ _ c.order_graph.ensures (not-false _ c.if-not-order_graph.false-raw)
 
 pub returns-in_err-ask_node_zero : goal.returns-in_err-ask_node_zero
 returns-in_err-ask_node_zero c =

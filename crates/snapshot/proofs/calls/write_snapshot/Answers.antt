@@ -15,16 +15,12 @@ returns-then-out-ne-SNAPSHOT_BYTES c =
 
 pub write_snapshot-requires : goal.write_snapshot-requires
 write_snapshot-requires c =
-    let passes : refusal (ask_arena c.args.arena.now []) ≡ 0 =
-    sym c.in_ok-ask_graph.ensures in
-    record { opened = passed-opened _ [] passes; large = c.if-out-ne-SNAPSHOT_BYTES.false }
+    record { opened = passed-opened _ [] (sym c.in_ok-ask_graph.ensures); large = c.if-out-ne-SNAPSHOT_BYTES.false }
 
 pub returns : goal.returns
 returns c =
-    let passes : refusal (ask_arena c.args.arena.now []) ≡ 0 =
-    sym c.in_ok-ask_graph.ensures in
     let wrote = c.write_snapshot.ensures in
-    written _ _ c.if-out-ne-SNAPSHOT_BYTES.false passes _ _ wrote.value wrote.out_after
+    written _ _ c.if-out-ne-SNAPSHOT_BYTES.false (sym c.in_ok-ask_graph.ensures) _ _ wrote.value wrote.out_after
 
 pub returns-in_err-ask_graph : goal.returns-in_err-ask_graph
 returns-in_err-ask_graph c =
