@@ -7,21 +7,14 @@ ghost use Rattle.certificate.specs.Certificate.{FollowsBy, NextBy, RisesOver};
 use line_table::Entry;
 use model::{Ordering, Verdict};
 
-// A place, as wide as the numbers that are compared.
-pub(crate) fn wide(place: u16) -> u32
-    ensures { result ≡ place }
-{
-    place as u32
-}
-
 // The strength of nodes x and y, read off their places: the one with the lower place is the
 // stronger.
 pub fn by_places(places: &[u16], x: u32, y: u32) -> Ordering
     requires { (x < length places.now) × (y < length places.now) × (length places.now ≤ 1024) }
     ensures { result ≡ by_place (place_in places.now) x y }
 {
-    let from = wide(places[x as usize]);
-    let to = wide(places[y as usize]);
+    let from = u32::from(places[x as usize]);
+    let to = u32::from(places[y as usize]);
     strength::by_number(from, to)
 }
 
