@@ -102,10 +102,7 @@ pub(crate) fn rises(sibling: u32, node: u32, e: Entry) -> bool
     if !e.authored {
         return true;
     }
-    if e.sibling != sibling {
-        return sibling < e.sibling;
-    }
-    node < e.node
+    (sibling, node) < (e.sibling, e.node)
 }
 
 // A number of an authored one, else the other.
