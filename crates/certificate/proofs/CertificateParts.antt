@@ -9,7 +9,7 @@ use Prim.Native.Nat.{ℕ, ◌+◌, ◌-◌, ◌≤◌, ◌<◌}
 use native.Mathlib.Omega.{arith}
 use native.Mathlib.Decide.{dec_lt}
 use lib.Dec.{eqb}
-use lib.ListN.{length, get_or}
+use lib.ListN.{length, get_or, take, drop}
 use lib.Seq.{slice}
 use Rattle.std.specs.declared.cmp.Ordering.{Ordering}
 use Rattle.model.specs.Arena.{count_in}
@@ -35,7 +35,7 @@ use Rattle.strength.specs.Verdicts.{resolve}
 use Rattle.line_table.specs.declared.Entry.{Entry}
 use Rattle.line_table.specs.LineTable.{EntryOf, NestedKnown, Weighs, NestedRow, Tabled}
 use Rattle.certificate.specs.Certificate.{place_in, Placed, IsBefore, Given, Reaches, ChildOf, Part, ByLines, RunEnd}
-use Rattle.certificate.proofs.SliceLaws.{Each, EachNext, EachLater, each_none, each_more, next_more, later-parts, each_all, all-each, each-neighbours, each-pairs, pairs-each}
+use Rattle.certificate.proofs.SliceLaws.{Each, EachNext, EachLater, each_none, each_more, next_more, later-parts, each_all, all-each, each-neighbours, each-pairs, pairs-each, part-read}
 
 -- ---- Entries
 
@@ -136,6 +136,13 @@ pub entry-reached : {bs table sorted places : List ℕ} {v start end : ℕ} → 
 entry-reached {bs} given part there k l h entry =
     entry-placed (legal bs given.opened) (part-child given.long part k l h) entry there.reaches there.few
 
+-- what a loop over the children after the one at `at` reads
+pub later-read : {bs table sorted : List ℕ} {v start end at : ℕ} → Given bs table sorted → Part bs sorted v start end → at < end
+    → (i : ℕ) → i < length (take (end - (at + 1)) (drop (at + 1) sorted))
+    → (at + 1 + i < end) × (get_or (take (end - (at + 1)) (drop (at + 1) sorted)) i 0 ≡ get_or sorted (at + 1 + i) 0)
+later-read {sorted = sorted} {end = end} {at = at} given part here =
+    part-read sorted (at + 1) end (omega arith) (omega (arith, given.long, part.high))
+
 -- a graph's arcs rank low
 pub rank-low : {bs : List ℕ} (o : ValidArena bs) (c : ℕ) → c < count_in bs → (view_in bs).rank c ≤ 6
 rank-low {bs} o c h =
@@ -145,24 +152,30 @@ rank-low {bs} o c h =
 
 -- ---- Each against the next
 
--- before i no child is a copy, and each is before the next
-pub record Neighbouring (bs places sorted : List ℕ) (v start i : ℕ) : Type 0 where
+-- before i no child is a copy, and each is before the next; `last` is the one right before i
+pub record Neighbouring (bs places sorted : List ℕ) (v start : ℕ) (last : Entry) (i : ℕ) : Type 0 where
+  pub entry : IsEntry (view_in bs) (get_or sorted (i - 1) 0) last
   pub keyed : Each (Keyed (count_in bs) (view_in bs) v) sorted start i
   pub next : EachNext (KeyLess (view_in bs) (place_in places)) sorted start i
 
 module _ {bs places sorted : List ℕ} {v start : ℕ} where
-  pub neighbouring-start : Keyed (count_in bs) (view_in bs) v (get_or sorted start 0) → Neighbouring bs places sorted v start (start + 1)
-  neighbouring-start keyed = record {
+  pub neighbouring-start : {e : Entry} → IsEntry (view_in bs) (get_or sorted start 0) e → Keyed (count_in bs) (view_in bs) v (get_or sorted start 0)
+      → Neighbouring bs places sorted v start e (start + 1)
+  neighbouring-start entry keyed = record {
+    entry = let same : start + 1 - 1 ≡ start = omega arith in rw same entry;
     keyed = each_more sorted (Keyed (count_in bs) (view_in bs) v) (each_none sorted (Keyed (count_in bs) (view_in bs) v)) keyed;
     next = λ k l h. absurd (omega arith);
   }
 
-  module _ {i : ℕ} (w : Neighbouring bs places sorted v start i) where
-    pub neighbouring-step : Keyed (count_in bs) (view_in bs) v (get_or sorted i 0)
-        → KeyLess (view_in bs) (place_in places) (get_or sorted (i - 1) 0) (get_or sorted i 0) → Neighbouring bs places sorted v start (i + 1)
-    neighbouring-step keyed less = record {
+  module _ {last : Entry} {i : ℕ} (w : Neighbouring bs places sorted v start last i) where
+    pub neighbouring-step : {e : Entry} {r : Bool} → ValidArena bs → start < i → IsEntry (view_in bs) (get_or sorted i 0) e
+        → Keyed (count_in bs) (view_in bs) v (get_or sorted i 0) → IsBefore places last e false r → r ≡ true
+        → Neighbouring bs places sorted v start e (i + 1)
+    neighbouring-step o past entry keyed before answer = record {
+      entry = let same : i + 1 - 1 ≡ i = omega arith in rw same entry;
       keyed = each_more sorted (Keyed (count_in bs) (view_in bs) v) w.keyed keyed;
-      next = next_more sorted (KeyLess (view_in bs) (place_in places)) i w.next less;
+      next = next_more sorted (KeyLess (view_in bs) (place_in places)) i w.next
+          (entries-key-less w.entry entry (legal bs o) (w.keyed (i - 1) (omega arith) (omega arith)) keyed places before answer);
     }
 
     pub neighbouring-ends : {end : ℕ} → ValidArena bs → length sorted ≡ 1024 → start ≤ end → end ≤ 1024 → end ≤ i

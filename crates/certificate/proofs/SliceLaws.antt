@@ -1,14 +1,15 @@
 -- Parts of an array by their indices: what holds at each index, at each and the next, and at each
--- and every later one. Assumes nothing.
-use mathlib.Core.Path.{◌≡◌, refl}
+-- and every later one; and a part as a loop over it reads it. Assumes nothing.
+use mathlib.Core.Path.{◌≡◌, refl, ◌∙◌}
 use mathlib.Core.Logic.{◌⊎◌, inl, inr}
 use mathlib.Core.List.{List, [], ◌∷◌}
 use Prim.Native.Nat.{ℕ, zero, suc, ◌+◌, ◌-◌, ◌≤◌, ◌<◌}
 use native.Mathlib.Nat.{eq-or-lt_of_le}
 use native.Mathlib.Decide.{dec_lt}
 use native.Mathlib.Omega.{arith}
-use lib.ListN.{length, get_or}
-use lib.Seq.{slice, slice-cons, slice_empty}
+use lib.ListN.{length, get_or, take, drop, length-drop}
+use lib.Seq.{slice, slice-cons, slice_empty, length-take-le}
+use Rattle.std.proofs.lemmas.List.{get_or-take, get_or-drop}
 use Rattle.model.specs.Lists.{All, Pairs}
 use Rattle.laws.proofs.OrderKeys.{First, Neighbours}
 
@@ -58,6 +59,18 @@ module _ (array : List ℕ) where
       go (yes p) (yes q) = one i j l p less q
       go (yes p) (no q) = across i j l p (omega arith) within
       go (no p) d = other i j (omega arith) h less within
+
+-- ---- A part as a loop over it reads it
+
+module _ (array : List ℕ) (from end : ℕ) (low : from ≤ end) (fits : end ≤ length array) where
+  pub part-length : length (take (end - from) (drop from array)) ≡ end - from
+  part-length = length-take-le (end - from) (drop from array) (omega (arith, length-drop from array))
+
+  pub part-read : (i : ℕ) → i < length (take (end - from) (drop from array))
+      → (from + i < end) × (get_or (take (end - from) (drop from array)) i 0 ≡ get_or array (from + i) 0)
+  part-read i h =
+      let within : i < end - from = omega (arith, part-length) in
+      (omega arith, get_or-take (end - from) (drop from array) i 0 within ∙ get_or-drop from array i 0)
 
 -- ---- Lists
 

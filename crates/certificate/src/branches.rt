@@ -5,8 +5,6 @@ ghost use Rattle.model.specs.Arena.{count_in};
 ghost use Rattle.model.specs.ArenaCalls.{ValidArena};
 ghost use Rattle.certificate.specs.Certificate.{Reaches, ChildOf, FitsIn};
 
-use crate::entries::wide;
-
 // Whether c is a child of the node.
 pub fn is_child(arena: &[u8], count: u32, parent: u32, c: u32) -> bool
     requires { ValidArena arena.now × (count ≡ count_in arena.now) }
@@ -48,16 +46,15 @@ pub(crate) fn branches_fit(
         places.now stops.now parent start end }
 {
     let count = arena::count(arena);
-    let mut from = wide(places[parent as usize]) + 1;
-    for at in start..end {
-        let c = sorted[at];
+    let mut from = u32::from(places[parent as usize]) + 1;
+    for &c in &sorted[start..end] {
         if !is_child(arena, count, parent, c) {
             return false;
         }
-        if wide(places[c as usize]) < from {
+        if u32::from(places[c as usize]) < from {
             return false;
         }
-        from = wide(stops[c as usize]);
+        from = u32::from(stops[c as usize]);
     }
-    from <= wide(stops[parent as usize])
+    from <= u32::from(stops[parent as usize])
 }

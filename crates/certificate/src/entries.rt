@@ -8,21 +8,14 @@ use line_table::Entry;
 use model::Verdict;
 use std::cmp::Ordering;
 
-// A place, as wide as the numbers that are compared.
-pub(crate) fn wide(place: u16) -> u32
-    ensures { result ≡ place }
-{
-    place as u32
-}
-
 // The strength of nodes x and y, read off their places: the one with the lower place is the
 // stronger.
 pub fn by_places(places: &[u16], x: u32, y: u32) -> Ordering
     requires { (x < length places.now) × (y < length places.now) × (length places.now ≤ 1024) }
     ensures { result ≡ by_place (place_in places.now) x y }
 {
-    let from = wide(places[x as usize]);
-    let to = wide(places[y as usize]);
+    let from = u32::from(places[x as usize]);
+    let to = u32::from(places[y as usize]);
     strength::by_number(from, to)
 }
 
@@ -110,10 +103,7 @@ pub(crate) fn rises(sibling: u32, node: u32, e: Entry) -> bool
     if !e.authored {
         return true;
     }
-    if e.sibling != sibling {
-        return sibling < e.sibling;
-    }
-    node < e.node
+    (sibling, node) < (e.sibling, e.node)
 }
 
 // A number of an authored one, else the other.

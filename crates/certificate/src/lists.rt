@@ -46,7 +46,7 @@ pub(crate) fn list_in_order(
 {
     let mut least: u32 = 0;
     let mut at = start;
-    // No range: a step leads to where the run ends, which only `run_end` finds.
+    // No `for` over `chunk_by`: a run is passed on by where it stands in `sorted`, not as a slice.
     while at < end {
         let first = line_table::entry_of(arena, table, sorted[at]);
         let rank = first.rank;

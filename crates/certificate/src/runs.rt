@@ -23,19 +23,19 @@ fn neighbours_in_order(
     requires part { Part arena.now sorted.now parent start end × (start < end) }
     ensures { PartInOrder arena.now places.now sorted.now start end result }
 {
-    let first = line_table::entry_of(arena, table, sorted[start]);
-    if is_copy(first) {
+    let mut last = line_table::entry_of(arena, table, sorted[start]);
+    if is_copy(last) {
         return false;
     }
-    for i in start + 1..end {
-        let a = line_table::entry_of(arena, table, sorted[i - 1]);
-        let b = line_table::entry_of(arena, table, sorted[i]);
-        if is_copy(b) {
+    for &c in &sorted[start + 1..end] {
+        let e = line_table::entry_of(arena, table, c);
+        if is_copy(e) {
             return false;
         }
-        if !is_before(places, a, b, false) {
+        if !is_before(places, last, e, false) {
             return false;
         }
+        last = e;
     }
     true
 }
@@ -55,8 +55,8 @@ fn has_two_depths(
 {
     let first = line_table::entry_of(arena, table, sorted[start]);
     let depth = first.depth;
-    for i in start..end {
-        let e = line_table::entry_of(arena, table, sorted[i]);
+    for &c in &sorted[start..end] {
+        let e = line_table::entry_of(arena, table, c);
         if e.depth != depth {
             return true;
         }
@@ -89,8 +89,8 @@ fn copies_in_order(
     }
     let mut sibling = if_authored(last, last.sibling, 0);
     let mut node = if_authored(last, last.node, 0);
-    for i in start + 1..end {
-        let e = line_table::entry_of(arena, table, sorted[i]);
+    for &c in &sorted[start + 1..end] {
+        let e = line_table::entry_of(arena, table, c);
         if !comes_next(places, last, e, uneven) {
             return false;
         }
@@ -140,8 +140,8 @@ fn pairs_in_order(
     'pairs: for i in start..end {
         let a = line_table::entry_of(arena, table, sorted[i]);
         nest_where(uneven, arena, table, count, a.root, row);
-        for j in i + 1..end {
-            let b = line_table::entry_of(arena, table, sorted[j]);
+        for &c in &sorted[i + 1..end] {
+            let b = line_table::entry_of(arena, table, c);
             let r = b.root as usize;
             if !is_before(places, a, b, row[r] == 1) {
                 found = false;

@@ -12,17 +12,22 @@ use mir.Val.{bool_byte}
 use borrow.Author.Tests.{eqb-true, eqb-false}
 use Rattle.model.specs.Lists.{bit}
 use Rattle.model.specs.Arena.{count_in}
+use Rattle.model.specs.ArenaCalls.{ValidArena}
 use Rattle.model.specs.Strength.{View, outward, is_nested_under, origins_are_nested}
 use Rattle.laws.proofs.Views.{LegalView}
 use Rattle.laws.proofs.StrengthFlips.{eqb-sym}
 use Rattle.laws.proofs.StrengthWalks.{nested-self, nested-zero, nested-step, outward-lower}
 use Rattle.view.specs.View.{view_in}
+use Rattle.view.proofs.ViewLaws.{legal as legal_view}
 use Rattle.line_table.specs.LineTable.{node_row, Tabled, Inward, NestedRow}
 use Rattle.line_table.proofs.TableCells.{cell}
 
 pub outward-cell : {bs t : List ℕ} {m : ℕ} → Tabled bs t → 0 < m → m < count_in bs → get_or t (m * 16 + 9) 0 ≡ outward (view_in bs) m
 unfolding node_row
 outward-cell {bs} {t} {m} f h l = cell f m 9 h (omega arith) (omega arith)
+
+pub lawful : {bs : List ℕ} {count : ℕ} → ValidArena bs → count ≡ count_in bs → LegalView count (view_in bs)
+lawful opened counted = rw counted (legal_view _ opened)
 
 -- ---- Inward
 

@@ -1,5 +1,5 @@
--- Cells of the table: what a filled table has in a row (`cell`, and `lower` in one that may be row
--- 0), and one cell more (`store`). Assumes nothing.
+-- Cells of the table: a test as one (`test_cell`), what a filled table has in a row (`cell`, and
+-- `lower` in one that may be row 0), and one cell more (`store`). Assumes nothing.
 use mathlib.Core.Path.{◌≡◌, refl, sym, ap, ◌∙◌}
 use mathlib.Core.Bool.{Bool, true, false}
 use mathlib.Core.List.{List}
@@ -8,6 +8,7 @@ use native.Mathlib.Omega.{arith}
 use lib.Dec.{eqb}
 use lib.ListN.{length, length-set, get_or, set}
 use lib.Seq.{get_or-set_same, get_or-set_other}
+use mir.Val.{bool_byte}
 use borrow.Author.Tests.{eq-eqb, ne_eqb, eqb-true, eqb-false}
 use Rattle.model.specs.Lists.{bit}
 use Rattle.model.specs.Graph.{depth_below_introduction}
@@ -26,6 +27,11 @@ own_row bs n = node_row (view_in bs) (depth_below_introduction (decode bs).nodes
 
 row-own : (bs : List ℕ) (n : ℕ) → 0 < n → row_in bs n ≡ own_row bs n
 row-own bs n h = rw (ne_eqb n 0 (λ z. omega arith))
+
+-- a test as a number
+pub test_cell : (s : Bool) {t : Bool} {v : ℕ} → v ≡ bool_byte s → s ≡ t → Cell (bit t) v
+test_cell true e same = record { same = e ∙ ap bit same; fits = omega (arith, e) }
+test_cell false e same = record { same = e ∙ ap bit same; fits = omega (arith, e) }
 
 -- ---- What is there
 

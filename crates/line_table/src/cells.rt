@@ -1,6 +1,5 @@
 // The cells of the table: one read, the next one stored.
 ghost use Rattle.std.specs.Prelude.{◌≡◌, ◌+◌, ◌*◌, ◌≤◌, ◌<◌, length, get_or};
-ghost use Rattle.model.specs.Lists.{bit};
 ghost use Rattle.line_table.specs.LineTable.{Cell, Filled, Next};
 
 // Column k of row n.
@@ -31,14 +30,4 @@ pub(crate) fn put(arena: &[u8], table: &mut [u16], n: u32, k: usize, value: u32)
     ensures { Filled arena.now table.new (n * 16 + (k + 1)) }
 {
     table[n as usize * 16 + k] = value as u16;
-}
-
-// A test as a number.
-pub(crate) fn number(test: bool) -> u32
-    ensures { (result ≡ bit test) × (result ≤ 1) }
-{
-    if test {
-        return 1;
-    }
-    0
 }

@@ -8,7 +8,7 @@ ghost use Rattle.model.specs.Strength.{class_depth};
 ghost use Rattle.view.specs.View.{view_in};
 ghost use Rattle.line_table.specs.LineTable.{Cell, Filled, Filling, Tabled, skipped_depth, hierarchy_depth};
 
-use crate::cells::{cell, number, put};
+use crate::cells::{cell, put};
 
 // The second half of row 0: what other rows may read of it.
 fn fill_root(arena: &[u8], table: &mut [u16])
@@ -42,14 +42,20 @@ fn fill_tests(arena: &[u8], root: u32, n: u32, table: &mut [u16])
     requires { Filling arena.now table.old root n 4 }
     ensures { Filling arena.now table.new root n 7 }
 {
-    put(arena, table, n, 4, number(view::has_specializes(arena, n)));
-    put(arena, table, n, 5, number(view::is_authored(arena, n)));
+    put(
+        arena,
+        table,
+        n,
+        4,
+        u32::from(view::has_specializes(arena, n)),
+    );
+    put(arena, table, n, 5, u32::from(view::is_authored(arena, n)));
     put(
         arena,
         table,
         n,
         6,
-        number(view::in_local_stack(arena, root, n)),
+        u32::from(view::in_local_stack(arena, root, n)),
     );
 }
 
@@ -65,7 +71,7 @@ fn fill_sites(arena: &[u8], root: u32, n: u32, table: &mut [u16])
         put(arena, table, n, 8, origin);
         put(arena, table, n, 9, origin);
     } else {
-        put(arena, table, n, 7, number(view::is_implied(arena, n)));
+        put(arena, table, n, 7, u32::from(view::is_implied(arena, n)));
         put(arena, table, n, 8, n);
         put(arena, table, n, 9, view::parent(arena, n));
     }

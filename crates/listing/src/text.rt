@@ -28,8 +28,8 @@ pub(crate) fn put_number(out: &mut [u8], at: usize, n: u32) -> usize
     ensures { Put at (number n) out.old result out.new }
 {
     if n < 10 {
-        return put_byte(out, at, 48 + (n as u8));
+        return put_byte(out, at, b'0' + (n as u8));
     }
     let last = put_number(out, at, n / 10);
-    put_byte(out, last, 48 + (n % 10) as u8)
+    put_byte(out, last, b'0' + (n % 10) as u8)
 }

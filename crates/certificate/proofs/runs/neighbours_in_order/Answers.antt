@@ -1,47 +1,53 @@
--- `neighbours_in_order` meets its contract. The loop's invariant: before `i` no child is a copy, and
+-- `neighbours_in_order` meets its contract. The loop's invariant: so far no child is a copy, and
 -- each is before the next. Assumes nothing.
-use native.Mathlib.Omega.{arith}
 use mathlib.Core.Path.{sym, ◌∙◌}
-use Prim.Native.Nat.{◌-◌}
+use Prim.Native.Nat.{◌+◌}
+use native.Mathlib.Nat.{add-zero, add_assoc}
+use native.Mathlib.Omega.{arith}
 use borrow.Author.Tests.{not-false}
 use Rattle.view.proofs.ViewLaws.{legal}
-use Rattle.certificate.proofs.CertificateParts.{part-child, entry-readable, entry-reached, entry-keyed, entries-key-less, neighbouring-start, neighbouring-step, neighbouring-ends}
+use Rattle.certificate.proofs.CertificateParts.{part-child, entry-readable, entry-reached, later-read, entry-keyed, neighbouring-start, neighbouring-step, neighbouring-ends}
+use Rattle.certificate.proofs.SliceLaws.{part-length}
 use Rattle.certificate.proofs.runs.neighbours_in_order.Goals as goal
 
-pub entry_of-first-requires : goal.entry_of-first-requires
-entry_of-first-requires c =
+pub entry_of-last-requires : goal.entry_of-last-requires
+entry_of-last-requires c =
     entry-readable c.requires.given.0 c.requires.part.0 c.args.start (omega arith) c.requires.part.1
 
-pub loop-i-init : goal.loop-i-init
-loop-i-init c =
-    neighbouring-start
+pub loop-c-init : goal.loop-c-init
+loop-c-init c =
+    rw add-zero
+    (neighbouring-start c.entry_of-last.ensures
     (entry-keyed (legal c.args.arena.now c.requires.given.0.opened)
-    (part-child c.requires.given.0.long c.requires.part.0 c.args.start (omega arith) c.requires.part.1) c.entry_of-first.ensures
-    (not-false _ (sym c.is_copy.ensures ∙ c.if-is_copy.false)))
+    (part-child c.requires.given.0.long c.requires.part.0 c.args.start (omega arith) c.requires.part.1) c.entry_of-last.ensures
+    (not-false _ (sym c.is_copy.ensures ∙ c.if-is_copy.false))))
 
-pub entry_of-b-requires : goal.entry_of-b-requires
-entry_of-b-requires c =
-    entry-readable c.requires.given.0 c.requires.part.0 c.loop-i.i (omega arith) c.loop-i-test.true
+pub entry_of-e-requires : goal.entry_of-e-requires
+entry_of-e-requires c =
+    let here = later-read c.requires.given.0 c.requires.part.0 c.requires.part.1 c.loop-c.c-index c.loop-c-test.true in
+    rw here.1 (entry-readable c.requires.given.0 c.requires.part.0 _ (omega arith) here.0)
 
 pub is_before-requires : goal.is_before-requires
 is_before-requires c =
-    let i = c.loop-i.i in (
-      entry-reached c.requires.given.0 c.requires.part.0 c.requires.given.1 (i - 1) (omega arith) (omega arith) c.entry_of-a.ensures,
-      entry-reached c.requires.given.0 c.requires.part.0 c.requires.given.1 i (omega arith) c.loop-i-test.true c.entry_of-b.ensures,
+    let here = later-read c.requires.given.0 c.requires.part.0 c.requires.part.1 c.loop-c.c-index c.loop-c-test.true in (
+      entry-reached c.requires.given.0 c.requires.part.0 c.requires.given.1 _ (omega arith) (omega arith) c.loop-c.invariant.entry,
+      entry-reached c.requires.given.0 c.requires.part.0 c.requires.given.1 _ (omega arith) here.0 (rw here.1 at c.entry_of-e.ensures),
     )
 
-pub loop-i-preserved : goal.loop-i-preserved
-loop-i-preserved c =
-    let w = c.loop-i.invariant in
-    let view = legal c.args.arena.now c.requires.given.0.opened in
-    let b = c.entry_of-b.ensures in
-    let child = part-child c.requires.given.0.long c.requires.part.0 c.loop-i.i (omega arith) c.loop-i-test.true in
-    let keyed = entry-keyed view child b (not-false _ (sym c.is_copy-in-loop-i.ensures ∙ c.if-is_copy-2.false)) in
-    neighbouring-step w keyed
-    (entries-key-less c.entry_of-a.ensures b view (w.keyed (c.loop-i.i - 1) (omega arith) (omega arith)) keyed
-    c.args.places.now c.is_before.ensures c.if-not-is_before.false)
+pub loop-c-preserved : goal.loop-c-preserved
+loop-c-preserved c =
+    let given = c.requires.given.0 in
+    let here = later-read given c.requires.part.0 c.requires.part.1 c.loop-c.c-index c.loop-c-test.true in
+    let entry = rw here.1 at c.entry_of-e.ensures in
+    let child = part-child given.long c.requires.part.0 _ (omega arith) here.0 in
+    rw (← add_assoc (c.args.start + 1) c.loop-c.c-index 1)
+    (neighbouring-step c.loop-c.invariant given.opened (omega arith) entry
+    (entry-keyed (legal c.args.arena.now given.opened) child entry (not-false _ (sym c.is_copy-in-loop-c.ensures ∙ c.if-is_copy-2.false)))
+    c.is_before.ensures c.if-not-is_before.false)
 
 pub returns : goal.returns
 returns c =
-    let part = c.requires.part.0 in
-    λ e. neighbouring-ends c.loop-i.invariant c.requires.given.0.opened c.requires.given.0.long part.low part.high (omega arith)
+    let part = c.requires.part in
+    let long = part-length c.args.sorted.now (c.args.start + 1) c.args.end (omega arith) (omega (arith, c.requires.given.0.long, part.0.high)) in
+    λ e. neighbouring-ends c.loop-c.invariant c.requires.given.0.opened c.requires.given.0.long part.0.low part.0.high
+    (omega (arith, long, c.loop-c-test.false))

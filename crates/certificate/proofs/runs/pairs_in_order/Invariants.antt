@@ -1,6 +1,6 @@
 -- `pairs_in_order` meets its contract. The outer loop's invariant: nothing is found, and each child
 -- before `i` is before all later ones; the inner one's: nothing is found, and the child at `i` is
--- before those up to `j`. Assumes nothing.
+-- before those so far. Assumes nothing.
 use mathlib.Core.Path.{◌≡◌}
 use mathlib.Core.Bool.{true}
 use Prim.Native.Nat.{◌+◌}
@@ -10,10 +10,10 @@ use Rattle.certificate.proofs.CertificateParts.{Before}
 use Rattle.certificate.proofs.SliceLaws.{Each, EachLater}
 use Rattle.certificate.proofs.runs.pairs_in_order.Given as goal
 
-abbrev pub invariant-loop-j : goal.invariant-loop-j
-invariant-loop-j l = record {
+abbrev pub invariant-loop-c : goal.invariant-loop-c
+invariant-loop-c l = record {
   none : l.found ≡ true;
-  each : Each (Before (view_in l.arena) l.places (get_or l.sorted l.i 0)) l.sorted (l.i + 1) l.j;
+  each : Each (Before (view_in l.arena) l.places (get_or l.sorted l.i 0)) l.sorted (l.i + 1) (l.i + 1 + l.c-index);
 }
 
 abbrev pub invariant-pairs : goal.invariant-pairs

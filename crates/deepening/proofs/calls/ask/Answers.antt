@@ -27,6 +27,12 @@ returns-then-name-eq0 c =
     let there = has-node in
     refused-no-name _ _ there.0 there.1 right _ c.last_name-name.ensures c.if-name-eq0.true
 
+pub paths_fit-requires : goal.paths_fit-requires
+paths_fit-requires c =
+    let has-node : let bs = c.args.arena.now in ValidArena bs × (0 < count_in bs) =
+    some-node _ (sym (rw c.in-Done.is at c.ask_node_zero-asked.ensures)) in
+    has-node.0
+
 pub returns-then-not-paths_fit : goal.returns-then-not-paths_fit
 returns-then-not-paths_fit c =
     let has-node : let bs = c.args.arena.now in ValidArena bs × (0 < count_in bs) =

@@ -1,10 +1,9 @@
 -- `fill_sites` meets its contract: cell after cell, of a propagated specializes or of another node.
 -- Assumes nothing.
-use mathlib.Core.Path.{sym, ap, ◌∙◌}
+use mathlib.Core.Path.{sym, ◌∙◌}
 use native.Mathlib.Omega.{arith}
-use Rattle.model.specs.Lists.{bit}
 use Rattle.line_table.specs.LineTable.{node_row}
-use Rattle.line_table.proofs.TableCells.{small, next}
+use Rattle.line_table.proofs.TableCells.{small, test_cell, next}
 use Rattle.line_table.proofs.TableRows.{parent-lower, origin-read, propagated-site, propagated-replaced, propagated-outward, other-replaced, other-outward}
 use Rattle.line_table.proofs.filling.fill_sites.Goals as goal
 
@@ -31,7 +30,7 @@ put-requires-then-is_propagated_specializes-2 c =
 pub put-requires-else-is_propagated_specializes : goal.put-requires-else-is_propagated_specializes
 unfolding node_row
 put-requires-else-is_propagated_specializes c =
-    next c.requires 7 (omega arith) c.requires.filled (record { same = c.number.ensures.0 ∙ ap bit c.is_implied.ensures; fits = omega (arith, c.number.ensures.1) })
+    next c.requires 7 (omega arith) c.requires.filled (test_cell _ c.from.ensures c.is_implied.ensures)
 
 pub put-requires-else-is_propagated_specializes-2 : goal.put-requires-else-is_propagated_specializes-2
 unfolding node_row

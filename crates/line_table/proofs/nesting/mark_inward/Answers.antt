@@ -4,10 +4,7 @@ use Prim.Native.Nat.{ℕ, ◌≤◌}
 use native.Mathlib.Omega.{arith}
 use lib.Dec.{eqb}
 use lib.ListN.{length, length-set}
-use Rattle.laws.proofs.Views.{LegalView}
-use Rattle.view.specs.View.{view_in}
-use Rattle.view.proofs.ViewLaws.{legal}
-use Rattle.line_table.proofs.NestingLaws.{bit_byte, outward-cell, inward-start, inward-self, inward-falls, inward-step}
+use Rattle.line_table.proofs.NestingLaws.{bit_byte, outward-cell, lawful, inward-start, inward-self, inward-falls, inward-step}
 use Rattle.line_table.proofs.nesting.mark_inward.Goals.{then-m-r, else-m-r}
 use Rattle.line_table.proofs.nesting.mark_inward.Goals as goal
 
@@ -17,19 +14,17 @@ loop-m-init c =
 
 pub bounds-row-table : goal.bounds-row-table
 bounds-row-table c =
-    let lawful : LegalView c.args.count (view_in c.args.arena.now) =
-    rw c.requires.valid_arena.2 (legal _ c.requires.valid_arena.0) in
+    let legal = lawful c.requires.valid_arena.0 c.requires.valid_arena.2 in
     let long : c.args.count ≤ length c.loop-m.row = omega (arith, c.loop-m.auto.row, c.requires.r_lt_count.1, length-set {A = ℕ}) in
     let out = outward-cell c.requires.valid_arena.1 c.loop-m.auto.m (omega (arith, c.requires.valid_arena.2)) in
-    omega (arith, long, inward-falls c.loop-m.invariant (omega arith) lawful c.loop-m.auto.m c.loop-m-test.true out)
+    omega (arith, long, inward-falls c.loop-m.invariant (omega arith) legal c.loop-m.auto.m c.loop-m-test.true out)
 
 pub loop-m-preserved : goal.loop-m-preserved
 loop-m-preserved c =
-    let lawful : LegalView c.args.count (view_in c.args.arena.now) =
-    rw c.requires.valid_arena.2 (legal _ c.requires.valid_arena.0) in
+    let legal = lawful c.requires.valid_arena.0 c.requires.valid_arena.2 in
     let long : c.args.count ≤ length c.loop-m.row = omega (arith, c.loop-m.auto.row, c.requires.r_lt_count.1, length-set {A = ℕ}) in
     let out = outward-cell c.requires.valid_arena.1 c.loop-m.auto.m (omega (arith, c.requires.valid_arena.2)) in
     elim c.if-m-r.branch [
       | then-m-r w ↦ inward-self c.loop-m.invariant (omega arith) w.if-m-r.true w.row-is
-      | else-m-r w ↦ inward-step c.loop-m.invariant (omega arith) lawful c.loop-m.auto.m c.loop-m-test.true out w.if-m-r.false w.row-is
+      | else-m-r w ↦ inward-step c.loop-m.invariant (omega arith) legal c.loop-m.auto.m c.loop-m-test.true out w.if-m-r.false w.row-is
     ]
