@@ -7,4 +7,5 @@ pub mod QueryLaws
 pub mod PathCalls
 mod SiteSearch
 -- The calls that set.
+mod FlagLaws
 mod SettingLaws

@@ -191,12 +191,10 @@ fn lowest(arena: &[u8], count: u32, stack: u32, path: &[u8]) -> u32
     requires { ValidArena arena.now × (count ≡ count_in arena.now) }
     ensures { result ≡ node_using_site stack path.now (decode arena.now) }
 {
-    let mut n: u32 = 0;
-    while n < count {
+    for n in 0..count {
         if uses(arena, n, stack, path) {
             return n;
         }
-        n += 1;
     }
     arena::NO_NODE
 }

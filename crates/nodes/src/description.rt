@@ -55,10 +55,8 @@ fn path_bytes(arena: &[u8], count: u32) -> usize
     ensures { (result ≡ path_bytes (decode arena.now).nodes) × (result ≤ 32768) }
 {
     let mut sum: usize = 0;
-    let mut n: u32 = 0;
-    while n < count {
+    for n in 0..count {
         sum += (arena::record_length(arena, n) as usize) - arena::offsets::PATH;
-        n += 1;
     }
     sum
 }

@@ -7,8 +7,7 @@
 ghost use Rattle.std.specs.Prelude.{◌≡◌};
 ghost use Rattle.model.specs.ArenaCalls.{on_arena, Finishes};
 ghost use Rattle.model.specs.Calls.{mark, set_first_spec, set_has_specs, set_restriction_depth};
-ghost use Rattle.model.specs.Node.{has_flag, inert_flag, culled_flag, prohibited_children_flag};
-ghost use Rattle.model.specs.Setting.{with_given, with_flags, may_mark};
+ghost use Rattle.model.specs.Setting.{with_flags, may_mark};
 ghost use Rattle.arena.specs.Slot.{HasSlot};
 ghost use Rattle.nodes.specs.Setting.{first_spec_stored};
 
@@ -16,54 +15,11 @@ use model::Refusal;
 
 // ---- Flags
 
-// Whether the flag PROHIBITED_CHILDREN is set.
-fn prohibits_children(flags: u8) -> bool
-    ensures { result ≡ has_flag prohibited_children_flag flags }
-{
-    flags / 4 % 2 == 1
-}
-
-// The flags with INERT set if it is given.
-fn with_inert(given: u8, flags: u8) -> u8
-    ensures { result ≡ with_given inert_flag given flags }
-{
-    if !validate::is_inert(given) {
-        return flags;
-    }
-    if validate::is_inert(flags) {
-        return flags;
-    }
-    flags + 1
-}
-
-// The flags with CULLED set if it is given.
-fn with_culled(given: u8, flags: u8) -> u8
-    ensures { result ≡ with_given culled_flag given flags }
-{
-    if !validate::is_culled(given) {
-        return flags;
-    }
-    validate::with_culled(flags)
-}
-
-// The flags with PROHIBITED_CHILDREN set if it is given.
-fn with_prohibited_children(given: u8, flags: u8) -> u8
-    ensures { result ≡ with_given prohibited_children_flag given flags }
-{
-    if !prohibits_children(given) {
-        return flags;
-    }
-    if prohibits_children(flags) {
-        return flags;
-    }
-    flags + 4
-}
-
-// The given flags joined with these by or.
+// The given flags joined with these by or: only INERT, CULLED and PROHIBITED_CHILDREN are set.
 fn with_flags(given: u8, flags: u8) -> u8
     ensures { result ≡ with_flags given flags }
 {
-    with_prohibited_children(given, with_culled(given, with_inert(given, flags)))
+    flags | (given & 7)
 }
 
 // Question 6 of `mark`: only INERT, CULLED and PROHIBITED_CHILDREN are given, and to a node whose

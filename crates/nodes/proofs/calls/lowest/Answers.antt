@@ -1,5 +1,5 @@
 -- `lowest` meets its contract. The loop's invariant: the lowest from `n` on is the lowest of all.
--- The measure is what is left of the count. Assumes nothing.
+-- Assumes nothing.
 use native.Mathlib.Omega.{arith}
 use mathlib.Core.Path.{sym, ◌∙◌}
 use Rattle.nodes.proofs.SiteSearch.{lowest-starts, lowest-steps, lowest-ends}
@@ -7,7 +7,7 @@ use Rattle.nodes.proofs.calls.lowest.Goals as goal
 
 pub loop-n-init : goal.loop-n-init
 loop-n-init c =
-    (omega arith, lowest-starts _ _ _)
+    lowest-starts _ _ _
 
 pub uses-requires : goal.uses-requires
 uses-requires c =
@@ -16,17 +16,13 @@ uses-requires c =
 pub returns-then-uses : goal.returns-then-uses
 returns-then-uses c =
     let here = lowest-steps c.args.arena.now c.args.stack c.args.path.now c.loop-n.n (omega (arith, c.requires.1, c.loop-n-test.true)) in
-    (rw (sym c.uses.ensures ∙ c.if-uses.true) at (sym here)) ∙ c.loop-n.invariant.1
-
-pub loop-n-smaller : goal.loop-n-smaller
-loop-n-smaller c =
-    omega (arith, c.loop-n-test.true)
+    (rw (sym c.uses.ensures ∙ c.if-uses.true) at (sym here)) ∙ c.loop-n.invariant
 
 pub loop-n-preserved : goal.loop-n-preserved
 loop-n-preserved c =
     let here = lowest-steps c.args.arena.now c.args.stack c.args.path.now c.loop-n.n (omega (arith, c.requires.1, c.loop-n-test.true)) in
-    (omega (arith, c.loop-n-test.true), (rw (sym c.uses.ensures ∙ c.if-uses.false) at (sym here)) ∙ c.loop-n.invariant.1)
+    (rw (sym c.uses.ensures ∙ c.if-uses.false) at (sym here)) ∙ c.loop-n.invariant
 
 pub returns : goal.returns
 returns c =
-    sym (lowest-ends c.args.arena.now c.args.stack c.args.path.now c.loop-n.n (omega (arith, c.requires.1, c.loop-n-test.false))) ∙ c.loop-n.invariant.1
+    sym (lowest-ends c.args.arena.now c.args.stack c.args.path.now c.loop-n.n (omega (arith, c.requires.1, c.loop-n-test.false))) ∙ c.loop-n.invariant
