@@ -14,10 +14,10 @@ use lib.ListN.{length, get_or, drop, drop_of_length-le}
 use lib.Seq.{drop-cons}
 use Rattle.model.specs.Path.{State, start, root, slash, name, set_start, set, selection, closed, dead, step, run, may_end, in_name, names, is_name_start, is_word_byte, is_selection_byte, solidus, open_brace, equals_sign, close_brace, well_formed, prim_count, count_prims}
 use Rattle.model.specs.declared.PrimCount.TheVariants.{Names, Malformed}
-use Rattle.path.specs.declared.scan.Part.{Part}
-use Rattle.path.specs.declared.scan.Part.TheVariants.{To, Malformed as NoPart}
+use Rattle.std.specs.Prelude.{Option, Some, None}
+use Rattle.path.specs.declared.scan.Element.{Element}
 use Rattle.path.specs.declared.scan.Element.TheVariants.{Name, Selection}
-use Rattle.path.specs.PathReading.{counted, reading, Passed, Run, begins_name, stands_at, GoesOn, Fails, Stops, same, NameRead, SelectionRead, ElementRead, as_name, as_selection, standing}
+use Rattle.path.specs.PathReading.{counted, reading, Passed, Run, begins_name, stands_at, GoesOn, Fails, Stops, same, NameRead, SelectionRead, ElementRead, standing}
 
 -- ---- One byte
 
@@ -144,7 +144,7 @@ selection-stays b e = rw e
 pub no_name : (p : List ℕ) (at : ℕ) → begins_name p at ≡ false → Fails p slash at
 no_name p at e = word-missing slash name (λ b. refl) p at refl e
 
-pub name-read : (p : List ℕ) (at e : ℕ) → begins_name p at ≡ true → Run is_word_byte p (at + 1) e → NameRead p slash at (To e)
+pub name-read : (p : List ℕ) (at e : ℕ) → begins_name p at ≡ true → Run is_word_byte p (at + 1) e → NameRead p slash at (Some e)
 name-read p at e b w =
     (record { further = omega (arith, w.from); within = w.within; same = word-reads slash name (λ b. refl) p at name-stays e b w }, w.stops)
 
@@ -170,7 +170,7 @@ module _ (p : List ℕ) (at sign : ℕ) (begun : begins_name p at ≡ true) (wor
     pub no-brace : stands_at p last close_brace ≡ false → Fails p set_start at
     no-brace e n = value_read n ∙ sign-missing selection closed is_selection_byte close_brace (λ b. refl) p last value.stops refl e n
 
-    pub selection-read : stands_at p last close_brace ≡ true → SelectionRead p at (To (last + 1))
+    pub selection-read : stands_at p last close_brace ≡ true → SelectionRead p at (Some (last + 1))
     selection-read e =
         record {
           further = omega (arith, word.from, value.from);
@@ -189,15 +189,24 @@ module _ (p : List ℕ) (q r : State) (at from : ℕ) (le : at ≤ from) (leads 
   goes_before s more e g =
       record { further = omega (arith, g.further); within = g.within; same = λ n. leads n ∙ g.same n }
 
+-- where a name or a selection ends, as an element of the path
+abbrev pub as_name : Option ℕ → Option Element
+as_name (Some e) = Some (Name e)
+as_name None = None
+
+abbrev pub as_selection : Option ℕ → Option Element
+as_selection (Some e) = Some (Selection e)
+as_selection None = None
+
 name-element : (p : List ℕ) (q : State) (at from : ℕ) → at ≤ from → ((n : ℕ) → reading q n (drop at p) ≡ reading slash n (drop from p))
-    → (t : Part) → NameRead p slash from t → ElementRead p q at (as_name t)
-name-element p q at from le leads (To e) h = (goes_before p q slash at from le leads name suc e h.0, h.1)
-name-element p q at from le leads NoPart h = fails-before p q slash at from le leads h
+    → (t : Option ℕ) → NameRead p slash from t → ElementRead p q at (as_name t)
+name-element p q at from le leads (Some e) h = (goes_before p q slash at from le leads name suc e h.0, h.1)
+name-element p q at from le leads None h = fails-before p q slash at from le leads h
 
 selection-element : (p : List ℕ) (q : State) (at from : ℕ) → at ≤ from → ((n : ℕ) → reading q n (drop at p) ≡ reading set_start n (drop from p))
-    → (t : Part) → SelectionRead p from t → ElementRead p q at (as_selection t)
-selection-element p q at from le leads (To e) h = goes_before p q set_start at from le leads closed same e h
-selection-element p q at from le leads NoPart h = fails-before p q set_start at from le leads h
+    → (t : Option ℕ) → SelectionRead p from t → ElementRead p q at (as_selection t)
+selection-element p q at from le leads (Some e) h = goes_before p q set_start at from le leads closed same e h
+selection-element p q at from le leads None h = fails-before p q set_start at from le leads h
 
 -- one byte that leads from q to r and into no name
 leads-by : (p : List ℕ) (q r : State) (at : ℕ) → at < length p → step q (get_or p at 0) ≡ r → ((n : ℕ) → counted q r n ≡ n)
@@ -214,14 +223,14 @@ opens-no-name : (t : Bool) (n : ℕ) → counted (standing t) set_start n ≡ n
 opens-no-name true n = refl
 opens-no-name false n = refl
 
-pub element-selection : (p : List ℕ) (t : Bool) (at : ℕ) → at < length p → get_or p at 0 ≡ open_brace → (part : Part) → SelectionRead p (at + 1) part
+pub element-selection : (p : List ℕ) (t : Bool) (at : ℕ) → at < length p → get_or p at 0 ≡ open_brace → (part : Option ℕ) → SelectionRead p (at + 1) part
     → ElementRead p (standing t) at (as_selection part)
 element-selection p t at h e part s =
     selection-element p (standing t) at (at + 1) (omega arith)
     (leads-by p (standing t) set_start at h (ap (step (standing t)) e ∙ opens t) (opens-no-name t)) part s
 
 -- straight after a selection a name begins with no slash
-pub element-bare : (p : List ℕ) (at : ℕ) → at < length p → (get_or p at 0 ≡ open_brace → ⊥) → (part : Part) → NameRead p slash at part
+pub element-bare : (p : List ℕ) (at : ℕ) → at < length p → (get_or p at 0 ≡ open_brace → ⊥) → (part : Option ℕ) → NameRead p slash at part
     → ElementRead p closed at (as_name part)
 element-bare p at h d part s =
     name-element p closed at at (omega arith)
@@ -234,7 +243,7 @@ slashes : step name solidus ≡ slash
 unfolding is_word_byte is_name_start
 slashes = refl
 
-pub element-slashed : (p : List ℕ) (at : ℕ) → at < length p → get_or p at 0 ≡ solidus → (part : Part) → NameRead p slash (at + 1) part
+pub element-slashed : (p : List ℕ) (at : ℕ) → at < length p → get_or p at 0 ≡ solidus → (part : Option ℕ) → NameRead p slash (at + 1) part
     → ElementRead p name at (as_name part)
 element-slashed p at h e part s =
     name-element p name at (at + 1) (omega arith) (leads-by p name slash at h (ap (step name) e ∙ slashes) (λ n. refl)) part s
@@ -312,7 +321,7 @@ pub read_none : (p : List ℕ) (from : ℕ) → 0 < from → from ≤ length p �
 read_none p from h l s = record { within = l; few = h; same = refl; stops = λ _. s }
 
 module _ (p : List ℕ) (from at met : ℕ) (selected : Bool) (r : ReadTo p from at met selected) where
-  pub read-name-more : (e : ℕ) → ElementRead p (standing selected) at (Name e) → ReadTo p from e (met + 1) false
+  pub read-name-more : (e : ℕ) → ElementRead p (standing selected) at (Some (Name e)) → ReadTo p from e (met + 1) false
   read-name-more e h =
       record {
         within = h.0.within;
@@ -321,7 +330,7 @@ module _ (p : List ℕ) (from at met : ℕ) (selected : Bool) (r : ReadTo p from
         stops = λ _. h.1;
       }
 
-  pub read-selection-more : (e : ℕ) → ElementRead p (standing selected) at (Selection e) → ReadTo p from e met true
+  pub read-selection-more : (e : ℕ) → ElementRead p (standing selected) at (Some (Selection e)) → ReadTo p from e met true
   read-selection-more e h =
       record {
         within = h.within;

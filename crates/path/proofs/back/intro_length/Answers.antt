@@ -1,5 +1,5 @@
 -- `intro_length` meets its contract. The loop's invariant: the steps left from `end` on lead where
--- all of them lead from the whole path. The measure is the steps left. Assumes nothing.
+-- all of them lead from the whole path. Assumes nothing.
 use native.Mathlib.Omega.{arith}
 use Rattle.path.proofs.BackwardLaws.{intro-more, intro-stays, intro-none}
 use mathlib.Core.Path.{◌≡◌, refl, ◌∙◌, sym, ap}

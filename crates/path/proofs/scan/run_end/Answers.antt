@@ -1,7 +1,9 @@
--- `run_end` meets its contract. The loop's invariant: every byte from `at` up to `i` is of the run.
--- The measure is what is left of the length. Assumes nothing.
+-- `run_end` meets its contract. The loop's invariant: every byte from `at` up to `i` is of the
+-- run. Assumes nothing.
 use Rattle.path.proofs.ReadingLaws.{passed_none, passed-more, stops_at, stops-past}
-use mathlib.Core.Path.{◌∙◌, sym}
+use mathlib.Core.Path.{◌≡◌, ◌∙◌, sym}
+use native.Mathlib.Omega.{arith}
+use lib.ListN.{length}
 use borrow.Author.Tests.{not-true, not-false}
 use Rattle.path.proofs.scan.run_end.Goals as goal
 
@@ -19,4 +21,5 @@ loop-i-preserved c =
 
 pub returns : goal.returns
 returns c =
-    stops-past _ _ _ _ c.loop-i.invariant c.loop-i-test.false
+    let all : c.loop-i.i ≡ length c.args.path.now = omega (arith, c.requires) in
+    rw (← all) (stops-past _ _ _ _ c.loop-i.invariant c.loop-i-test.false)
