@@ -17,7 +17,7 @@ use Rattle.model.specs.declared.PrimCount.TheVariants.{Names, Malformed}
 use Rattle.std.specs.Prelude.{Option, Some, None}
 use Rattle.path.specs.declared.scan.Element.{Element}
 use Rattle.path.specs.declared.scan.Element.TheVariants.{Name, Selection}
-use Rattle.path.specs.PathReading.{counted, reading, Passed, Run, begins_name, stands_at, GoesOn, Fails, Stops, same, NameRead, SelectionRead, ElementRead, standing}
+use Rattle.path.specs.PathReading.{counted, reading, Run, begins_name, stands_at, GoesOn, Fails, Stops, same, NameRead, SelectionRead, ElementRead, standing}
 
 -- ---- One byte
 
@@ -45,26 +45,6 @@ fails q p at e f n = go (ltb at (length p)) refl
     go false h = reading-past q n p at (ltb-false _ _ h) ∙ ap (λ (t : Bool). cond t (Names n) Malformed) e
 
 -- ---- A run of bytes
-
-pub passed_none : (test : ℕ → Bool) (p : List ℕ) (at : ℕ) → at ≤ length p → Passed test p at at
-passed_none test p at h = record { from = omega arith; within = h; all = λ k a b. absurd (omega arith) }
-
-pub passed-more : (test : ℕ → Bool) (p : List ℕ) (at i : ℕ) → Passed test p at i → i < length p → test (get_or p i 0) ≡ true
-    → Passed test p at (i + 1)
-passed-more test p at i h l e =
-    record { from = omega (arith, h.from); within = omega arith; all = λ k a b. go k a b (ltb k i) refl }
-  where
-    go : (k : ℕ) → at ≤ k → k < i + 1 → (t : Bool) → ltb k i ≡ t → test (get_or p k 0) ≡ true
-    go k a b true f = h.all k a (ltb-true _ _ f)
-    go k a b false f =
-        let s : k ≡ i = omega (arith, ltb-false k i f) in
-        rw s e
-
-pub stops_at : (test : ℕ → Bool) (p : List ℕ) (at i : ℕ) → Passed test p at i → test (get_or p i 0) ≡ false → Run test p at i
-stops_at test p at i h e = record { from = h.from; within = h.within; all = h.all; stops = λ l. e }
-
-pub stops-past : (test : ℕ → Bool) (p : List ℕ) (at i : ℕ) → Passed test p at i → length p ≤ i → Run test p at i
-stops-past test p at i h e = record { from = h.from; within = h.within; all = h.all; stops = λ l. absurd (omega arith) }
 
 still : (t : Bool) (n : ℕ) → cond (not t && t) (suc n) n ≡ n
 still true n = refl
@@ -239,15 +219,6 @@ element-bare p at h d part s =
     (ne_eqb _ _ d)
     ∙ sym (reading-at slash n p at h)) part s
 
-slashes : step name solidus ≡ slash
-unfolding is_word_byte is_name_start
-slashes = refl
-
-pub element-slashed : (p : List ℕ) (at : ℕ) → at < length p → get_or p at 0 ≡ solidus → (part : Option ℕ) → NameRead p slash (at + 1) part
-    → ElementRead p name at (as_name part)
-element-slashed p at h e part s =
-    name-element p name at (at + 1) (omega arith) (leads-by p name slash at h (ap (step name) e ∙ slashes) (λ n. refl)) part s
-
 pub no-element : (p : List ℕ) (at : ℕ) → at < length p → Stops p at → (get_or p at 0 ≡ open_brace → ⊥) → (get_or p at 0 ≡ solidus → ⊥)
     → Fails p name at
 no-element p at h stop d e n =
@@ -316,35 +287,3 @@ pub record ReadTo (p : List ℕ) (from at met : ℕ) (selected : Bool) : Type 0 
   pub few : met ≤ at
   pub same : reading (standing selected) met (drop at p) ≡ reading name 1 (drop from p)
   pub stops : selected ≡ false → Stops p at
-
-pub read_none : (p : List ℕ) (from : ℕ) → 0 < from → from ≤ length p → Stops p from → ReadTo p from from 1 false
-read_none p from h l s = record { within = l; few = h; same = refl; stops = λ _. s }
-
-module _ (p : List ℕ) (from at met : ℕ) (selected : Bool) (r : ReadTo p from at met selected) where
-  pub read-name-more : (e : ℕ) → ElementRead p (standing selected) at (Some (Name e)) → ReadTo p from e (met + 1) false
-  read-name-more e h =
-      record {
-        within = h.0.within;
-        few = omega (arith, r.few, h.0.further);
-        same = ap (λ (j : ℕ). reading name j (drop e p)) (add-one met) ∙ sym (h.0.same met) ∙ r.same;
-        stops = λ _. h.1;
-      }
-
-  pub read-selection-more : (e : ℕ) → ElementRead p (standing selected) at (Some (Selection e)) → ReadTo p from e met true
-  read-selection-more e h =
-      record {
-        within = h.within;
-        few = omega (arith, r.few, h.further);
-        same = sym (h.same met) ∙ r.same;
-        stops = λ f. absurd (false≢true (sym f));
-      }
-
-  pub read-fails : Fails p (standing selected) at → Malformed ≡ reading name 1 (drop from p)
-  read-fails f = sym (f met) ∙ r.same
-
-  pub read_all : length p ≤ at → Names met ≡ reading name 1 (drop from p)
-  read_all h = ap (λ (t : Bool). cond t (Names met) Malformed) (sym (ends selected)) ∙ sym (reading-past (standing selected) met p at h) ∙ r.same
-    where
-      ends : (t : Bool) → may_end (standing t) ≡ true
-      ends true = refl
-      ends false = refl

@@ -3,11 +3,8 @@
 use native.Mathlib.Omega.{arith}
 use Prim.Native.Nat.{◌+◌, ◌-◌}
 use Rattle.path.proofs.BackwardLaws.{start-at-slash, start-at-brace, start-before, start_none}
-use mathlib.Core.Path.{◌≡◌, refl, ◌∙◌, sym}
+use mathlib.Core.Path.{◌≡◌, ◌∙◌, sym}
 use Rattle.path.proofs.back.name_start.Goals as goal
-
-pub loop-k-init : goal.loop-k-init
-loop-k-init c = refl
 
 pub returns-then-b-eq47 : goal.returns-then-b-eq47
 returns-then-b-eq47 c =
