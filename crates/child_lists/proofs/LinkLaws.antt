@@ -9,12 +9,15 @@ use native.Mathlib.Nat.{eq-or-lt_of_le}
 use native.Mathlib.Omega.{arith}
 use lib.Dec.{eqb}
 use lib.ListN.{length, take, drop, get_or, set, length-set}
-use lib.Seq.{slice, take-suc, drop-append-le, length-take-le, get_or-set_same, get_or-set_other}
+use lib.Seq.{slice, slice_empty, take-suc, drop-append-le, length-take-le, get_or-set_same, get_or-set_other}
 use borrow.Author.Tests.{eqb-true, eqb-false}
 use Rattle.model.specs.Arena.{first_of, last_of, after_in}
 use Rattle.model.specs.Lists.{count}
 use Rattle.laws.proofs.ListLaws.{bit-eq, bit-ne}
 use Rattle.child_lists.specs.Links.{start_of, part, nexts_set, nexts_made}
+
+pub slice-done : (at end : ℕ) (array : List ℕ) → at ≤ end → end ≤ at → slice at end array ≡ []
+slice-done at end array low high = let e : at ≡ end = omega arith in rw e (slice_empty end array)
 
 last_snoc : (xs : List ℕ) (y : ℕ) → last_of (xs ++ y ∷ []) ≡ y
 last_snoc [] y = refl

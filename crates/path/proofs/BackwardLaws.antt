@@ -96,15 +96,6 @@ module _ (p : List ℕ) (k s : ℕ) (e : s ≡ name_start p k) where
 
 -- ---- Selections
 
-pub brace-hit : (p : List ℕ) (k : ℕ) → 0 < k → get_or p (k - 1) 0 ≡ open_brace → k - 1 ≡ before_last open_brace p k
-brace-hit p k h e = rw (after-hit open_brace p k h e) (sub-one k)
-
-none_before : (a k : ℕ) → a ≤ k → k ≤ 0 → k ≡ pred a
-none_before a k h l = omega arith
-
-pub brace-none : (p : List ℕ) (k : ℕ) → k ≤ 0 → k ≡ before_last open_brace p k
-brace-none p k h = none_before (after_last open_brace p k) k (after-last-le p open_brace k) h
-
 inside-skips : (p : List ℕ) (k : ℕ) → without_selections true p k ≡ without_selections false p (before_last open_brace p k)
 inside-skips p zero = refl
 inside-skips p (suc k) = go (eqb (get_or p k 0) open_brace) (inside-skips p k)
@@ -147,10 +138,6 @@ module _ (p : List ℕ) (k : ℕ) where
 pub intro-more : (p : List ℕ) (d k next : ℕ) → 0 < d → next ≡ intro_step p k → intro_length d p k ≡ intro_length (d - 1) p next
 intro-more p zero k next h e = absurd (omega arith)
 intro-more p (suc d) k next h e = rw (sub-one (suc d), e)
-
-pub intro-none : (p : List ℕ) (d k : ℕ) → d ≤ 0 → intro_length d p k ≡ k
-intro-none p zero k h = refl
-intro-none p (suc d) k h = absurd (omega arith)
 
 pub intro-stays : (p : List ℕ) (d k : ℕ) → k ≡ intro_step p k → intro_length d p k ≡ k
 intro-stays p zero k e = refl

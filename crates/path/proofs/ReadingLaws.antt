@@ -14,10 +14,10 @@ use lib.Dec.{eqb, ltb}
 use lib.ListN.{length, get_or, drop, drop_of_length-le}
 use lib.Seq.{drop-cons}
 use Rattle.model.specs.Path.{State, start, root, slash, name, set_start, set, selection, closed, dead, step, run, may_end, in_name, names, is_name_start, is_word_byte, is_selection_byte, solidus, open_brace, equals_sign, close_brace, well_formed, prim_count, count_prims}
-use Rattle.path.specs.declared.scan.Part.{Part}
-use Rattle.path.specs.declared.scan.Part.TheVariants.{To, Malformed as NoPart}
+use Rattle.std.specs.Prelude.{Option, Some, None}
+use Rattle.path.specs.declared.scan.Element.{Element}
 use Rattle.path.specs.declared.scan.Element.TheVariants.{Name, Selection}
-use Rattle.path.specs.PathReading.{counted, reading, Passed, Run, begins_name, stands_at, GoesOn, Fails, Stops, same, NameRead, SelectionRead, ElementRead, as_name, as_selection, standing}
+use Rattle.path.specs.PathReading.{counted, reading, Run, begins_name, stands_at, GoesOn, Fails, Stops, same, NameRead, SelectionRead, ElementRead, standing}
 
 -- ---- One byte
 
@@ -45,26 +45,6 @@ fails q p at e f n = go (ltb at (length p)) refl
     go false h = reading-past q n p at (ltb-false _ _ h) ∙ ap (λ (t : Bool). cond t (Some n) None) e
 
 -- ---- A run of bytes
-
-pub passed_none : (test : ℕ → Bool) (p : List ℕ) (at : ℕ) → at ≤ length p → Passed test p at at
-passed_none test p at h = record { from = omega arith; within = h; all = λ k a b. absurd (omega arith) }
-
-pub passed-more : (test : ℕ → Bool) (p : List ℕ) (at i : ℕ) → Passed test p at i → i < length p → test (get_or p i 0) ≡ true
-    → Passed test p at (i + 1)
-passed-more test p at i h l e =
-    record { from = omega (arith, h.from); within = omega arith; all = λ k a b. go k a b (ltb k i) refl }
-  where
-    go : (k : ℕ) → at ≤ k → k < i + 1 → (t : Bool) → ltb k i ≡ t → test (get_or p k 0) ≡ true
-    go k a b true f = h.all k a (ltb-true _ _ f)
-    go k a b false f =
-        let s : k ≡ i = omega (arith, ltb-false k i f) in
-        rw s e
-
-pub stops_at : (test : ℕ → Bool) (p : List ℕ) (at i : ℕ) → Passed test p at i → test (get_or p i 0) ≡ false → Run test p at i
-stops_at test p at i h e = record { from = h.from; within = h.within; all = h.all; stops = λ l. e }
-
-pub stops-past : (test : ℕ → Bool) (p : List ℕ) (at i : ℕ) → Passed test p at i → length p ≤ i → Run test p at i
-stops-past test p at i h e = record { from = h.from; within = h.within; all = h.all; stops = λ l. absurd (omega arith) }
 
 still : (t : Bool) (n : ℕ) → cond (not t && t) (suc n) n ≡ n
 still true n = refl
@@ -144,7 +124,7 @@ selection-stays b e = rw e
 pub no_name : (p : List ℕ) (at : ℕ) → begins_name p at ≡ false → Fails p slash at
 no_name p at e = word-missing slash name (λ b. refl) p at refl e
 
-pub name-read : (p : List ℕ) (at e : ℕ) → begins_name p at ≡ true → Run is_word_byte p (at + 1) e → NameRead p slash at (To e)
+pub name-read : (p : List ℕ) (at e : ℕ) → begins_name p at ≡ true → Run is_word_byte p (at + 1) e → NameRead p slash at (Some e)
 name-read p at e b w =
     (record { further = omega (arith, w.from); within = w.within; same = word-reads slash name (λ b. refl) p at name-stays e b w }, w.stops)
 
@@ -170,7 +150,7 @@ module _ (p : List ℕ) (at sign : ℕ) (begun : begins_name p at ≡ true) (wor
     pub no-brace : stands_at p last close_brace ≡ false → Fails p set_start at
     no-brace e n = value_read n ∙ sign-missing selection closed is_selection_byte close_brace (λ b. refl) p last value.stops refl e n
 
-    pub selection-read : stands_at p last close_brace ≡ true → SelectionRead p at (To (last + 1))
+    pub selection-read : stands_at p last close_brace ≡ true → SelectionRead p at (Some (last + 1))
     selection-read e =
         record {
           further = omega (arith, word.from, value.from);
@@ -189,15 +169,24 @@ module _ (p : List ℕ) (q r : State) (at from : ℕ) (le : at ≤ from) (leads 
   goes_before s more e g =
       record { further = omega (arith, g.further); within = g.within; same = λ n. leads n ∙ g.same n }
 
+-- where a name or a selection ends, as an element of the path
+abbrev pub as_name : Option ℕ → Option Element
+as_name (Some e) = Some (Name e)
+as_name None = None
+
+abbrev pub as_selection : Option ℕ → Option Element
+as_selection (Some e) = Some (Selection e)
+as_selection None = None
+
 name-element : (p : List ℕ) (q : State) (at from : ℕ) → at ≤ from → ((n : ℕ) → reading q n (drop at p) ≡ reading slash n (drop from p))
-    → (t : Part) → NameRead p slash from t → ElementRead p q at (as_name t)
-name-element p q at from le leads (To e) h = (goes_before p q slash at from le leads name suc e h.0, h.1)
-name-element p q at from le leads NoPart h = fails-before p q slash at from le leads h
+    → (t : Option ℕ) → NameRead p slash from t → ElementRead p q at (as_name t)
+name-element p q at from le leads (Some e) h = (goes_before p q slash at from le leads name suc e h.0, h.1)
+name-element p q at from le leads None h = fails-before p q slash at from le leads h
 
 selection-element : (p : List ℕ) (q : State) (at from : ℕ) → at ≤ from → ((n : ℕ) → reading q n (drop at p) ≡ reading set_start n (drop from p))
-    → (t : Part) → SelectionRead p from t → ElementRead p q at (as_selection t)
-selection-element p q at from le leads (To e) h = goes_before p q set_start at from le leads closed same e h
-selection-element p q at from le leads NoPart h = fails-before p q set_start at from le leads h
+    → (t : Option ℕ) → SelectionRead p from t → ElementRead p q at (as_selection t)
+selection-element p q at from le leads (Some e) h = goes_before p q set_start at from le leads closed same e h
+selection-element p q at from le leads None h = fails-before p q set_start at from le leads h
 
 -- one byte that leads from q to r and into no name
 leads-by : (p : List ℕ) (q r : State) (at : ℕ) → at < length p → step q (get_or p at 0) ≡ r → ((n : ℕ) → counted q r n ≡ n)
@@ -214,14 +203,14 @@ opens-no-name : (t : Bool) (n : ℕ) → counted (standing t) set_start n ≡ n
 opens-no-name true n = refl
 opens-no-name false n = refl
 
-pub element-selection : (p : List ℕ) (t : Bool) (at : ℕ) → at < length p → get_or p at 0 ≡ open_brace → (part : Part) → SelectionRead p (at + 1) part
+pub element-selection : (p : List ℕ) (t : Bool) (at : ℕ) → at < length p → get_or p at 0 ≡ open_brace → (part : Option ℕ) → SelectionRead p (at + 1) part
     → ElementRead p (standing t) at (as_selection part)
 element-selection p t at h e part s =
     selection-element p (standing t) at (at + 1) (omega arith)
     (leads-by p (standing t) set_start at h (ap (step (standing t)) e ∙ opens t) (opens-no-name t)) part s
 
 -- straight after a selection a name begins with no slash
-pub element-bare : (p : List ℕ) (at : ℕ) → at < length p → (get_or p at 0 ≡ open_brace → ⊥) → (part : Part) → NameRead p slash at part
+pub element-bare : (p : List ℕ) (at : ℕ) → at < length p → (get_or p at 0 ≡ open_brace → ⊥) → (part : Option ℕ) → NameRead p slash at part
     → ElementRead p closed at (as_name part)
 element-bare p at h d part s =
     name-element p closed at at (omega arith)
@@ -229,15 +218,6 @@ element-bare p at h d part s =
     ∙ ap (λ (t : Bool). reading (cond (is_name_start (get_or p at 0)) name (cond t set_start dead)) (counted closed (cond (is_name_start (get_or p at 0)) name (cond t set_start dead)) n) (drop (suc at) p))
     (ne_eqb _ _ d)
     ∙ sym (reading-at slash n p at h)) part s
-
-slashes : step name solidus ≡ slash
-unfolding is_word_byte is_name_start
-slashes = refl
-
-pub element-slashed : (p : List ℕ) (at : ℕ) → at < length p → get_or p at 0 ≡ solidus → (part : Part) → NameRead p slash (at + 1) part
-    → ElementRead p name at (as_name part)
-element-slashed p at h e part s =
-    name-element p name at (at + 1) (omega arith) (leads-by p name slash at h (ap (step name) e ∙ slashes) (λ n. refl)) part s
 
 pub no-element : (p : List ℕ) (at : ℕ) → at < length p → Stops p at → (get_or p at 0 ≡ open_brace → ⊥) → (get_or p at 0 ≡ solidus → ⊥)
     → Fails p name at
@@ -315,35 +295,3 @@ pub record ReadTo (p : List ℕ) (from at met : ℕ) (selected : Bool) : Type 0 
   pub few : met ≤ at
   pub same : reading (standing selected) met (drop at p) ≡ reading name 1 (drop from p)
   pub stops : selected ≡ false → Stops p at
-
-pub read_none : (p : List ℕ) (from : ℕ) → 0 < from → from ≤ length p → Stops p from → ReadTo p from from 1 false
-read_none p from h l s = record { within = l; few = h; same = refl; stops = λ _. s }
-
-module _ (p : List ℕ) (from at met : ℕ) (selected : Bool) (r : ReadTo p from at met selected) where
-  pub read-name-more : (e : ℕ) → ElementRead p (standing selected) at (Name e) → ReadTo p from e (met + 1) false
-  read-name-more e h =
-      record {
-        within = h.0.within;
-        few = omega (arith, r.few, h.0.further);
-        same = ap (λ (j : ℕ). reading name j (drop e p)) (add-one met) ∙ sym (h.0.same met) ∙ r.same;
-        stops = λ _. h.1;
-      }
-
-  pub read-selection-more : (e : ℕ) → ElementRead p (standing selected) at (Selection e) → ReadTo p from e met true
-  read-selection-more e h =
-      record {
-        within = h.within;
-        few = omega (arith, r.few, h.further);
-        same = sym (h.same met) ∙ r.same;
-        stops = λ f. absurd (false≢true (sym f));
-      }
-
-  pub read-fails : Fails p (standing selected) at → None ≡ reading name 1 (drop from p)
-  read-fails f = sym (f met) ∙ r.same
-
-  pub read_all : length p ≤ at → Some met ≡ reading name 1 (drop from p)
-  read_all h = ap (λ (t : Bool). cond t (Some met) None) (sym (ends selected)) ∙ sym (reading-past (standing selected) met p at h) ∙ r.same
-    where
-      ends : (t : Bool) → may_end (standing t) ≡ true
-      ends true = refl
-      ends false = refl

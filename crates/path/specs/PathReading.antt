@@ -1,13 +1,10 @@
 -- What the functions that read a path from its front promise each other. `reading` is the whole of
 -- it: what the reading comes to from a state on, given the names met so far; from the start it is
 -- `count_prims`, but for the limit of 255 bytes (proofs/ReadingLaws.antt).
-use Rattle.std.specs.Prelude.{None, Option, Some}
-use Rattle.std.specs.Prelude.{◌≡◌, Bool, true, false, not, ◌&&◌, cond, List, [], ◌∷◌, ℕ, suc, ◌<◌, ◌≤◌, eqb, ltb, length, get_or, drop}
+use Rattle.std.specs.Prelude.{◌≡◌, Bool, true, false, not, ◌&&◌, cond, Option, Some, None, List, [], ◌∷◌, ℕ, suc, ◌<◌, ◌≤◌, eqb, ltb, length, get_or, drop}
 use Rattle.model.specs.Path.{State, name, set_start, closed, step, may_end, in_name, is_name_start, is_word_byte, is_selection_byte}
-use Rattle.path.specs.declared.scan.Part.{Part}
-use Rattle.path.specs.declared.scan.Part.TheVariants.{To, Malformed as NoPart}
 use Rattle.path.specs.declared.scan.Element.{Element}
-use Rattle.path.specs.declared.scan.Element.TheVariants.{Name, Selection, Malformed as NoElement}
+use Rattle.path.specs.declared.scan.Element.TheVariants.{Name, Selection}
 
 -- the names met once the reading has gone from q to r
 abbrev pub counted : State → State → ℕ → ℕ
@@ -58,27 +55,18 @@ Stops p e = e < length p → is_word_byte (get_or p e 0) ≡ false
 abbrev pub same : ℕ → ℕ
 same n = n
 
-abbrev pub NameRead : List ℕ → State → ℕ → Part → Type 0
-NameRead p q at (To e) = GoesOn p q at name suc e × Stops p e
-NameRead p q at NoPart = Fails p q at
+abbrev pub NameRead : List ℕ → State → ℕ → Option ℕ → Type 0
+NameRead p q at (Some e) = GoesOn p q at name suc e × Stops p e
+NameRead p q at None = Fails p q at
 
-abbrev pub SelectionRead : List ℕ → ℕ → Part → Type 0
-SelectionRead p at (To e) = GoesOn p set_start at closed same e
-SelectionRead p at NoPart = Fails p set_start at
+abbrev pub SelectionRead : List ℕ → ℕ → Option ℕ → Type 0
+SelectionRead p at (Some e) = GoesOn p set_start at closed same e
+SelectionRead p at None = Fails p set_start at
 
-abbrev pub ElementRead : List ℕ → State → ℕ → Element → Type 0
-ElementRead p q at (Name e) = GoesOn p q at name suc e × Stops p e
-ElementRead p q at (Selection e) = GoesOn p q at closed same e
-ElementRead p q at NoElement = Fails p q at
-
--- a part as an element of the path
-abbrev pub as_name : Part → Element
-as_name (To e) = Name e
-as_name NoPart = NoElement
-
-abbrev pub as_selection : Part → Element
-as_selection (To e) = Selection e
-as_selection NoPart = NoElement
+abbrev pub ElementRead : List ℕ → State → ℕ → Option Element → Type 0
+ElementRead p q at (Some (Name e)) = GoesOn p q at name suc e × Stops p e
+ElementRead p q at (Some (Selection e)) = GoesOn p q at closed same e
+ElementRead p q at None = Fails p q at
 
 -- where the reading stands between two elements
 abbrev pub standing : Bool → State

@@ -20,18 +20,16 @@ pub fn name_start(path: &[u8], end: usize) -> usize
     requires { end ≤ length path.now }
     ensures { (result ≡ name_start path.now end) × (result ≤ end) }
 {
-    let mut k = end;
-    while 0 < k {
-        let b = path[k - 1];
+    for k in (0..end).rev() {
+        let b = path[k];
         if b == b'/' {
-            return k;
+            return k + 1;
         }
         if b == b'}' {
-            return k;
+            return k + 1;
         }
-        k -= 1;
     }
-    k
+    0
 }
 
 // Where the last selection of the first `end` bytes starts: before the last `{`.
@@ -39,14 +37,12 @@ fn selection_start(path: &[u8], end: usize) -> usize
     requires { end ≤ length path.now }
     ensures { (result ≡ before_last open_brace path.now end) × (result ≤ end) × (0 < end → result < end) }
 {
-    let mut k = end;
-    while 0 < k {
-        k -= 1;
+    for k in (0..end).rev() {
         if path[k] == b'{' {
             return k;
         }
     }
-    k
+    0
 }
 
 // The first `end` bytes without their last name and the slash before it.
@@ -97,15 +93,13 @@ pub fn intro_length(path: &[u8], depth: u16) -> usize
     ensures upper_bound { result ≤ length path.now }
 {
     let mut end = path.len();
-    let mut left = depth;
-    while 0 < left {
+    for left in (0..depth).rev() {
         let named = without_selections(path, end);
         let next = before_name(path, named);
         if next == end {
             return end;
         }
         end = next;
-        left -= 1;
     }
     end
 }

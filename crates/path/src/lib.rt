@@ -80,17 +80,7 @@ pub fn path_at_intro_depth(path: &[u8], depth: u16) -> &[u8]
 pub fn same_path(a: &[u8], b: &[u8]) -> bool
     ensures { result ≡ same_path a.now b.now }
 {
-    if a.len() != b.len() {
-        return false;
-    }
-    let mut i: usize = 0;
-    while i < a.len() {
-        if a[i] != b[i] {
-            return false;
-        }
-        i += 1;
-    }
-    true
+    a == b
 }
 
 // Writes the path with the child's last name appended to the front of `out` and answers its length.

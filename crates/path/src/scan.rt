@@ -2,54 +2,29 @@
 // that stays in it while its bytes come. specs/PathReading.antt has what its functions promise each
 // other.
 ghost use Rattle.std.specs.Prelude.{◌≡◌, true, false, ◌+◌, ◌<◌, ◌≤◌, length, drop};
-ghost use Rattle.model.specs.Path.{start, slash, name, between, is_name_start, is_word_byte};
+ghost use Rattle.model.specs.Path.{start, slash, name, is_name_start, is_word_byte};
 ghost use Rattle.path.specs.PathReading.{Run, Stops, NameRead, SelectionRead, ElementRead, reading};
-ghost use Rattle.path.specs.PathReading.{in_run, standing, begins_name, stands_at, as_name, as_selection};
+ghost use Rattle.path.specs.PathReading.{in_run, standing, begins_name, stands_at};
 
-// A part of a path: where it ends, or that it is malformed.
-#[derive(Clone, Copy)]
-pub enum Part {
-    To(usize),
-    Malformed,
-}
 
-// What stands between two places of a path: a name, with its slash where it has one, or a
-// selection.
+// What stands between two places of a path, and where it ends: a name, with its slash where it has
+// one, or a selection.
 #[derive(Clone, Copy)]
 pub enum Element {
     Name(usize),
     Selection(usize),
-    Malformed,
-}
-
-fn within(low: u8, high: u8, b: u8) -> bool
-    ensures { result ≡ between low high b }
-{
-    if low <= b {
-        return b <= high;
-    }
-    false
 }
 
 fn is_name_start(b: u8) -> bool
     ensures { result ≡ is_name_start b }
 {
-    if within(b'a', b'z', b) {
-        return true;
-    }
-    if within(b'A', b'Z', b) {
-        return true;
-    }
-    b == b'_'
+    b.is_ascii_alphabetic() || b == b'_'
 }
 
 fn is_word_byte(b: u8) -> bool
     ensures { result ≡ is_word_byte b }
 {
-    if is_name_start(b) {
-        return true;
-    }
-    within(b'0', b'9', b)
+    is_name_start(b) || b.is_ascii_digit()
 }
 
 // Whether the byte may stand in a selection, or else in a name or a set.
@@ -73,14 +48,12 @@ fn run_end(path: &[u8], at: usize, selection: bool) -> usize
     requires { at ≤ length path.now }
     ensures { Run (in_run selection) path.now at result }
 {
-    let mut i = at;
-    while i < path.len() {
+    for i in at..path.len() {
         if !in_run(path[i], selection) {
             return i;
         }
-        i += 1;
     }
-    i
+    path.len()
 }
 
 // Whether a name or a set begins at `at`.
@@ -103,70 +76,52 @@ fn stands(path: &[u8], at: usize, b: u8) -> bool
     false
 }
 
-// The name that begins at `at`.
-fn read_name(path: &[u8], at: usize) -> Part
+// Where the name that begins at `at` ends, or None where it is malformed.
+fn read_name(path: &[u8], at: usize) -> Option<usize>
     ensures { NameRead path.now slash at result }
 {
     if !name_begins(path, at) {
-        return Part::Malformed;
+        return None;
     }
-    Part::To(run_end(path, at + 1, false))
+    Some(run_end(path, at + 1, false))
 }
 
-// The selection, which may be empty, whose set begins at `at`, with its closing brace.
-fn read_selection(path: &[u8], at: usize) -> Part
+// The same of the selection, which may be empty, whose set begins at `at`, with its closing brace.
+fn read_selection(path: &[u8], at: usize) -> Option<usize>
     ensures { SelectionRead path.now at result }
 {
     if !name_begins(path, at) {
-        return Part::Malformed;
+        return None;
     }
     let sign = run_end(path, at + 1, false);
     if !stands(path, sign, b'=') {
-        return Part::Malformed;
+        return None;
     }
     let first = sign + 1;
     let last = run_end(path, first, true);
     if !stands(path, last, b'}') {
-        return Part::Malformed;
+        return None;
     }
-    Part::To(last + 1)
+    Some(last + 1)
 }
 
-// What stands at `at`, straight after a selection or after a name.
-fn read_element(path: &[u8], at: usize, selected: bool) -> Element
+// What stands at `at`, straight after a selection or after a name, or None where it is malformed.
+fn read_element(path: &[u8], at: usize, selected: bool) -> Option<Element>
     requires at_in_bounds { at < length path.now }
     requires stops { selected ≡ false → Stops path.now at }
     ensures { ElementRead path.now (standing selected) at result }
 {
     let b = path[at];
     if b == b'{' {
-        return as_selection(read_selection(path, at + 1));
+        return Some(Element::Selection(read_selection(path, at + 1)?));
     }
     if selected {
-        return as_name(read_name(path, at));
+        return Some(Element::Name(read_name(path, at)?));
     }
     if b == b'/' {
-        return as_name(read_name(path, at + 1));
+        return Some(Element::Name(read_name(path, at + 1)?));
     }
-    Element::Malformed
-}
-
-fn as_name(part: Part) -> Element
-    ensures { result ≡ as_name part }
-{
-    match part {
-        Part::To(end) => Element::Name(end),
-        Part::Malformed => Element::Malformed,
-    }
-}
-
-fn as_selection(part: Part) -> Element
-    ensures { result ≡ as_selection part }
-{
-    match part {
-        Part::To(end) => Element::Selection(end),
-        Part::Malformed => Element::Malformed,
-    }
+    None
 }
 
 // What follows the first name, which ends at `from`.
@@ -179,7 +134,9 @@ fn read_elements(path: &[u8], from: usize) -> Option<u16>
     let mut names: u16 = 1;
     let mut selected = false;
     while at < path.len() {
-        let element = read_element(path, at, selected);
+        let Some(element) = read_element(path, at, selected) else {
+            return None;
+        };
         match element {
             Element::Name(end) => {
                 at = end;
@@ -189,9 +146,6 @@ fn read_elements(path: &[u8], from: usize) -> Option<u16>
             Element::Selection(end) => {
                 at = end;
                 selected = true;
-            }
-            Element::Malformed => {
-                return None;
             }
         }
     }
@@ -214,7 +168,7 @@ pub fn read_path(path: &[u8]) -> Option<u16>
     }
     let first = read_name(path, 1);
     match first {
-        Part::To(end) => read_elements(path, end),
-        Part::Malformed => None,
+        Some(end) => read_elements(path, end),
+        None => None,
     }
 }

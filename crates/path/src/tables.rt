@@ -65,7 +65,7 @@ fn read_rest(kinds: &[u8], pairs: &[u64], path: &[u8], at: usize, state: u64, na
 }
 
 // The end of the reading of what follows the first slash, as one number. Two rows a turn, for a
-// turn takes time of its own.
+// turn takes time of its own. Where the rest begins is known by `i`, which a `for` would not hand on.
 fn read_behind_slash(kinds: &[u8], pairs: &[u64], path: &[u8]) -> u64
     requires tables { Tables kinds.now pairs.now }
     requires in_bounds { (1 ≤ length path.now) × (length path.now ≤ 255) }

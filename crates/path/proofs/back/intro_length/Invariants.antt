@@ -1,5 +1,5 @@
 -- `intro_length` meets its contract. The loop's invariant: the steps left from `end` on lead where
--- all of them lead from the whole path. The measure is the steps left. Assumes nothing.
+-- all of them lead from the whole path. Assumes nothing.
 use mathlib.Core.Path.{◌≡◌}
 use Prim.Native.Nat.{◌≤◌}
 use lib.ListN.{length}
@@ -8,6 +8,3 @@ use Rattle.path.proofs.back.intro_length.Given as goal
 
 abbrev pub invariant-loop-left : goal.invariant-loop-left
 invariant-loop-left l = (intro_length l.left l.path l.end ≡ intro_length l.depth l.path (length l.path)) × (l.end ≤ length l.path)
-
-abbrev pub decreases-loop-left : goal.decreases-loop-left
-decreases-loop-left l = l.left

@@ -3,15 +3,10 @@
 -- The measure is `k`. Assumes nothing.
 use native.Mathlib.Omega.{arith}
 use Rattle.path.proofs.BackwardLaws.{drops-one, ends-in-some}
-use mathlib.Core.Path.{refl, ◌∙◌, sym, ap}
+use mathlib.Core.Path.{◌∙◌, sym, ap}
 use mathlib.Core.Bool.{false}
 use Rattle.model.specs.Path.{without_selections, close_brace}
-use Rattle.laws.proofs.PathLemmas.{without-selections-none}
 use Rattle.path.proofs.back.without_selections.Goals as goal
-
-pub loop-k-init : goal.loop-k-init
-loop-k-init c =
-    (refl, omega arith)
 
 pub loop-k-smaller : goal.loop-k-smaller
 loop-k-smaller c =
@@ -20,7 +15,3 @@ loop-k-smaller c =
 pub loop-k-preserved : goal.loop-k-preserved
 loop-k-preserved c =
     (ap (without_selections false c.args.path.now) c.selection_start-k.ensures.0 ∙ sym (drops-one c.args.path.now c.loop-k.k (sym c.ends_in.ensures ∙ c.loop-k-test.true)) ∙ c.loop-k.invariant.0, omega (arith, c.selection_start-k.ensures.1, c.loop-k.invariant.1))
-
-pub returns : goal.returns
-returns c =
-    (sym (without-selections-none c.args.path.now c.loop-k.k (sym c.ends_in.ensures ∙ c.loop-k-test.false)) ∙ c.loop-k.invariant.0, c.loop-k.invariant.1)

@@ -1,7 +1,6 @@
 -- `read_name` meets its contract: a byte that begins a name must stand there, and the run behind it
 -- belongs to it. Assumes nothing.
-use native.Mathlib.Omega.{arith}
-use Rattle.path.proofs.ReadingLaws.{no_name, name-read, begins-within}
+use Rattle.path.proofs.ReadingLaws.{no_name, name-read}
 use mathlib.Core.Path.{◌∙◌, sym}
 use borrow.Author.Tests.{not-true, not-false}
 use Rattle.path.proofs.scan.read_name.Goals as goal
@@ -9,14 +8,6 @@ use Rattle.path.proofs.scan.read_name.Goals as goal
 pub returns-then-not-name_begins : goal.returns-then-not-name_begins
 returns-then-not-name_begins c =
     no_name c.args.path.now c.args.at (sym c.name_begins.ensures ∙ not-true _ c.if-not-name_begins.true-raw)
-
-pub overflow_add-at : goal.overflow_add-at
-overflow_add-at c =
-    omega (arith, begins-within c.args.path.now c.args.at (sym c.name_begins.ensures ∙ not-false _ c.if-not-name_begins.false-raw))
-
-pub run_end-requires : goal.run_end-requires
-run_end-requires c =
-    omega (arith, begins-within c.args.path.now c.args.at (sym c.name_begins.ensures ∙ not-false _ c.if-not-name_begins.false-raw))
 
 pub returns : goal.returns
 returns c =

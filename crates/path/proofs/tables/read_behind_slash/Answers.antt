@@ -14,11 +14,3 @@ loop-i-preserved c =
     rw (c.row_of_two-in-loop-i.ensures, c.row_of_two.ensures)
     (reached-four _ c.loop-i.i c.loop-i.state c.loop-i.names c.loop-i.invariant c.loop-i-test.true
     (λ k. (c.type_inv.path k).fits))
-
-pub read_rest-requires : goal.read_rest-requires
-read_rest-requires c =
-    record {
-      tables = c.requires.tables;
-      reached = c.loop-i.invariant;
-      path_len_bound = (omega arith, c.requires.in_bounds.1);
-    }

@@ -1,6 +1,0 @@
--- `as_name` meets its contract, case by case. Assumes nothing.
-use Rattle.path.proofs.scan.as_name.Goals as goal
-
-pub returns-in-To : goal.returns-in-To
-returns-in-To c =
-    cc
