@@ -134,9 +134,7 @@ fn read_elements(path: &[u8], from: usize) -> Option<u16>
     let mut names: u16 = 1;
     let mut selected = false;
     while at < path.len() {
-        let Some(element) = read_element(path, at, selected) else {
-            return None;
-        };
+        let element = read_element(path, at, selected)?;
         match element {
             Element::Name(end) => {
                 at = end;
@@ -166,9 +164,6 @@ pub fn read_path(path: &[u8]) -> Option<u16>
     if path.len() == 1 {
         return Some(0);
     }
-    let first = read_name(path, 1);
-    match first {
-        Some(end) => read_elements(path, end),
-        None => None,
-    }
+    let end = read_name(path, 1)?;
+    read_elements(path, end)
 }
