@@ -44,10 +44,7 @@ pub extern "C" fn bench_prim_count(path: &[u8]) -> u32
 pub extern "C" fn bench_is_graph(arena: &[u8]) -> u32
     ensures { result ≡ graph_number arena.now }
 {
-    if arena.len() != arena::ARENA_BYTES {
-        return 0;
-    }
-    validate::is_graph(arena) as u32
+    (arena.len() == arena::ARENA_BYTES && validate::is_graph(arena)) as u32
 }
 
 // 1 where the bytes are an arena that holds a graph, and this has an order, else 0. It is decided
@@ -56,10 +53,7 @@ pub extern "C" fn bench_is_graph(arena: &[u8]) -> u32
 pub extern "C" fn bench_has_order(arena: &[u8]) -> u32
     ensures { result ≡ order_number arena.now }
 {
-    if arena.len() != arena::ARENA_BYTES {
-        return 0;
-    }
-    if !validate::is_graph(arena) {
+    if arena.len() != arena::ARENA_BYTES || !validate::is_graph(arena) {
         return 0;
     }
     let mut sorted: [u32; 1024] = [0; 1024];
