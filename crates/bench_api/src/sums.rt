@@ -1,5 +1,6 @@
 // Comparisons below the questions, which are put before, to every pair: what bench/ measures.
-// specs/Pairs.antt says what is asked and what is added up.
+// specs/Pairs.antt says what is asked and what is added up. Which comparison is meant stays a flag,
+// since the C function `bench_ask_pairs` is given one.
 ghost use Rattle.std.specs.Prelude.{◌≡◌, ◌<◌, ◌/◌, length};
 ghost use Rattle.model.specs.Arena.{count_in, local_root_in};
 ghost use Rattle.model.specs.ArenaCalls.{ValidArena, ValidNode};
@@ -85,7 +86,8 @@ fn compare_pair(arena: &[u8], siblings: bool, root: u32, a: u32, b: u32) -> Orde
     strength::compare_node_strength(arena, root, a, b)
 }
 
-// The sum over pairs that have passed: nothing is asked here.
+// The sum over pairs that have passed: nothing is asked here. One loop for this and `ask_pairs` would
+// need a contract that speaks of any step, and is no plainer than these two.
 fn sum_pairs(arena: &[u8], pairs: &[u8], siblings: bool) -> u64
     requires { call_refused siblings arena.now pairs.now ≡ 0 }
     ensures { result ≡ pair_sum (comparison siblings arena.now) pairs.now
