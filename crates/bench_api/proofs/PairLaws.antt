@@ -1,5 +1,5 @@
--- What refuses a pair, pairs and a call, case by case; what is known of those that have passed; and
--- one pair more in the sum. Assumes nothing.
+-- One pair more that is asked; what is known of a pair and of a call that have passed; and one pair
+-- more in the sum. Assumes nothing.
 use mathlib.Core.Path.{◌≡◌, refl, sym, ap, ap₂, ◌∙◌}
 use mathlib.Core.Logic.{◌⊎◌, inl, inr}
 use mathlib.Core.Bool.{Bool, true, false, not, ◌||◌, ◌&&◌, and-eq-true_iff, false≢true}
@@ -7,17 +7,16 @@ use mathlib.Core.List.{List}
 use Prim.Native.Nat.{ℕ, zero, suc, ◌+◌, ◌/◌, ◌<◌, ◌≤◌}
 use lib.Dec.{eqb, ltb, leb}
 use lib.ListN.{length}
-use native.Mathlib.Nat.{zero-add, eq-or-lt_of_le}
+use native.Mathlib.Nat.{eq-or-lt_of_le}
 use native.Mathlib.Numerals.{add-one}
 use native.Mathlib.Omega.{arith}
-use borrow.Author.Tests.{ltb-true, leb-true, eqb-true, lt-ltb, le-ltb, le-leb, lt-leb, eq-eqb, ne_eqb}
+use borrow.Author.Tests.{ltb-true, leb-true, eqb-true}
 use Rattle.model.specs.Answers.{ordering_number}
-use Rattle.model.specs.Arena.{arena_bytes, count_in, local_root_in, holds_graph}
-use Rattle.model.specs.ArenaCalls.{is_arena, ValidArena, value_unless}
+use Rattle.model.specs.Arena.{arena_bytes, count_in, local_root_in}
+use Rattle.model.specs.ArenaCalls.{is_arena, ValidArena}
 use Rattle.model.specs.Refusals.{refusal}
 use Rattle.model.specs.Strength.{compare_node_strength, compare_sibling_node_strength}
 use Rattle.std.specs.declared.cmp.Ordering.{Ordering}
-use Rattle.c_api.specs.Carried.{carried}
 use Rattle.laws.proofs.AcceptedQuestions.{Accepted, none-refused-accepted}
 use Rattle.view.specs.View.{view_in, ValidNodeAndRoot}
 use Rattle.strength.specs.Verdicts.{Pair}
@@ -39,44 +38,7 @@ or_else_none (suc x) y e = absurd (omega arith)
 
 -- ---- One pair
 
-module _ (bs : List ℕ) (a b : ℕ) where
-  pub first-is-zero : a ≤ 0 → false ≡ are_siblings bs a b
-  unfolding are_siblings
-  first-is-zero h = rw (le-ltb 0 a h)
-
-  module _ (above : 0 < a) where
-    pub second-is-zero : b ≤ 0 → false ≡ are_siblings bs a b
-    unfolding are_siblings
-    second-is-zero h = rw (lt-ltb 0 a above, le-ltb 0 b h)
-
-    pub by-parents : 0 < b → eqb ((view_in bs).parent a) ((view_in bs).parent b) ≡ are_siblings bs a b
-    unfolding are_siblings
-    by-parents h = rw (lt-ltb 0 a above, lt-ltb 0 b h)
-
 module _ (siblings : Bool) (bs : List ℕ) (a b : ℕ) where
-  pub first-no-node : count_in bs ≤ a → 4 ≡ pair_refused siblings bs a b
-  unfolding pair_refused
-  first-no-node h = rw (le-ltb a (count_in bs) h)
-
-  module _ (first : a < count_in bs) where
-    pub second-no-node : count_in bs ≤ b → 4 ≡ pair_refused siblings bs a b
-    unfolding pair_refused
-    second-no-node h = rw (lt-ltb a (count_in bs) first, le-ltb b (count_in bs) h)
-
-    module _ (second : b < count_in bs) where
-      pub nodes-pass : siblings ≡ false → 0 ≡ pair_refused siblings bs a b
-      unfolding pair_refused
-      nodes-pass e = rw (lt-ltb a (count_in bs) first, lt-ltb b (count_in bs) second, e)
-
-      module _ (asked : siblings ≡ true) where
-        pub siblings-pass : are_siblings bs a b ≡ true → 0 ≡ pair_refused siblings bs a b
-        unfolding pair_refused
-        siblings-pass e = rw (lt-ltb a (count_in bs) first, lt-ltb b (count_in bs) second, asked, e)
-
-        pub not-siblings : are_siblings bs a b ≡ false → 8 ≡ pair_refused siblings bs a b
-        unfolding pair_refused
-        not-siblings e = rw (lt-ltb a (count_in bs) first, lt-ltb b (count_in bs) second, asked, e)
-
   accepted : pair_refused siblings bs a b ≡ 0 → Accepted (pair_questions siblings bs a b)
   unfolding pair_refused
   accepted e = none-refused-accepted (pair_questions siblings bs a b) refl e
@@ -183,38 +145,3 @@ module _ (siblings : Bool) (bs ps : List ℕ) where
 
       sizes : (is_arena bs ≡ true) × (leb (length ps) most_pair_bytes ≡ true)
       sizes = (and-eq-true_iff (is_arena bs) (leb (length ps) most_pair_bytes)).0 (own 1)
-
-  pub no-arena : (length bs ≡ arena_bytes → ⊥) → 1 ≡ call_refused siblings bs ps
-  unfolding call_refused
-  no-arena h = rw (ne_eqb (length bs) arena_bytes h)
-
-  module _ (whole : length bs ≡ arena_bytes) where
-    pub too-many-pairs : most_pair_bytes < length ps → 1 ≡ call_refused siblings bs ps
-    unfolding call_refused
-    too-many-pairs h = rw (eq-eqb (length bs) arena_bytes whole, lt-leb (length ps) most_pair_bytes h)
-
-    module _ (few : length ps ≤ most_pair_bytes) where
-      pub no-graph : holds_graph bs ≡ false → 2 ≡ call_refused siblings bs ps
-      unfolding call_refused
-      no-graph h = rw (eq-eqb (length bs) arena_bytes whole, le-leb (length ps) most_pair_bytes few, h)
-
-      pub pairs_decide : holds_graph bs ≡ true → pairs_refused (pair_refused siblings bs) ps (length ps / 8) ≡ call_refused siblings bs ps
-      unfolding call_refused
-      pairs_decide h = rw (eq-eqb (length bs) arena_bytes whole, le-leb (length ps) most_pair_bytes few, h)
-
--- ---- The answer
-
-module _ (refused sum : ℕ) {r : ℕ} (number : r ≡ carried refused 0) where
-  pub refused-number : (r ≡ 0 → ⊥) → r ≡ carried refused (value_unless refused sum)
-  refused-number = go refused number
-    where
-      go : (k : ℕ) → r ≡ carried k 0 → (r ≡ 0 → ⊥) → r ≡ carried k (value_unless k sum)
-      go zero e h = absurd (h e)
-      go (suc k) e h = e
-
-  module _ (none : r ≡ 0) where
-    pub not-refused : refused ≡ 0
-    not-refused = omega (arith, number, none)
-
-    pub sum_number : sum ≡ carried refused (value_unless refused sum)
-    sum_number = sym (zero-add sum) ∙ ap (λ (k : ℕ). carried k (value_unless k sum)) (sym not-refused)

@@ -1,10 +1,11 @@
 -- Comparisons added up, for the programs in bench/: over a list of pairs of node numbers, eight
 -- bytes a pair, both big-endian. Every pair is asked before the first is compared.
-use Rattle.std.specs.Prelude.{Bool, not, ◌||◌, ◌&&◌, cond, List, [], ◌∷◌, ℕ, zero, suc, ◌+◌, ◌*◌, ◌/◌, eqb, ltb, leb, length}
+use Rattle.std.specs.Prelude.{Bool, not, ◌||◌, ◌&&◌, cond, List, [], ◌∷◌, ℕ, zero, suc, ◌+◌, ◌*◌, ◌/◌, eqb, ltb, leb, length, Result, Ok, Err}
 use Rattle.model.specs.Answers.{ordering_number}
 use Rattle.model.specs.Arena.{count_in, holds_graph}
 use Rattle.model.specs.ArenaCalls.{is_arena, value_unless}
-use Rattle.model.specs.Refusals.{Question, ask, refusal}
+use Rattle.model.specs.Refusals.{refusal_number, Question, ask, refusal}
+use Rattle.model.specs.declared.Refusal.{Refusal}
 use Rattle.model.specs.Snapshot.{field}
 use Rattle.model.specs.Strength.{compare_node_strength, compare_sibling_node_strength}
 use Rattle.std.specs.declared.cmp.Ordering.{Ordering}
@@ -32,6 +33,11 @@ pair_questions siblings bs a b =
 
 unfoldable pub pair_refused : Bool → List ℕ → ℕ → ℕ → ℕ
 pair_refused siblings bs a b = refusal (pair_questions siblings bs a b)
+
+-- the number of what refuses, 0 where nothing does
+abbrev pub refused_number : Result (Unit {0}) Refusal → ℕ
+refused_number (Ok _) = 0
+refused_number (Err r) = refusal_number r
 
 -- a refusal, or the next where there is none
 abbrev pub or_else : ℕ → ℕ → ℕ

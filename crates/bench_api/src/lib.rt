@@ -44,10 +44,7 @@ pub extern "C" fn bench_prim_count(path: &[u8]) -> u32
 pub extern "C" fn bench_is_graph(arena: &[u8]) -> u32
     ensures { result ≡ graph_number arena.now }
 {
-    if arena.len() != arena::ARENA_BYTES {
-        return 0;
-    }
-    validate::is_graph(arena) as u32
+    (arena.len() == arena::ARENA_BYTES && validate::is_graph(arena)) as u32
 }
 
 // 1 where the bytes are an arena that holds a graph, and this has an order, else 0. It is decided
@@ -56,10 +53,7 @@ pub extern "C" fn bench_is_graph(arena: &[u8]) -> u32
 pub extern "C" fn bench_has_order(arena: &[u8]) -> u32
     ensures { result ≡ order_number arena.now }
 {
-    if arena.len() != arena::ARENA_BYTES {
-        return 0;
-    }
-    if !validate::is_graph(arena) {
+    if arena.len() != arena::ARENA_BYTES || !validate::is_graph(arena) {
         return 0;
     }
     let mut sorted: [u32; 1024] = [0; 1024];
@@ -75,7 +69,7 @@ pub extern "C" fn bench_init_root(arena: &mut [u8], stack: u32, layer: u32, path
     ensures { WroteCarried (on_arena (init_root stack layer path.now) arena.old)
         arena.old result arena.new }
 {
-    c_api::carry_number(prim_graph::init_root(arena, stack, layer, path))
+    c_api::carry(prim_graph::init_root(arena, stack, layer, path))
 }
 
 // `add_child` of a Reference whose origin and depth are missing, other fields 0.
@@ -97,7 +91,7 @@ pub extern "C" fn bench_add_child(arena: &mut [u8], parent: u32, path: &[u8]) ->
         spec_from: 0,
         has_specs: 0,
     };
-    c_api::carry_number(prim_graph::add_child(arena, desc, path))
+    c_api::carry(prim_graph::add_child(arena, desc, path))
 }
 
 // `read_snapshot`.
@@ -106,7 +100,7 @@ pub extern "C" fn bench_read_snapshot(arena: &mut [u8], bytes: &[u8]) -> u64
     ensures { WroteCarried (into_arena (read_into bytes.now empty_graph) arena.old)
         arena.old result arena.new }
 {
-    c_api::carry_number(prim_graph::read_snapshot(arena, bytes))
+    c_api::carry(prim_graph::read_snapshot(arena, bytes))
 }
 
 // `write_snapshot`.
@@ -114,7 +108,7 @@ pub extern "C" fn bench_read_snapshot(arena: &mut [u8], bytes: &[u8]) -> u64
 pub extern "C" fn bench_write_snapshot(arena: &[u8], out: &mut [u8]) -> u64
     ensures { SnapshotCarried arena.now out.old result out.new }
 {
-    c_api::carry_number(prim_graph::write_snapshot(arena, out))
+    c_api::carry(prim_graph::write_snapshot(arena, out))
 }
 
 // `compare_node_strength`.
@@ -123,7 +117,7 @@ pub extern "C" fn bench_compare_node_strength(arena: &[u8], a: u32, b: u32) -> u
     ensures { result ≡ carried_answer (ask_arena arena.now (compares_nodes (decode arena.now) a b))
         (ordering_number (compare_node_strength (view_of (decode arena.now)) a b)) }
 {
-    c_api::carry_order(prim_graph::compare_node_strength(arena, a, b))
+    c_api::carry(prim_graph::compare_node_strength(arena, a, b))
 }
 
 // The sum of `compare_node_strength` over pairs of node numbers, eight bytes a pair: Less 0, Equal
@@ -157,7 +151,7 @@ pub extern "C" fn bench_finalize_strength_order(arena: &mut [u8]) -> u64
     ensures { WroteCarried (on_arena finalize_strength_order arena.old) arena.old result
         arena.new }
 {
-    c_api::carry_finish(prim_graph::finalize_strength_order(arena))
+    c_api::carry(prim_graph::finalize_strength_order(arena))
 }
 
 // `cull_subtrees_without_opinions`.
@@ -165,7 +159,7 @@ pub extern "C" fn bench_finalize_strength_order(arena: &mut [u8]) -> u64
 pub extern "C" fn bench_cull(arena: &mut [u8]) -> u64
     ensures { WroteCarried (on_arena cull arena.old) arena.old result arena.new }
 {
-    c_api::carry_finish(prim_graph::cull_subtrees_without_opinions(arena))
+    c_api::carry(prim_graph::cull_subtrees_without_opinions(arena))
 }
 
 // `erasable`.
@@ -173,7 +167,7 @@ pub extern "C" fn bench_cull(arena: &mut [u8]) -> u64
 pub extern "C" fn bench_erasable(arena: &[u8], set: &mut [u8]) -> u64
     ensures { ErasableCarried arena.now set.old result set.new }
 {
-    c_api::carry_finish(prim_graph::erasable(arena, set))
+    c_api::carry(prim_graph::erasable(arena, set))
 }
 
 // `erase`.
@@ -182,7 +176,7 @@ pub extern "C" fn bench_erase(arena: &mut [u8], set: &[u8]) -> u64
     ensures { WroteCarried (erase_in set.now arena.old) arena.old result
         arena.new }
 {
-    c_api::carry_number(prim_graph::erase(arena, set))
+    c_api::carry(prim_graph::erase(arena, set))
 }
 
 // `append_child_name_to_all_sites`.
@@ -191,7 +185,7 @@ pub extern "C" fn bench_append_child_name_to_all_sites(arena: &mut [u8], child: 
     ensures { WroteCarried (on_arena (append_child_name child.now) arena.old)
         arena.old result arena.new }
 {
-    c_api::carry_finish(prim_graph::append_child_name_to_all_sites(arena, child))
+    c_api::carry(prim_graph::append_child_name_to_all_sites(arena, child))
 }
 
 // `seed_child`.
@@ -200,5 +194,5 @@ pub extern "C" fn bench_seed_child(from: &[u8], into: &mut [u8], child: &[u8]) -
     ensures { WroteCarried (into_arena (seed_from child.now from.now) into.old)
         into.old result into.new }
 {
-    c_api::carry_finish(prim_graph::seed_child(from, into, child))
+    c_api::carry(prim_graph::seed_child(from, into, child))
 }

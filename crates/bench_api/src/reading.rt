@@ -49,7 +49,7 @@ pub extern "C" fn bench_path(arena: &[u8], n: u32) -> u64
         (length (node_at (decode arena.now).nodes n).path) }
 {
     let mut path: [u8; 255] = [0; 255];
-    c_api::carry_number(prim_graph::path(arena, n, &mut path))
+    c_api::carry(prim_graph::path(arena, n, &mut path))
 }
 
 // `path_at_introduction`: its length.
@@ -59,7 +59,7 @@ pub extern "C" fn bench_path_at_introduction(arena: &[u8], n: u32) -> u64
         (length (path_at_introduction (decode arena.now).nodes n)) }
 {
     let mut path: [u8; 255] = [0; 255];
-    c_api::carry_number(prim_graph::path_at_introduction(arena, n, &mut path))
+    c_api::carry(prim_graph::path_at_introduction(arena, n, &mut path))
 }
 
 // `intro_path`: its length.
@@ -69,7 +69,7 @@ pub extern "C" fn bench_intro_path(arena: &[u8], n: u32) -> u64
         (length (intro_path (decode arena.now).nodes n)) }
 {
     let mut path: [u8; 255] = [0; 255];
-    c_api::carry_number(prim_graph::intro_path(arena, n, &mut path))
+    c_api::carry(prim_graph::intro_path(arena, n, &mut path))
 }
 
 // `is_due_to_ancestor`: 1 for yes and 0 for no.
@@ -78,7 +78,7 @@ pub extern "C" fn bench_is_due_to_ancestor(arena: &[u8], n: u32) -> u64
     ensures { result ≡ carried_answer (ask_arena arena.now (reads_node (decode arena.now) n))
         (bit (is_due_to_ancestor (decode arena.now).nodes n)) }
 {
-    c_api::carry_test(prim_graph::is_due_to_ancestor(arena, n))
+    c_api::carry(prim_graph::is_due_to_ancestor(arena, n))
 }
 
 // `depth_below_introduction`.
@@ -87,7 +87,7 @@ pub extern "C" fn bench_depth_below_introduction(arena: &[u8], n: u32) -> u64
     ensures { result ≡ carried_answer (ask_arena arena.now (reads_node (decode arena.now) n))
         (depth_below_introduction (decode arena.now).nodes n) }
 {
-    c_api::carry_number(prim_graph::depth_below_introduction(arena, n))
+    c_api::carry(prim_graph::depth_below_introduction(arena, n))
 }
 
 // `node_using_site`: 4,294,967,295 for none.
@@ -97,7 +97,7 @@ pub extern "C" fn bench_node_using_site(arena: &[u8], stack: u32, path: &[u8]) -
         (ask_arena arena.now (uses_site (decode arena.now) path.now))
         (node_using_site stack path.now (decode arena.now)) }
 {
-    c_api::carry_node(prim_graph::node_using_site(arena, stack, path))
+    c_api::carry(prim_graph::node_using_site(arena, stack, path))
 }
 
 // `is_ancestor_of`: 1 for yes and 0 for no.
@@ -106,7 +106,7 @@ pub extern "C" fn bench_is_ancestor_of(arena: &[u8], x: u32, y: u32) -> u64
     ensures { result ≡ carried_answer (ask_arena arena.now (compares_nodes (decode arena.now) x y))
         (bit (is_ancestor_of (view (decode arena.now).nodes) x y)) }
 {
-    c_api::carry_test(prim_graph::is_ancestor_of(arena, x, y))
+    c_api::carry(prim_graph::is_ancestor_of(arena, x, y))
 }
 
 // `same_site`, the same.
@@ -115,7 +115,7 @@ pub extern "C" fn bench_same_site(arena: &[u8], a: u32, b: u32) -> u64
     ensures { result ≡ carried_answer (ask_arena arena.now (compares_nodes (decode arena.now) a b))
         (bit ((view (decode arena.now).nodes).same_site a b)) }
 {
-    c_api::carry_test(prim_graph::same_site(arena, a, b))
+    c_api::carry(prim_graph::same_site(arena, a, b))
 }
 
 // `is_propagated_specializes`, the same.
@@ -124,7 +124,7 @@ pub extern "C" fn bench_is_propagated_specializes(arena: &[u8], n: u32) -> u64
     ensures { result ≡ carried_answer (ask_arena arena.now (reads_node (decode arena.now) n))
         (bit (is_propagated_specializes (view (decode arena.now).nodes) n)) }
 {
-    c_api::carry_test(prim_graph::is_propagated_specializes(arena, n))
+    c_api::carry(prim_graph::is_propagated_specializes(arena, n))
 }
 
 // `get_propagated_specializes_node`: 4,294,967,295 for none.
@@ -133,7 +133,7 @@ pub extern "C" fn bench_get_propagated_specializes_node(arena: &[u8], n: u32) ->
     ensures { result ≡ carried_answer (ask_arena arena.now (reads_node (decode arena.now) n))
         (get_propagated_specializes_node (decode arena.now) n) }
 {
-    c_api::carry_node(prim_graph::get_propagated_specializes_node(arena, n))
+    c_api::carry(prim_graph::get_propagated_specializes_node(arena, n))
 }
 
 // `starting_node_of_class_hierarchy`: the topmost class, 4,294,967,295 for none.

@@ -10,7 +10,7 @@ pub extern "C" fn bench_mark(arena: &mut [u8], n: u32, flags: u8) -> u64
     ensures { WroteCarried (on_arena (mark n flags) arena.old) arena.old result
         arena.new }
 {
-    c_api::carry_finish(prim_graph::mark(arena, n, flags))
+    c_api::carry(prim_graph::mark(arena, n, flags))
 }
 
 // `set_first_spec`, with a position.
@@ -19,7 +19,7 @@ pub extern "C" fn bench_set_first_spec(arena: &mut [u8], n: u32, first: u16) -> 
     ensures { WroteCarried (on_arena (set_first_spec n (Some first)) arena.old) arena.old result
         arena.new }
 {
-    c_api::carry_finish(prim_graph::set_first_spec(arena, n, Some(first)))
+    c_api::carry(prim_graph::set_first_spec(arena, n, Some(first)))
 }
 
 // `set_has_specs`.
@@ -28,7 +28,7 @@ pub extern "C" fn bench_set_has_specs(arena: &mut [u8], n: u32, authored: bool) 
     ensures { WroteCarried (on_arena (set_has_specs n authored) arena.old) arena.old result
         arena.new }
 {
-    c_api::carry_finish(prim_graph::set_has_specs(arena, n, authored))
+    c_api::carry(prim_graph::set_has_specs(arena, n, authored))
 }
 
 // `set_restriction_depth`.
@@ -37,5 +37,5 @@ pub extern "C" fn bench_set_restriction_depth(arena: &mut [u8], n: u32, depth: u
     ensures { WroteCarried (on_arena (set_restriction_depth n depth) arena.old) arena.old result
         arena.new }
 {
-    c_api::carry_finish(prim_graph::set_restriction_depth(arena, n, depth))
+    c_api::carry(prim_graph::set_restriction_depth(arena, n, depth))
 }

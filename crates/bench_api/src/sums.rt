@@ -1,80 +1,76 @@
 // Comparisons below the questions, which are put before, to every pair: what bench/ measures.
-// specs/Pairs.antt says what is asked and what is added up.
-ghost use Rattle.std.specs.Prelude.{◌≡◌, ◌≤◌, ◌/◌, length};
+// specs/Pairs.antt says what is asked and what is added up. Which comparison is meant stays a flag,
+// since the C function `bench_ask_pairs` is given one.
+ghost use Rattle.std.specs.Prelude.{◌≡◌, ◌<◌, ◌/◌, length};
 ghost use Rattle.model.specs.Arena.{count_in, local_root_in};
 ghost use Rattle.model.specs.ArenaCalls.{ValidArena, ValidNode};
 ghost use Rattle.bench_api.specs.Pairs.{are_siblings, pair_refused, pairs_refused, call_refused, comparison, pair_sum};
-ghost use Rattle.bench_api.specs.Pairs.{asked_number, pairs_number, most_pair_bytes};
+ghost use Rattle.bench_api.specs.Pairs.{first_of, second_of, refused_number, asked_number, pairs_number};
 
+use model::{Refusal, ordering_number};
 use std::cmp::Ordering;
 
 // Whether two nodes have one parent, and neither is node 0.
+#[tactic(auto, unfolding(crate::specs::Pairs::are_siblings))]
 fn are_siblings(arena: &[u8], a: u32, b: u32) -> bool
     requires { ValidNode arena.now a × ValidNode arena.now b }
     ensures { result ≡ are_siblings arena.now a b }
 {
-    if a == 0 {
-        return false;
-    }
-    if b == 0 {
-        return false;
-    }
-    view::parent(arena, a) == view::parent(arena, b)
+    a != 0 && b != 0 && view::parent(arena, a) == view::parent(arena, b)
 }
 
-// What refuses a pair: 4, of siblings 4 or 8; or 0.
-fn ask_pair(arena: &[u8], siblings: bool, count: u32, a: u32, b: u32) -> u32
+// Whether a pair is refused: by 4, of siblings by 4 or 8.
+#[tactic(auto, unfolding(crate::specs::Pairs::pair_refused))]
+fn ask_pair(arena: &[u8], siblings: bool, count: u32, a: u32, b: u32) -> Result<(), Refusal>
     requires { ValidArena arena.now × (count ≡ count_in arena.now) }
-    ensures { result ≡ pair_refused siblings arena.now a b }
+    ensures { refused_number result ≡ pair_refused siblings arena.now a b }
 {
-    if a >= count {
-        return 4;
+    if a >= count || b >= count {
+        return Err(Refusal::Node);
     }
-    if b >= count {
-        return 4;
+    if siblings && !are_siblings(arena, a, b) {
+        return Err(Refusal::NotSiblings);
     }
-    if !siblings {
-        return 0;
-    }
-    if !are_siblings(arena, a, b) {
-        return 8;
-    }
-    0
+    Ok(())
 }
 
-// What refuses the first pair that is refused, or 0.
-fn ask_pairs(arena: &[u8], pairs: &[u8], siblings: bool) -> u32
-    requires { ValidArena arena.now × (length pairs.now ≤ most_pair_bytes) }
-    ensures { result ≡ pairs_refused (pair_refused siblings arena.now) pairs.now
+// Pair i of the list.
+fn pair(pairs: &[u8], i: usize) -> (u32, u32)
+    requires { i < length pairs.now / 8 }
+    ensures first { result.0 ≡ first_of pairs.now i }
+    ensures second { result.1 ≡ second_of pairs.now i }
+{
+    let at = 8 * i;
+    (
+        big_endian::read_u32(pairs, at),
+        big_endian::read_u32(pairs, at + 4),
+    )
+}
+
+// Whether a pair is refused: by what refuses the first of them.
+fn ask_pairs(arena: &[u8], pairs: &[u8], siblings: bool) -> Result<(), Refusal>
+    requires { ValidArena arena.now }
+    ensures { refused_number result ≡ pairs_refused (pair_refused siblings arena.now) pairs.now
         (length pairs.now / 8) }
 {
     let count = arena::count(arena);
-    let n = pairs.len() / 8;
-    let mut i: usize = 0;
-    while i < n {
-        let a = big_endian::read_u32(pairs, 8 * i);
-        let b = big_endian::read_u32(pairs, 8 * i + 4);
-        let refused = ask_pair(arena, siblings, count, a, b);
-        if refused != 0 {
-            return refused;
-        }
-        i += 1;
+    for i in 0..pairs.len() / 8 {
+        let (a, b) = pair(pairs, i);
+        ask_pair(arena, siblings, count, a, b)?;
     }
-    0
+    Ok(())
 }
 
-// What refuses a call: questions 1 and 2, then every pair's.
-fn ask_call(arena: &[u8], pairs: &[u8], siblings: bool) -> u32
-    ensures { result ≡ call_refused siblings arena.now pairs.now }
+// Whether a call is refused: questions 1 and 2, then every pair's.
+#[tactic(auto, unfolding(crate::specs::Pairs::call_refused))]
+fn ask_call(arena: &[u8], pairs: &[u8], siblings: bool) -> Result<(), Refusal>
+    ensures { refused_number result ≡ call_refused siblings arena.now pairs.now }
 {
-    if arena.len() != arena::ARENA_BYTES {
-        return 1;
-    }
-    if pairs.len() > 8388608 {
-        return 1;
+    if arena.len() != arena::ARENA_BYTES || pairs.len() > 8388608 {
+        return Err(Refusal::Size);
     }
     if !validate::is_graph(arena) {
-        return 2;
+        return Err(Refusal::NotAGraph);
     }
     ask_pairs(arena, pairs, siblings)
 }
@@ -91,21 +87,18 @@ fn compare_pair(arena: &[u8], siblings: bool, root: u32, a: u32, b: u32) -> Orde
     strength::compare_node_strength(arena, root, a, b)
 }
 
-// The sum over pairs that have passed: nothing is asked here.
+// The sum over pairs that have passed: nothing is asked here. One loop for this and `ask_pairs` would
+// need a contract that speaks of any step, and is no plainer than these two.
 fn sum_pairs(arena: &[u8], pairs: &[u8], siblings: bool) -> u64
     requires { call_refused siblings arena.now pairs.now ≡ 0 }
     ensures { result ≡ pair_sum (comparison siblings arena.now) pairs.now
         (length pairs.now / 8) }
 {
     let root = arena::local_root(arena);
-    let n = pairs.len() / 8;
     let mut sum: u64 = 0;
-    let mut i: usize = 0;
-    while i < n {
-        let a = big_endian::read_u32(pairs, 8 * i);
-        let b = big_endian::read_u32(pairs, 8 * i + 4);
+    for i in 0..pairs.len() / 8 {
+        let (a, b) = pair(pairs, i);
         sum += ordering_number(compare_pair(arena, siblings, root, a, b)) as u64;
-        i += 1;
     }
     sum
 }
@@ -114,16 +107,18 @@ fn sum_pairs(arena: &[u8], pairs: &[u8], siblings: bool) -> u64
 pub(crate) fn only_ask(arena: &[u8], pairs: &[u8], siblings: bool) -> u64
     ensures { result ≡ asked_number siblings arena.now pairs.now }
 {
-    (ask_call(arena, pairs, siblings) as u64) * 4294967296
+    match ask_call(arena, pairs, siblings) {
+        Ok(()) => 0,
+        Err(refusal) => c_api::carry_refusal(refusal),
+    }
 }
 
 // The refusal, or the sum.
 pub(crate) fn compare_pairs(arena: &[u8], pairs: &[u8], siblings: bool) -> u64
     ensures { result ≡ pairs_number siblings arena.now pairs.now }
 {
-    let refused = only_ask(arena, pairs, siblings);
-    if refused != 0 {
-        return refused;
+    match ask_call(arena, pairs, siblings) {
+        Ok(()) => sum_pairs(arena, pairs, siblings),
+        Err(refusal) => c_api::carry_refusal(refusal),
     }
-    sum_pairs(arena, pairs, siblings)
 }

@@ -1,9 +1,6 @@
 // The lines that look at a graph.
 use crate::relations::tested_line;
-use calls_text::{
-    bad_line, front, is_call, put, put_bytes, put_found, put_numbered, put_path, put_refusal,
-    read_number, word,
-};
+use calls_text::{bad_line, front, is_call, put, put_bytes, put_found, put_numbered, put_path, put_refusal, read_number, word};
 use model::Refusal;
 use prim_graph::{intro_path, is_due_to_ancestor, path_at_introduction};
 use std::io::Write;

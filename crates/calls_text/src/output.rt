@@ -38,7 +38,7 @@ pub fn put<W: Write>(to: &mut W, out: &mut [u8], used: usize, bytes: &[u8]) -> u
     end
 }
 
-// Puts a number in decimal, and answers as `put` does.
+// Puts a number in decimal, and answers as `put` does. (`write!` would need a writer over `out`.)
 pub fn put_number<W: Write>(to: &mut W, out: &mut [u8], used: usize, number: u64) -> usize {
     let mut digits = [0u8; 20];
     let count = io::decimal(number, &mut digits);
