@@ -45,8 +45,7 @@ pub fn write_u16(out: &mut [u8], at: usize, x: u16)
     requires { at + 2 ≤ length out.old }
     ensures { out.new ≡ stored at (big_endian 2 x) out.old }
 {
-    out[at] = (x / 256 % 256) as u8;
-    out[at + 1] = (x % 256) as u8;
+    write_bytes(out, at, &x.to_be_bytes());
 }
 
 // Stores the number in the four bytes from `at` on.
@@ -54,10 +53,7 @@ pub fn write_u32(out: &mut [u8], at: usize, x: u32)
     requires { at + 4 ≤ length out.old }
     ensures { out.new ≡ stored at (big_endian 4 x) out.old }
 {
-    out[at] = (x / 16777216 % 256) as u8;
-    out[at + 1] = (x / 65536 % 256) as u8;
-    out[at + 2] = (x / 256 % 256) as u8;
-    out[at + 3] = (x % 256) as u8;
+    write_bytes(out, at, &x.to_be_bytes());
 }
 
 // Stores all of `src` from `at` on.
