@@ -4,23 +4,9 @@
 // of model/specs/Bytes.antt; laws/proofs/StoredLaws.antt has the laws of both, at any width.
 #![tactic(auto)]
 
-ghost use Rattle.std.specs.Prelude.{◌≡◌, [], ◌∷◌, ◌+◌, ◌≤◌, length};
-ghost use Rattle.model.specs.Snapshot.{big_endian, value, field};
+ghost use Rattle.std.specs.Prelude.{◌≡◌, ◌+◌, ◌≤◌, length};
+ghost use Rattle.model.specs.Snapshot.{big_endian, field};
 ghost use Rattle.model.specs.Bytes.{stored};
-
-// The number that two bytes are, the higher first.
-fn join_u16(b0: u8, b1: u8) -> u16
-    ensures { result ≡ value (b0 ∷ b1 ∷ []) }
-{
-    (b0 as u16) * 256 + (b1 as u16)
-}
-
-// The number that four bytes are, the highest first.
-fn join_u32(b0: u8, b1: u8, b2: u8, b3: u8) -> u32
-    ensures { result ≡ value (b0 ∷ b1 ∷ b2 ∷ b3 ∷ []) }
-{
-    (b0 as u32) * 16777216 + (b1 as u32) * 65536 + (b2 as u32) * 256 + (b3 as u32)
-}
 
 // The byte at `at`.
 pub fn read_u8(bytes: &[u8], at: usize) -> u8
@@ -35,7 +21,7 @@ pub fn read_u16(bytes: &[u8], at: usize) -> u16
     requires { at + 2 ≤ length bytes.now }
     ensures { result ≡ field at 2 bytes.now }
 {
-    join_u16(bytes[at], bytes[at + 1])
+    u16::from_be_bytes([bytes[at], bytes[at + 1]])
 }
 
 // The number in the four bytes from `at` on.
@@ -43,7 +29,7 @@ pub fn read_u32(bytes: &[u8], at: usize) -> u32
     requires { at + 4 ≤ length bytes.now }
     ensures { result ≡ field at 4 bytes.now }
 {
-    join_u32(bytes[at], bytes[at + 1], bytes[at + 2], bytes[at + 3])
+    u32::from_be_bytes([bytes[at], bytes[at + 1], bytes[at + 2], bytes[at + 3]])
 }
 
 // Stores the byte at `at`.
@@ -59,8 +45,7 @@ pub fn write_u16(out: &mut [u8], at: usize, x: u16)
     requires { at + 2 ≤ length out.old }
     ensures { out.new ≡ stored at (big_endian 2 x) out.old }
 {
-    out[at] = (x / 256 % 256) as u8;
-    out[at + 1] = (x % 256) as u8;
+    write_bytes(out, at, &x.to_be_bytes());
 }
 
 // Stores the number in the four bytes from `at` on.
@@ -68,10 +53,7 @@ pub fn write_u32(out: &mut [u8], at: usize, x: u32)
     requires { at + 4 ≤ length out.old }
     ensures { out.new ≡ stored at (big_endian 4 x) out.old }
 {
-    out[at] = (x / 16777216 % 256) as u8;
-    out[at + 1] = (x / 65536 % 256) as u8;
-    out[at + 2] = (x / 256 % 256) as u8;
-    out[at + 3] = (x % 256) as u8;
+    write_bytes(out, at, &x.to_be_bytes());
 }
 
 // Stores all of `src` from `at` on.
