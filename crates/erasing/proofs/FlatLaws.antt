@@ -1,6 +1,6 @@
 -- The loop that gathers the child lists of all kept nodes, one after the other: `Listing`, with its
 -- two steps and its end. Assumes nothing.
-use mathlib.Core.Path.{◌≡◌, refl, sym, ap, ◌∙◌}
+use mathlib.Core.Path.{◌≡◌, sym, ap, ◌∙◌}
 use mathlib.Core.Bool.{Bool, true, false}
 use mathlib.Core.List.{List, [], ◌∷◌, ◌++◌}
 use Prim.Native.Nat.{ℕ, suc, ◌+◌, ◌≤◌, ◌<◌}
@@ -51,16 +51,6 @@ pub record Listing (bs bytes : List ℕ) (start n : ℕ) (array ends : List ℕ)
   pub front : take start array ≡ flat (lists bs bytes) (new_number (stays bytes) n)
   pub ended : (p : ℕ) → p < new_number (stays bytes) n → get_or ends p 0 ≡ length (flat (lists bs bytes) (suc p))
 
-pub listing_start : {bs bytes array ends : List ℕ} → length array ≡ 1024 → length ends ≡ 1024 → Listing bs bytes 0 0 array ends
-listing_start long as_long = record {
-  long = long;
-  as_long = as_long;
-  started = refl;
-  low = omega arith;
-  front = refl;
-  ended = λ p h. absurd (omega arith);
-}
-
 module _ {bs : List ℕ} (o : ValidArena bs) {bytes : List ℕ} {start n : ℕ} {array ends : List ℕ} (w : Listing bs bytes start n array ends) where
   module _ (here : n < count_in bs) where
     abbrev children : List ℕ
@@ -80,9 +70,6 @@ module _ {bs : List ℕ} (o : ValidArena bs) {bytes : List ℕ} {start n : ℕ} 
 
     module _ (stay : get_or bytes n 0 ≡ 0) {end number : ℕ} {after : List ℕ} (gathered : Gathered (kept_list bytes children) start end array after)
         (new : number ≡ new_number (stays bytes) n) where
-      pub listing-ended : end ≤ 1024
-      listing-ended = omega (arith, gathered.ended, kept-length bytes children, listing-room)
-
       counted : new_number (stays bytes) (suc n) ≡ suc number
       counted = rw (eq-eqb (get_or bytes n 0) 0 stay, new) (one-add (new_number (stays bytes) n))
 

@@ -15,7 +15,7 @@ use Rattle.arena.proofs.ChainLaws.{Chain, chain_length, chain-linked}
 use Rattle.arena.proofs.HeldArenas.{held, held-chain}
 use Rattle.arena.proofs.ArenaBack.{children-decode}
 use Rattle.erasing.specs.KeptLists.{kept_list, Gathered}
-use Rattle.erasing.proofs.KeepLaws.{Keeping, keeping_start, keeping-room, keeping-kept, keeping_gone, keeping-ends}
+use Rattle.erasing.proofs.KeepLaws.{Keeping, keeping_start, keeping-kept, keeping_gone, keeping-ends}
 
 -- ---- The children that are left
 
@@ -73,9 +73,6 @@ module _ {bs : List ℕ} (o : ValidArena bs) {bytes : List ℕ} {v start : ℕ} 
 
       pub walking-readable : ValidNode bs child
       walking-readable = record { opened = o; below = here.chain.children.0.0 }
-
-      pub walking-room : end < length array
-      walking-room = keeping-room here.keeping
 
       module _ {next : ℕ} (n : next ≡ next_sibling_in bs child) where
         onward : Chain bs v next here.later

@@ -1,27 +1,22 @@
--- The byte of one node by the fields that are read of it (`mark-unculled` to `mark_set`), and a set
--- filled with these bytes from the front (`marked_start`, `marked_step`). Assumes nothing.
+-- The byte of one node by the fields that are read of it (`mark-unculled` to `mark_set`). Assumes
+-- nothing.
 use mathlib.Core.Path.{◌≡◌, ap, ◌∙◌}
 use mathlib.Core.Bool.{true, false, not, ◌&&◌}
 use mathlib.Core.List.{List}
-use Prim.Native.Nat.{ℕ, ◌+◌, ◌≤◌, ◌<◌}
-use native.Mathlib.Decide.{dec_lt}
+use Prim.Native.Nat.{ℕ, ◌≤◌}
 use native.Mathlib.Omega.{arith}
 use lib.Dec.{eqb}
-use lib.ListN.{length, get_or, set, length-set}
-use lib.Seq.{get_or-set_same, get_or-set_other}
 use borrow.Author.Tests.{eq-eqb, ne_eqb, lt-ltb, le-ltb}
 use Rattle.model.specs.Lists.{bit}
 use Rattle.model.specs.Node.{culled_flag, has_flag, Node}
-use Rattle.model.specs.Graph.{Graph, size, depth_below_introduction}
+use Rattle.model.specs.Graph.{size, depth_below_introduction}
 use Rattle.model.specs.Arena.{count_in, decode}
 use Rattle.model.specs.ArenaCalls.{ValidArena, ValidNode}
 use Rattle.model.specs.Culling.{is_marked}
 use Rattle.arena.specs.Slot.{flags_in, has_specs_in}
 use Rattle.arena.proofs.ReadNodes.{sizes, node-read, fields_read}
 use Rattle.view.proofs.ViewLaws.{seen}
-use Rattle.erasing.specs.MarkedSet.{marks, MarkedBelow}
-
--- ---- One byte
+use Rattle.erasing.specs.MarkedSet.{marks}
 
 pub mark-beyond : (bs : List ℕ) (n : ℕ) → ValidArena bs → count_in bs ≤ n → 0 ≡ bit (marks (decode bs) n)
 mark-beyond bs n o h = rw (le-ltb n (size (decode bs)) (omega (arith, sizes bs o)))
@@ -47,18 +42,3 @@ module _ (bs : List ℕ) (n : ℕ) (r : ValidNode bs n) where
 
       pub mark_set : (depth_below_introduction (decode bs).nodes n ≡ 0 → ⊥) → 1 ≡ bit (marks (decode bs) n)
       mark_set e = rw (mark-read, culled, ne_eqb (has_specs_in bs n) 1 bare, ne_eqb (depth_below_introduction (decode bs).nodes n) 0 e)
-
--- ---- The set
-
-pub marked_start : (g : Graph) (bytes : List ℕ) → length bytes ≡ 1024 → MarkedBelow g 0 bytes
-marked_start g bytes e = record { long = e; byte = λ k h. absurd (omega arith) }
-
-pub marked_step : (g : Graph) (n v : ℕ) (bytes : List ℕ) → MarkedBelow g n bytes → n < 1024 → v ≡ bit (marks g n)
-    → MarkedBelow g (n + 1) (set bytes n v)
-marked_step g n v bytes m l e = record { long = length-set bytes n v ∙ m.long; byte = λ k h. go k h (dec_lt k n) }
-  where
-    go : (k : ℕ) → k < n + 1 → Dec (k < n) → get_or (set bytes n v) k 0 ≡ bit (marks g k)
-    go k h (yes below) = get_or-set_other bytes n k v 0 (omega arith) ∙ m.byte k below
-    go k h (no last) =
-        let same : k ≡ n = omega arith in
-        rw same (get_or-set_same bytes n v 0 (omega (arith, m.long)) ∙ e)

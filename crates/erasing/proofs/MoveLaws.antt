@@ -128,8 +128,3 @@ module _ (bs set : List ℕ) (count : ℕ) (numbers : List ℕ) (bytes : Bytes b
           let same : new_number kept n ≡ new_number kept (n + 1) = rw (add-one n, ne_eqb (get_or set n 0) 0 goes, zero-add (new_number kept n)) in
           moving.moved ∙ ap (λ (k : ℕ). sites_stored h k bs) same;
     }
-
-pub moving-end : (bs set : List ℕ) (count : ℕ) (arena : List ℕ) (n : ℕ) → Moving bs set arena n → n ≡ count
-    → arena ≡ sites_stored (erase set (decode bs)) (new_number (stays set) count) bs
-moving-end bs set count arena n moving all =
-    moving.moved ∙ ap (λ (k : ℕ). sites_stored (erase set (decode bs)) (new_number (stays set) k) bs) all

@@ -15,29 +15,27 @@ use Rattle.model.specs.Setting.{with_given, with_flags}
 
 -- the flag 2 ^ k
 module _ (k : ℕ) where
+  flag_there : (n : ℕ) → eqb (bit_at n k) 1 ≡ true → bit_and n (2 ^ k) ≡ 2 ^ k
+  flag_there n e = and_pow n k ∙ rw (eqb-true (bit_at n k) 1 e) (omega arith)
+
+  flag_missing : (n : ℕ) → eqb (bit_at n k) 1 ≡ false → bit_and n (2 ^ k) ≡ 0
+  flag_missing n e =
+      let zero : bit_at n k ≡ 0 = omega (arith, eqb-false (bit_at n k) 1 e, bit_at-lt n k) in
+      and_pow n k ∙ rw zero (omega arith)
+
   flag_or : (n : ℕ) → with_flag (2 ^ k) n ≡ bit_or n (2 ^ k)
   flag_or n = go (eqb (bit_at n k) 1) refl
     where
       go : (t : Bool) → eqb (bit_at n k) 1 ≡ t → with_flag (2 ^ k) n ≡ bit_or n (2 ^ k)
-      go true e =
-          let one : bit_and n (2 ^ k) ≡ 2 ^ k = and_pow n k ∙ rw (eqb-true (bit_at n k) 1 e) (omega arith) in
-          rw e (omega (arith, one, or_add_and n (2 ^ k)))
-      go false e =
-          let zero : bit_at n k ≡ 0 = omega (arith, eqb-false (bit_at n k) 1 e, bit_at-lt n k) in
-          let none : bit_and n (2 ^ k) ≡ 0 = and_pow n k ∙ rw zero (omega arith) in
-          rw e (omega (arith, none, or_add_and n (2 ^ k)))
+      go true e = rw e (omega (arith, flag_there n e, or_add_and n (2 ^ k)))
+      go false e = rw e (omega (arith, flag_missing n e, or_add_and n (2 ^ k)))
 
-  pub given_or : (given n : ℕ) → with_given (2 ^ k) given n ≡ bit_or n (bit_and given (2 ^ k))
+  given_or : (given n : ℕ) → with_given (2 ^ k) given n ≡ bit_or n (bit_and given (2 ^ k))
   given_or given n = go (eqb (bit_at given k) 1) refl
     where
       go : (t : Bool) → eqb (bit_at given k) 1 ≡ t → with_given (2 ^ k) given n ≡ bit_or n (bit_and given (2 ^ k))
-      go true e =
-          let one : bit_and given (2 ^ k) ≡ 2 ^ k = and_pow given k ∙ rw (eqb-true (bit_at given k) 1 e) (omega arith) in
-          rw (e, one) (flag_or n)
-      go false e =
-          let zero : bit_at given k ≡ 0 = omega (arith, eqb-false (bit_at given k) 1 e, bit_at-lt given k) in
-          let none : bit_and given (2 ^ k) ≡ 0 = and_pow given k ∙ rw zero (omega arith) in
-          rw (e, none) (sym (or_zero_r n))
+      go true e = rw (e, flag_there given e) (flag_or n)
+      go false e = rw (e, flag_missing given e) (sym (or_zero_r n))
 
 -- the three flags at one place
 spread : (x g a b c : ℕ) → max (max (max x (min g a)) (min g b)) (min g c) ≡ max x (min g (max (max a b) c))

@@ -1,13 +1,11 @@
 -- The lowest node that uses a site, node after node: from node 0 on it is the definition's
--- (`lowest-starts`), one node further on (`lowest-steps`), and none is left at the count
--- (`lowest-ends`). Assumes nothing.
+-- (`lowest-starts`), and one node further on (`lowest-steps`). Assumes nothing.
 use mathlib.Core.Path.{◌≡◌, sym, ap, ◌∙◌}
 use mathlib.Core.Bool.{cond}
 use mathlib.Core.List.{List}
-use Prim.Native.Nat.{ℕ, suc, ◌+◌, ◌-◌, ◌≤◌, ◌<◌}
+use Prim.Native.Nat.{ℕ, suc, ◌+◌, ◌-◌, ◌<◌}
 use native.Mathlib.Omega.{arith}
 use native.Mathlib.Numerals.{add-one}
-use Rattle.model.specs.Node.{invalid}
 use Rattle.model.specs.Graph.{uses_site, site_from, node_using_site}
 use Rattle.model.specs.Arena.{count_in, node_in, tabulate, decode}
 
@@ -27,8 +25,3 @@ module _ (bs : List ℕ) (stack : ℕ) (path : List ℕ) where
       let more : count_in bs - n ≡ suc (count_in bs - (n + 1)) = omega arith in
       ap (λ (k : ℕ). site_from n stack path (tabulate (node_in bs) n k)) more
       ∙ ap (λ (m : ℕ). cond (uses_site stack path (node_in bs n)) n (site_from m stack path (tabulate (node_in bs) m (count_in bs - (n + 1))))) (sym (add-one n))
-
-  pub lowest-ends : (n : ℕ) → count_in bs ≤ n → lowest_from n ≡ invalid
-  lowest-ends n h =
-      let none : count_in bs - n ≡ 0 = omega arith in
-      ap (λ (k : ℕ). site_from n stack path (tabulate (node_in bs) n k)) none

@@ -1,8 +1,7 @@
 -- What the proof of the reader's second pass cites. Its state is `CheckedTo`: the reading from
 -- here, of the graph of the records that passed, is refused as all of it is; and `path_bytes`,
--- `has_root` and `prims` are those of that graph. Start, step and end. Assumes nothing.
-use Rattle.std.specs.Prelude.{Option}
-use Rattle.std.specs.Prelude.{Err, Ok, Result}
+-- `has_root` and `prims` are those of that graph. Start and step. Assumes nothing.
+use Rattle.std.specs.Prelude.{Err}
 use mathlib.Core.Path.{◌≡◌, refl, sym, ap, ◌∙◌}
 use mathlib.Core.Logic.{◌⊎◌, inl, inr}
 use mathlib.Core.Bool.{Bool, false, ◌&&◌, ◌||◌, and-eq-true_iff}
@@ -13,7 +12,7 @@ use native.Mathlib.Numerals.{add-one}
 use native.Mathlib.Omega.{arith}
 use lib.Dec.{eqb, ltb}
 use lib.ListN.{length, take, drop, get_or, set, length-drop, length-set, get_or-append}
-use lib.Seq.{take_all, take-suc, drop-cons, drop-length, length-take-le, get_or-append_seam, get_or-set_same, get_or-set_other}
+use lib.Seq.{take_all, take-suc, drop-cons, length-take-le, get_or-append_seam, get_or-set_same, get_or-set_other}
 use borrow.Author.Tests.{ltb-true, leb-true}
 use Rattle.model.specs.Lists.{any_below}
 use Rattle.model.specs.Path.{prim_count}
@@ -129,16 +128,6 @@ module _ (bytes prims : List ℕ) (at paths : ℕ) (root : Bool) (n : ℕ) (to :
 
   abbrev graph : Graph
   graph = built (take n nodes)
-
-  -- the end
-  pub checked-all : length nodes ≤ n → RecordsChecked bytes (Ok tt) prims
-  checked-all end =
-      let all : n ≡ length nodes = omega (arith, to.reached.few) in
-      let none_left : drop n nodes ≡ [] = ap (λ (k : ℕ). drop k nodes) all ∙ drop-length nodes in
-      record {
-        refused = sym (ap (λ (xs : List Node). (read_on empty_graph graph xs).refused) none_left) ∙ to.same;
-        named = λ e k h. to.named k (omega arith);
-      }
 
   -- the next record, lent as `piece`, and what its check answered
   module _ (h : n < length nodes) (piece : List ℕ) (e : piece ≡ record_part at bytes) where

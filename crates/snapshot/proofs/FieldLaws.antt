@@ -160,9 +160,6 @@ pub record Asked (bytes : List ℕ) (count at left : ℕ) : Type 0 where
   pub within : at ≤ length bytes
   pub same : passes (read_records left (drop at bytes)) ≡ passes (read_records count (drop 7 bytes))
 
-pub asked-none : (bytes : List ℕ) (count : ℕ) → 7 ≤ length bytes → Asked bytes count 7 count
-asked-none bytes count h = record { within = h; same = refl }
-
 module _ (bytes : List ℕ) (count at left : ℕ) (asked : Asked bytes count at left) where
   -- one record more
   pub asked-more : 0 < left → RecordAt bytes at → Asked bytes count (at + (2 + field at 2 bytes)) (left - 1)

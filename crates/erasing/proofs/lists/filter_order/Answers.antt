@@ -29,10 +29,6 @@ module _ {bs set numbers : List ℕ} {count mark n entry : ℕ} (valid : ValidAr
     room : kept < length array
     room = filtering-room valid.0 (sym read ∙ one) w below at
 
-pub ordered-requires : goal.ordered-requires
-ordered-requires c =
-    c.requires.valid_arena.0.whole
-
 pub returns-then-ordered-ne1 : goal.returns-then-ordered-ne1
 returns-then-ordered-ne1 c =
     (omega arith, filtered-none c.args.arena.now c.args.set.now (λ e. c.if-ordered-ne1.true (c.ordered.ensures ∙ e)))
@@ -58,11 +54,6 @@ bounds-numbers-i c =
 pub bounds-order-kept : goal.bounds-order-kept
 bounds-order-kept c =
     room c.requires.valid_arena c.ordered.ensures c.if-ordered-ne1.false c.loop-n-test.true c.order_entry-i.ensures c.loop-n.invariant
-
-pub overflow_add-kept : goal.overflow_add-kept
-overflow_add-kept c =
-    let fits = room c.requires.valid_arena c.ordered.ensures c.if-ordered-ne1.false c.loop-n-test.true c.order_entry-i.ensures c.loop-n.invariant in
-    omega (arith, fits, c.loop-n.invariant.long, c.requires.set_len.1)
 
 pub loop-n-preserved : goal.loop-n-preserved
 loop-n-preserved c =

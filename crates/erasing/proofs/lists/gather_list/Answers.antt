@@ -7,7 +7,7 @@ use mathlib.Core.List.{List}
 use Prim.Native.Nat.{ℕ, ◌<◌}
 use Rattle.model.specs.ArenaCalls.{ValidArena}
 use Rattle.arena.proofs.ReadNodes.{has-slot}
-use Rattle.erasing.proofs.KeptChildren.{Walking, walking_start, walking-readable, walking-room, walking-less, walking-kept, walking-gone, walking-ends}
+use Rattle.erasing.proofs.KeptChildren.{Walking, walking_start, walking-readable, walking-less, walking-kept, walking-gone, walking-ends}
 use Rattle.erasing.proofs.lists.gather_list.Goals as goal
 
 -- a child has places in the arrays
@@ -36,14 +36,6 @@ pub bounds-numbers-i : goal.bounds-numbers-i
 bounds-numbers-i c =
     let fits = small c.requires.valid_arena.0 c.loop-child.invariant c.loop-child-test.true in
     omega (arith, fits, c.requires.valid_arena.2.long)
-
-pub bounds-lists-end : goal.bounds-lists-end
-bounds-lists-end c = walking-room c.requires.valid_arena.0 c.loop-child.invariant c.loop-child-test.true
-
-pub overflow_add-end : goal.overflow_add-end
-overflow_add-end c =
-    let room = walking-room c.requires.valid_arena.0 c.loop-child.invariant c.loop-child-test.true in
-    omega (arith, room, c.loop-child.invariant.keeping.long, c.requires.set_len.1)
 
 pub loop-child-smaller-then-set-i-eq0 : goal.loop-child-smaller-then-set-i-eq0
 loop-child-smaller-then-set-i-eq0 c =

@@ -1,7 +1,7 @@
 -- `gather_lists` meets its contract. The invariant of its loop: the lists of the kept nodes below
 -- `parent` stand up to `start`. Assumes nothing.
 use native.Mathlib.Omega.{arith}
-use mathlib.Core.Path.{◌≡◌, subst}
+use mathlib.Core.Path.{◌≡◌}
 use mathlib.Core.List.{List}
 use Prim.Native.Nat.{ℕ, ◌<◌}
 use lib.ListN.{get_or}
@@ -11,7 +11,7 @@ use Rattle.model.specs.Erasing.{stays}
 use Rattle.laws.proofs.EraseLists.{new-number-no-larger}
 use Rattle.arena.proofs.HeldArenas.{held}
 use Rattle.erasing.specs.KeptLists.{Numbers}
-use Rattle.erasing.proofs.FlatLaws.{listing_start, listing-room, listing-ended, listing-kept, listing-gone, listing-ends}
+use Rattle.erasing.proofs.FlatLaws.{listing-room, listing-kept, listing-gone, listing-ends}
 use Rattle.erasing.proofs.lists.gather_lists.Goals as goal
 use Rattle.erasing.proofs.lists.gather_lists.Goals.{then-set-parent-eq0, else-set-parent-eq0}
 
@@ -26,27 +26,13 @@ module _ {bs set numbers : List ℕ} {count n : ℕ} (valid : ValidArena bs × (
   number-small : get_or numbers n 0 < 1024
   number-small = omega (arith, small, valid.2.number n here, new-number-no-larger (stays set) n)
 
-pub loop-parent-init : goal.loop-parent-init
-loop-parent-init c = listing_start c.requires.set_len.1 c.requires.set_len.2
-
 pub bounds-set-parent : goal.bounds-set-parent
 bounds-set-parent c = omega (arith, small c.requires.valid_arena c.loop-parent-test.true, c.requires.set_len.0)
 
-pub gather_list-end-requires : goal.gather_list-end-requires
-gather_list-end-requires c =
+pub gather_list-end-requires-clause-set_len : goal.gather_list-end-requires-clause-set_len
+gather_list-end-requires-clause-set_len c =
     let valid = c.requires.valid_arena in
-    let here = below valid c.loop-parent-test.true in
-    let all = subst (λ (k : ℕ). Numbers c.args.set.now k c.args.numbers.now) valid.1 valid.2 in record {
-      valid_arena = (valid.0, here, all);
-      set_len = (c.requires.set_len.0, c.loop-parent.invariant.long, listing-room valid.0 c.loop-parent.invariant here);
-    }
-
-pub overflow_cast-ends : goal.overflow_cast-ends
-overflow_cast-ends c =
-    let valid = c.requires.valid_arena in
-    let ended = listing-ended valid.0 c.loop-parent.invariant (below valid c.loop-parent-test.true) c.if-set-parent-eq0.true c.gather_list-end.ensures
-    (valid.2.number _ c.loop-parent-test.true) in
-    omega (arith, ended)
+    (c.requires.set_len.0, c.loop-parent.invariant.long, listing-room valid.0 c.loop-parent.invariant (below valid c.loop-parent-test.true))
 
 pub bounds-numbers-parent : goal.bounds-numbers-parent
 bounds-numbers-parent c = omega (arith, small c.requires.valid_arena c.loop-parent-test.true, c.requires.valid_arena.2.long)

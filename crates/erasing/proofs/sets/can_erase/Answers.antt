@@ -3,23 +3,12 @@
 use native.Mathlib.Omega.{arith}
 use mathlib.Core.Path.{◌≡◌, sym, ◌∙◌}
 use mathlib.Core.Bool.{true}
-use borrow.Author.Count.{below_none, below_more}
+use borrow.Author.Count.{below_more}
 use Rattle.model.specs.Arena.{decode}
 use Rattle.model.specs.Erasing.{spares_one}
 use Rattle.arena.proofs.ReadNodes.{sizes}
 use Rattle.erasing.proofs.AcceptLaws.{accepting-fails, accepting-ends}
 use Rattle.erasing.proofs.sets.can_erase.Goals as goal
-
-pub count-count-requires : goal.count-count-requires
-count-count-requires c =
-    c.requires.valid_arena.whole
-
-pub loop-n-init : goal.loop-n-init
-loop-n-init c = below_none (λ k. spares_one (decode c.args.arena.now) c.args.set.now k ≡ true)
-
-pub spares_one-requires : goal.spares_one-requires
-spares_one-requires c =
-    record { valid_node = record { opened = c.requires.valid_arena; below = omega (arith, c.loop-n-test, c.count-count.ensures) }; set_len = c.requires.set_len }
 
 pub returns-then-not-spares_one : goal.returns-then-not-spares_one
 returns-then-not-spares_one c =

@@ -42,12 +42,6 @@ pub bounds-set-n : goal.bounds-set-n
 bounds-set-n c =
     omega (arith, c.loop-n.invariant.long, (has-slot _ _ (readable c.requires.valid_arena c.loop-n-test.true c.loop-n.auto.n)).within)
 
-pub parent-parent-requires : goal.parent-parent-requires
-parent-parent-requires c = readable c.requires.valid_arena c.loop-n-test.true c.loop-n.auto.n
-
-pub origin-origin-requires : goal.origin-origin-requires
-origin-origin-requires c = readable c.requires.valid_arena c.loop-n-test.true c.loop-n.auto.n
-
 pub bounds-set-parent : goal.bounds-set-parent
 bounds-set-parent c =
     let within = links-within c.requires.valid_arena c.loop-n-test.true c.loop-n.auto.n c.parent-parent.ensures c.origin-origin.ensures in

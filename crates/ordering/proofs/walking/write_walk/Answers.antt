@@ -1,21 +1,11 @@
 -- `walking::write_walk` meets its contract. The invariant of its loop: `at - 1` steps lead to x, all
 -- nodes up to it are stored, and what is kept is true. Assumes nothing.
-use mathlib.Core.Path.{◌≡◌, refl, ◌∙◌}
+use mathlib.Core.Path.{◌≡◌, ◌∙◌}
 use Prim.Native.Nat.{◌+◌, ◌-◌}
 use native.Mathlib.Omega.{arith}
 use Rattle.ordering.specs.Ordering.{Walkable}
-use Rattle.ordering.proofs.WayLaws.{walk-begun, walk-ended, walking_start, walking-climbs, walking-knows, walking-learns, walking-step, walking-end}
+use Rattle.ordering.proofs.WayLaws.{walk-begun, walk-ended, walking-climbs, walking-knows, walking-learns, walking-step, walking-end}
 use Rattle.ordering.proofs.walking.write_walk.Goals as goal
-
-pub write_order_entry-requires : goal.write_order_entry-requires
-write_order_entry-requires c =
-    record { whole = c.requires.whole; within = omega arith }
-
-pub loop-at-init : goal.loop-at-init
-loop-at-init c =
-    let begun : Walkable c.write_order_entry.new.arena c.args.count =
-    walk-begun _ _ c.requires _ c.write_order_entry.ensures in
-    (walking_start _ _ begun, refl)
 
 pub look_ahead-known-requires : goal.look_ahead-known-requires
 look_ahead-known-requires c =
@@ -29,10 +19,6 @@ next_of-x-requires c =
     let begun : Walkable c.write_order_entry.new.arena c.args.count =
     walk-begun _ _ c.requires _ c.write_order_entry.ensures in
     (walking-climbs _ _ begun _ _ _ c.loop-at.invariant.0, c.look_ahead-known.ensures)
-
-pub write_order_entry-requires-in-loop-at : goal.write_order_entry-requires-in-loop-at
-write_order_entry-requires-in-loop-at c =
-    record { whole = c.loop-at.invariant.0.long; within = omega (arith, c.loop-at-test.true, c.requires.few) }
 
 pub loop-at-preserved : goal.loop-at-preserved
 loop-at-preserved c =

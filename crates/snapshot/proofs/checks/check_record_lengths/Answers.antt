@@ -3,30 +3,12 @@
 use mathlib.Core.Path.{◌≡◌, sym, ◌∙◌}
 use Prim.Native.Nat.{◌+◌, ◌-◌}
 use native.Mathlib.Omega.{arith}
-use Rattle.snapshot.proofs.FieldLaws.{asked-none, asked-more, asked-missing, asked-all, asked-behind, length_taken}
+use Rattle.snapshot.proofs.FieldLaws.{asked-more, asked-missing, asked-all, asked-behind, length_taken}
 use Rattle.snapshot.proofs.checks.check_record_lengths.Goals as goal
-
-pub loop-passed-init : goal.loop-passed-init
-loop-passed-init c =
-    let all : c.args.count - 0 ≡ c.args.count = omega arith in
-    rw all (asked-none _ _ c.requires)
-
-pub take_length-requires : goal.take_length-requires
-take_length-requires c = c.loop-passed.invariant.within
 
 pub returns-in_default : goal.returns-in_default
 returns-in_default c =
     asked-missing _ _ _ _ c.loop-passed.invariant (omega (arith, c.loop-passed-test.true)) (sym c.take_length.ensures ∙ c.in_default.is)
-
-pub overflow_add-at : goal.overflow_add-at
-overflow_add-at c =
-    let found = length_taken _ _ c.loop-passed.invariant.within _ (sym c.take_length.ensures ∙ c.in-Some.is) in
-    omega (arith, found.0.short, found.1)
-
-pub overflow_add-at-in-loop-passed : goal.overflow_add-at-in-loop-passed
-overflow_add-at-in-loop-passed c =
-    let found = length_taken _ _ c.loop-passed.invariant.within _ (sym c.take_length.ensures ∙ c.in-Some.is) in
-    omega (arith, found.0.within, found.1)
 
 pub loop-passed-preserved : goal.loop-passed-preserved
 loop-passed-preserved c =

@@ -2,8 +2,8 @@
 -- are refused as all of them are. Assumes nothing.
 use Rattle.std.proofs.lemmas.Result.{err_from_is_err_and}
 use native.Mathlib.Omega.{arith}
-use Rattle.snapshot.proofs.SnapshotRecords.{numbered, record-here, piece-long, reached-more}
-use Rattle.snapshot.proofs.CheckLaws.{checked-none, checked-all, refused-here, fits-prims, checked-more}
+use Rattle.snapshot.proofs.SnapshotRecords.{numbered, record-here, piece-long}
+use Rattle.snapshot.proofs.CheckLaws.{checked-none, refused-here, checked-more}
 use Rattle.snapshot.proofs.checks.check_records.Goals as goal
 
 pub loop-n-init : goal.loop-n-init
@@ -14,10 +14,10 @@ pub record_at-record-requires : goal.record_at-record-requires
 record_at-record-requires c =
     record-here _ _ _ c.loop-n.invariant.reached (numbered c.requires.exact c.loop-n-test.true)
 
-pub check_one-requires : goal.check_one-requires
-check_one-requires c =
+pub check_one-requires-clause-in_bounds : goal.check_one-requires-clause-in_bounds
+check_one-requires-clause-in_bounds c =
     let long = piece-long _ _ _ c.loop-n.invariant.reached (numbered c.requires.exact c.loop-n-test.true) _ c.record_at-record.ensures in
-    record { tables = record { kinds-right = c.kinds-kinds.ensures; pairs-right = c.pairs-pairs.ensures }; in_bounds = (long.0, c.loop-n.invariant.few_bytes) }
+    (long.0, c.loop-n.invariant.few_bytes)
 
 pub returns-in_err-prim_count : goal.returns-in_err-prim_count
 returns-in_err-prim_count c =
@@ -25,12 +25,6 @@ returns-in_err-prim_count c =
     rw (p.1, p.2) (
     refused-here _ _ _ _ _ _ c.loop-n.invariant (numbered c.requires.exact c.loop-n-test.true) c.record_at-record.result.now c.record_at-record.ensures
     c.check_one.result c.check_one.ensures _ c.in_err-prim_count.was)
-
-pub bounds-prims-n : goal.bounds-prims-n
-bounds-prims-n c =
-    let small = fits-prims _ _ _ _ _ _ c.loop-n.invariant (numbered c.requires.exact c.loop-n-test.true) c.record_at-record.result.now
-    c.record_at-record.ensures c.check_one.result c.check_one.ensures _ c.in_ok-prim_count.was in
-    omega (arith, small, c.loop-n.invariant.whole)
 
 pub bounds-record-0 : goal.bounds-record-0
 bounds-record-0 c =
@@ -42,27 +36,8 @@ overflow_sub-path_bytes c =
     let long = piece-long _ _ _ c.loop-n.invariant.reached (numbered c.requires.exact c.loop-n-test.true) _ c.record_at-record.ensures in
     omega (arith, long.0)
 
-pub overflow_add-path_bytes : goal.overflow_add-path_bytes
-overflow_add-path_bytes c =
-    let long = piece-long _ _ _ c.loop-n.invariant.reached (numbered c.requires.exact c.loop-n-test.true) _ c.record_at-record.ensures in
-    omega (arith, long.1, c.loop-n.invariant.few_bytes)
-
-pub overflow_add-at : goal.overflow_add-at
-overflow_add-at c =
-    let long = piece-long _ _ _ c.loop-n.invariant.reached (numbered c.requires.exact c.loop-n-test.true) _ c.record_at-record.ensures in
-    omega (arith, long.1)
-
-pub overflow_add-at-in-loop-n : goal.overflow_add-at-in-loop-n
-overflow_add-at-in-loop-n c =
-    let next = reached-more _ _ _ c.loop-n.invariant.reached (numbered c.requires.exact c.loop-n-test.true) _ c.record_at-record.ensures in
-    omega (arith, next.within)
-
 pub loop-n-preserved : goal.loop-n-preserved
 loop-n-preserved c =
     rw c.with_root-has_root.ensures
     (checked-more _ _ _ _ _ _ c.loop-n.invariant (numbered c.requires.exact c.loop-n-test.true) c.record_at-record.result.now c.record_at-record.ensures
     c.check_one.result c.check_one.ensures _ c.in_ok-prim_count.was)
-
-pub returns : goal.returns
-returns c =
-    checked-all _ _ _ _ _ _ c.loop-n.invariant (omega (arith, c.loop-n-test.false, c.requires.exact.counted))

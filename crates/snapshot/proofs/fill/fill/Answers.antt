@@ -4,7 +4,7 @@ use native.Mathlib.Omega.{arith}
 use Rattle.laws.proofs.StoredLaws.{bytes-by-place}
 use Rattle.laws.proofs.SnapshotReadLaws.{grows-size}
 use Rattle.snapshot.specs.SnapshotReading.{nodes_read}
-use Rattle.snapshot.proofs.SnapshotRecords.{numbered, record-here, reached-more}
+use Rattle.snapshot.proofs.SnapshotRecords.{numbered, record-here}
 use Rattle.snapshot.proofs.SnapshotFill.{grow, filled_none, filled-all, can-append-record, filled_more, nodes-fit}
 use Rattle.snapshot.proofs.fill.fill.Goals as goal
 
@@ -26,16 +26,6 @@ append_record-requires c =
     let here = numbered c.requires.exact c.loop-n-test.true in
     can-append-record _ _ _ _ _ c.loop-n.invariant (grow _ _ c.requires.exact c.requires.accepted) here c.record_at-record.result.now
     c.record_at-record.ensures _ (c.requires.named _ here)
-
-pub overflow_add-at : goal.overflow_add-at
-overflow_add-at c =
-    let next = reached-more _ _ _ c.loop-n.invariant.reached (numbered c.requires.exact c.loop-n-test.true) _ c.record_at-record.ensures in
-    omega (arith, next.within)
-
-pub overflow_add-at-in-loop-n : goal.overflow_add-at-in-loop-n
-overflow_add-at-in-loop-n c =
-    let next = reached-more _ _ _ c.loop-n.invariant.reached (numbered c.requires.exact c.loop-n-test.true) _ c.record_at-record.ensures in
-    omega (arith, next.within)
 
 pub loop-n-preserved : goal.loop-n-preserved
 loop-n-preserved c =

@@ -18,20 +18,10 @@ pub first_child-child-requires : goal.first_child-child-requires
 first_child-child-requires c =
     has-slot _ _ c.requires.readable
 
-pub loop-passed-init : goal.loop-passed-init
-loop-passed-init c =
-    let left : c.count-count.result - 0 ≡ count_in c.args.arena.now = omega (arith, c.count-count.ensures) in
-    ap (λ (k : ℕ). copy_from c.args.arena.now c.args.n k c.first_child-child.result) left
-    ∙ ap (copy_from c.args.arena.now c.args.n (count_in c.args.arena.now)) c.first_child-child.ensures
-
 pub returns-then-child-count : goal.returns-then-child-count
 returns-then-child-count c =
     sym (copies-end c.args.arena.now c.args.n (c.count-count.result - c.loop-passed._passed) c.loop-passed.child (omega (arith, c.if-child-count.true, c.count-count.ensures)))
     ∙ c.loop-passed.invariant
-
-pub is_copy-requires : goal.is_copy-requires
-is_copy-requires c =
-    record { readable = readable c.requires c.count-count.ensures c.if-child-count.false; root-read = c.requires.root-read }
 
 pub returns-then-is_copy : goal.returns-then-is_copy
 returns-then-is_copy c =
@@ -50,8 +40,3 @@ loop-passed-preserved c =
     (omega (arith, c.loop-passed-test.true)) (readable c.requires c.count-count.ensures c.if-child-count.false).below
     (sym c.is_copy.ensures ∙ c.if-is_copy.false) c.next_sibling-child.ensures
     ∙ c.loop-passed.invariant
-
-pub returns : goal.returns
-returns c =
-    let none : c.count-count.result - c.loop-passed._passed ≡ 0 = omega (arith, c.loop-passed-test.false) in
-    sym (ap (λ (k : ℕ). copy_from c.args.arena.now c.args.n k c.loop-passed.child) none) ∙ c.loop-passed.invariant

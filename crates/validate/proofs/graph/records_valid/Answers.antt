@@ -4,23 +4,8 @@ use mathlib.Core.Path.{sym, ◌∙◌}
 use native.Mathlib.Omega.{arith}
 use Rattle.validate.specs.Validate.{before_in}
 use Rattle.validate.proofs.ArenaRecords.{ValidAfter, right-after}
-use Rattle.validate.proofs.RecordsLaws.{records-none, no-root, record-fails, records-more, records-all}
+use Rattle.validate.proofs.RecordsLaws.{record-fails, records-more, records-all}
 use Rattle.validate.proofs.graph.records_valid.Goals as goal
-
-pub loop-n-init : goal.loop-n-init
-loop-n-init c =
-    records-none _
-
-pub record_valid-requires : goal.record_valid-requires
-record_valid-requires c =
-    record {
-      tables = record { kinds-right = c.kinds-kinds.ensures; pairs-right = c.pairs-pairs.ensures };
-      has_slot = (
-        record { whole = c.requires.0; within = omega (arith, c.loop-n-test, c.requires) },
-        c.record_length-length.ensures,
-        c.loop-n.invariant.few_bytes,
-      );
-    }
 
 pub returns-then-not-record_valid : goal.returns-then-not-record_valid
 returns-then-not-record_valid c =
@@ -32,10 +17,6 @@ overflow_sub-path_bytes c =
     let right : ValidAfter c.args.arena.now (before_in c.loop-n.n c.loop-n.path_bytes c.loop-n.root) =
     right-after _ _ (sym c.record_valid.ensures ∙ c.if-not-record_valid.false) in
     omega (arith, right.named, c.record_length-length.ensures)
-
-pub root_with-root-requires : goal.root_with-root-requires
-root_with-root-requires c =
-    no-root _ _ _ _ c.loop-n.invariant
 
 pub loop-n-preserved : goal.loop-n-preserved
 loop-n-preserved c =
