@@ -4,4 +4,4 @@ use Rattle.bench_api.proofs.bench_cull.Goals as goal
 
 pub returns : goal.returns
 returns c =
-    finishes-carried (cull-value _) c.carry_finish.ensures c.cull_subtrees_without_opinions.ensures
+    finishes-carried (cull-value _) c.carry.ensures c.cull_subtrees_without_opinions.ensures

@@ -4,4 +4,4 @@ use Rattle.bench_api.proofs.bench_finalize_strength_order.Goals as goal
 
 pub returns : goal.returns
 returns c =
-    finishes-carried (finalize-value _) c.carry_finish.ensures c.finalize_strength_order.ensures
+    finishes-carried (finalize-value _) c.carry.ensures c.finalize_strength_order.ensures

@@ -5,4 +5,4 @@ use Rattle.bench_api.proofs.bench_seed_child.Goals as goal
 
 pub returns : goal.returns
 returns c =
-    finishes-carried (seed-value _ _ _) c.carry_finish.ensures c.seed_child.ensures
+    finishes-carried (seed-value _ _ _) c.carry.ensures c.seed_child.ensures

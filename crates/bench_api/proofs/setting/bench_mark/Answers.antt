@@ -4,4 +4,4 @@ use Rattle.bench_api.proofs.setting.bench_mark.Goals as goal
 
 pub returns : goal.returns
 returns c =
-    finishes-carried (mark-value _ _ _) c.carry_finish.ensures c.mark.ensures
+    finishes-carried (mark-value _ _ _) c.carry.ensures c.mark.ensures

@@ -4,4 +4,4 @@ use Rattle.bench_api.proofs.setting.bench_set_first_spec.Goals as goal
 
 pub returns : goal.returns
 returns c =
-    finishes-carried (first-spec-value _ _ _) c.carry_finish.ensures c.set_first_spec.ensures
+    finishes-carried (first-spec-value _ _ _) c.carry.ensures c.set_first_spec.ensures

@@ -4,4 +4,4 @@ use Rattle.bench_api.proofs.setting.bench_set_has_specs.Goals as goal
 
 pub returns : goal.returns
 returns c =
-    finishes-carried (has-specs-value _ _ _) c.carry_finish.ensures c.set_has_specs.ensures
+    finishes-carried (has-specs-value _ _ _) c.carry.ensures c.set_has_specs.ensures

@@ -4,4 +4,4 @@ use Rattle.bench_api.proofs.setting.bench_set_restriction_depth.Goals as goal
 
 pub returns : goal.returns
 returns c =
-    finishes-carried (restriction-value _ _ _) c.carry_finish.ensures c.set_restriction_depth.ensures
+    finishes-carried (restriction-value _ _ _) c.carry.ensures c.set_restriction_depth.ensures
