@@ -82,10 +82,6 @@ module _ (bs out : List ℕ) (o : ValidArena bs) (large : length out ≡ 4096) w
   listed-none = refl
 
   module _ (after : List ℕ) (n : ℕ) (listed : Listed bs out after n) where
-    pub listed-all : n ≡ count_in bs → after ≡ stored 0 (order_bytes (entries_in bs)) out
-    listed-all all =
-        listed ∙ ap (λ (k : ℕ). stored 0 (bytes_before bs k) out) all
-
     pub listed_more : n < count_in bs → (next : List ℕ) → next ≡ stored (4 * n) (big_endian 4 (order_entry_in bs n)) after → Listed bs out next (n + 1)
     listed_more h next q =
         let entry = big_endian 4 (order_entry_in bs n) in

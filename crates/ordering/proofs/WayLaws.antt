@@ -1,6 +1,6 @@
 -- Storing the walk while it is walked: an order entry is no link, so each step is the one that the
 -- arena had at first (`SameLinks`); and the state of `write_walk`'s loop (`Walking`), with its
--- start, its step and its end. Assumes nothing.
+-- step and its end. Assumes nothing.
 use mathlib.Core.Path.{◌≡◌, refl, sym, ap, ◌∙◌, fun_ext}
 use mathlib.Core.Logic.{inl, inr}
 use mathlib.Core.List.{List, [], ◌∷◌}
@@ -99,9 +99,6 @@ pub record Walking (before : List ℕ) (count : ℕ) (arena : List ℕ) (x at : 
   pub same : order_stored (tabulate (way_in before) (suc at) (count - suc at)) (suc at) arena ≡ rest_stored count before
 
 module _ (before : List ℕ) (count : ℕ) (ready : Walkable before count) where
-  pub walking_start : Walking before count before 0 0
-  walking_start = record { high = ready.some-node; long = ready.whole; links = same-links-self before; here = refl; same = refl }
-
   module _ (arena : List ℕ) (x at : ℕ) (w : Walking before count arena x at) where
     pub walking-node : x < count
     walking-node = omega (arith, w.here, ready.nodes at w.high)

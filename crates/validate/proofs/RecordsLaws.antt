@@ -163,15 +163,9 @@ pub record RecordsTo (bs : List ℕ) (n path_bytes root : ℕ) : Type 0 where
   pub few_bytes : path_bytes ≤ most_path_bytes
   pub local-root : root ≡ root_below bs n
 
-pub records-none : (bs : List ℕ) → RecordsTo bs 0 0 0
-records-none bs = record { right = refl; bytes = refl; few_bytes = omega arith; local-root = refl }
-
 module _ (bs : List ℕ) (n path_bytes root : ℕ) (to : RecordsTo bs n path_bytes root) where
   here : record_valid_after bs (before_in n path_bytes root) ≡ record_valid bs n
   here = λ i. record_valid_after bs (before_in n (to.bytes i) (to.local-root i))
-
-  pub no-root : n ≡ 0 → root ≡ 0
-  no-root z = to.local-root ∙ ap (root_below bs) z
 
   pub record-fails : n < count_in bs → record_valid_after bs (before_in n path_bytes root) ≡ false → records_valid bs ≡ false
   unfolding records_valid
