@@ -1,28 +1,20 @@
--- `is_name_start` meets its contract: std's test of a letter is the definition's two. Assumes
+-- `is_name_start` meets its contract: the tests are the definition's, in its order. Assumes
 -- nothing.
-use mathlib.Core.Path.{◌≡◌, refl, sym, ◌∙◌}
-use mathlib.Core.Bool.{Bool, true, false, ◌||◌, true≢false, false≢true}
-use Rattle.model.specs.Path.{is_name_start, between}
+use mathlib.Core.Path.{◌∙◌, sym}
+use Rattle.model.specs.Path.{is_name_start}
 use Rattle.path.proofs.scan.is_name_start.Goals as goal
 
-letter : (small large line : Bool) → (large || small) ≡ true → true ≡ (small || (large || line))
-letter true large line e = refl
-letter false true line e = refl
-letter false false line e = absurd (false≢true e)
-
-no_letter : (small large line : Bool) → (large || small) ≡ false → line ≡ (small || (large || line))
-no_letter true true line e = absurd (true≢false e)
-no_letter true false line e = absurd (true≢false e)
-no_letter false true line e = absurd (true≢false e)
-no_letter false false line e = refl
-
-pub returns-then-is_ascii_alphabetic : goal.returns-then-is_ascii_alphabetic
+pub returns-then-within : goal.returns-then-within
 unfolding is_name_start
-returns-then-is_ascii_alphabetic c =
-    c.if-is_ascii_alphabetic.true
-    ∙ letter (between 0x61 0x7a c.args.b) (between 0x41 0x5a c.args.b) _ (sym c.is_ascii_alphabetic.ensures.value ∙ c.if-is_ascii_alphabetic.true)
+returns-then-within c =
+    rw (sym c.within.ensures ∙ c.if-within.true)
 
-pub returns-else-is_ascii_alphabetic : goal.returns-else-is_ascii_alphabetic
+pub returns-then-within-2 : goal.returns-then-within-2
 unfolding is_name_start
-returns-else-is_ascii_alphabetic c =
-    no_letter (between 0x61 0x7a c.args.b) (between 0x41 0x5a c.args.b) _ (sym c.is_ascii_alphabetic.ensures.value ∙ c.if-is_ascii_alphabetic.false)
+returns-then-within-2 c =
+    rw (sym c.within.ensures ∙ c.if-within.false, sym c.within-2.ensures ∙ c.if-within-2.true)
+
+pub returns : goal.returns
+unfolding is_name_start
+returns c =
+    rw (sym c.within.ensures ∙ c.if-within.false, sym c.within-2.ensures ∙ c.if-within-2.false)

@@ -6,9 +6,9 @@ use Rattle.path.proofs.scan.is_word_byte.Goals as goal
 pub returns-then-is_name_start : goal.returns-then-is_name_start
 unfolding is_word_byte
 returns-then-is_name_start c =
-    rw (sym c.is_name_start.ensures ∙ c.if-is_name_start.true) c.if-is_name_start.true
+    rw (sym c.is_name_start.ensures ∙ c.if-is_name_start.true)
 
-pub returns-else-is_name_start : goal.returns-else-is_name_start
+pub returns : goal.returns
 unfolding is_word_byte
-returns-else-is_name_start c =
-    rw (sym c.is_name_start.ensures ∙ c.if-is_name_start.false) c.is_ascii_digit.ensures.value
+returns c =
+    rw (sym c.is_name_start.ensures ∙ c.if-is_name_start.false, c.within.ensures)
