@@ -1,7 +1,7 @@
 -- What the proof of the reader's second pass cites. Its state is `CheckedTo`: the reading from
 -- here, of the graph of the records that passed, is refused as all of it is; and `path_bytes`,
 -- `has_root` and `prims` are those of that graph. Start and step. Assumes nothing.
-use Rattle.std.specs.Prelude.{Option, Result, Err}
+use Rattle.std.specs.Prelude.{Option, Result, Ok, Err}
 use mathlib.Core.Path.{◌≡◌, refl, sym, ap, ◌∙◌}
 use mathlib.Core.Logic.{◌⊎◌, inl, inr}
 use mathlib.Core.Bool.{Bool, false, ◌&&◌, ◌||◌, and-eq-true_iff}

@@ -30,7 +30,7 @@ returns-then-name-eq0 c =
 pub paths_fit-requires : goal.paths_fit-requires
 paths_fit-requires c =
     let has-node : let bs = c.args.arena.now in ValidArena bs × (0 < count_in bs) =
-    some-node _ (sym (rw c.in-Done.is at c.ask_node_zero-asked.ensures)) in
+    some-node _ (sym c.in_ok-ask_node_zero.ensures) in
     has-node.0
 
 pub returns-then-not-paths_fit : goal.returns-then-not-paths_fit
