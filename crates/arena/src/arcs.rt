@@ -1,4 +1,5 @@
-// The arcs (document 01: 0 to 6).
+// The arcs, 0 to 6. Bytes, and no enum: an arena or a `NodeDesc` may hold any byte, which question 6
+// refuses, and an arc is compared and ranked as the byte that it is.
 pub const ROOT: u8 = 0;
 
 pub const INHERIT: u8 = 1;

@@ -34,11 +34,6 @@ pair_questions siblings bs a b =
 unfoldable pub pair_refused : Bool → List ℕ → ℕ → ℕ → ℕ
 pair_refused siblings bs a b = refusal (pair_questions siblings bs a b)
 
--- the number of what refuses, 0 where nothing does
-abbrev pub refused_number : Result (Unit {0}) Refusal → ℕ
-refused_number (Ok _) = 0
-refused_number (Err r) = refusal_number r
-
 -- a refusal, or the next where there is none
 abbrev pub or_else : ℕ → ℕ → ℕ
 or_else zero next = next

@@ -2,10 +2,11 @@
 // specs/Pairs.antt says what is asked and what is added up. Which comparison is meant stays a flag,
 // since the C function `bench_ask_pairs` is given one.
 ghost use Rattle.std.specs.Prelude.{◌≡◌, ◌<◌, ◌/◌, length};
+ghost use Rattle.model.specs.Answers.{answer_refusal};
 ghost use Rattle.model.specs.Arena.{count_in, local_root_in};
 ghost use Rattle.model.specs.ArenaCalls.{ValidArena, ValidNode};
 ghost use Rattle.bench_api.specs.Pairs.{are_siblings, pair_refused, pairs_refused, call_refused, comparison, pair_sum};
-ghost use Rattle.bench_api.specs.Pairs.{first_of, second_of, refused_number, asked_number, pairs_number};
+ghost use Rattle.bench_api.specs.Pairs.{first_of, second_of, asked_number, pairs_number};
 
 use model::{Refusal, ordering_number};
 use std::cmp::Ordering;
@@ -23,7 +24,7 @@ fn are_siblings(arena: &[u8], a: u32, b: u32) -> bool
 #[tactic(auto, unfolding(crate::specs::Pairs::pair_refused))]
 fn ask_pair(arena: &[u8], siblings: bool, count: u32, a: u32, b: u32) -> Result<(), Refusal>
     requires { ValidArena arena.now × (count ≡ count_in arena.now) }
-    ensures { refused_number result ≡ pair_refused siblings arena.now a b }
+    ensures { answer_refusal result ≡ pair_refused siblings arena.now a b }
 {
     if a >= count || b >= count {
         return Err(Refusal::Node);
@@ -50,7 +51,7 @@ fn pair(pairs: &[u8], i: usize) -> (u32, u32)
 // Whether a pair is refused: by what refuses the first of them.
 fn ask_pairs(arena: &[u8], pairs: &[u8], siblings: bool) -> Result<(), Refusal>
     requires { ValidArena arena.now }
-    ensures { refused_number result ≡ pairs_refused (pair_refused siblings arena.now) pairs.now
+    ensures { answer_refusal result ≡ pairs_refused (pair_refused siblings arena.now) pairs.now
         (length pairs.now / 8) }
 {
     let count = arena::count(arena);
@@ -64,7 +65,7 @@ fn ask_pairs(arena: &[u8], pairs: &[u8], siblings: bool) -> Result<(), Refusal>
 // Whether a call is refused: questions 1 and 2, then every pair's.
 #[tactic(auto, unfolding(crate::specs::Pairs::call_refused))]
 fn ask_call(arena: &[u8], pairs: &[u8], siblings: bool) -> Result<(), Refusal>
-    ensures { refused_number result ≡ call_refused siblings arena.now pairs.now }
+    ensures { answer_refusal result ≡ call_refused siblings arena.now pairs.now }
 {
     if arena.len() != arena::ARENA_BYTES || pairs.len() > 8388608 {
         return Err(Refusal::Size);

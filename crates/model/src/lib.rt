@@ -102,7 +102,7 @@ impl Refusal {
 }
 
 // What document 01's lines say of two siblings: an answer, or the strength of two nodes with a
-// lower sum, and the answer where those are Equal.
+// lower sum, and the answer where those are Equal. No `Result`, since neither is a failure.
 #[derive(Clone, Copy)]
 pub enum Verdict {
     Settled(Ordering),

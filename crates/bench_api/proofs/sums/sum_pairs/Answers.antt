@@ -29,6 +29,6 @@ pub loop-i-preserved : goal.loop-i-preserved
 loop-i-preserved c = record {
   added = one-more-added (comparison c.args.siblings c.args.arena.now) c.args.pairs.now c.loop-i.i
       c.loop-i.invariant.added c.pair-a.ensures.first c.pair-a.ensures.second
-      c.compare_pair.ensures c.number.ensures;
+      c.compare_pair.ensures c.ordering_number.ensures;
   small = omega (arith, c.loop-i.invariant.small);
 }
