@@ -18,10 +18,19 @@ ghost use Rattle.model.specs.Bytes.{stored};
 ghost use Rattle.arena.specs.Slot.{HasSlot, Loaded, with_first_child, with_last_child, with_next_sibling, links_stored};
 ghost use Rattle.arena.specs.Slot.{record_stored, head_bytes, id_bytes, depth_bytes};
 
-pub use header::{count, finalized, local_root, ordered, shallow, write_count, write_local_root, write_state};
+pub use header::{
+    count, finalized, local_root, ordered, shallow, write_count, write_local_root, write_state,
+};
 use model::NodeId;
-pub use sizes::{ARENA_BYTES, INERT, LEAST_RECORD_BYTES, MAX_NODES, MAX_PATH_BYTES, MOST_RECORD_BYTES, NO_NODE, ORDER_BYTES, PATH_BYTES, SET_BYTES, SNAPSHOT_BYTES};
-pub use slot::{arc, depth, first_child, flags, has_specs, last_child, layer, next_sibling, order_entry, origin, parent, path, prim_count, record, record_length, restriction, sibling, spec_from, stack, write_flags, write_order_entry, write_restriction, write_specs};
+pub use sizes::{
+    ARENA_BYTES, INERT, LEAST_RECORD_BYTES, MAX_NODES, MAX_PATH_BYTES, MOST_RECORD_BYTES, NO_NODE,
+    ORDER_BYTES, PATH_BYTES, SET_BYTES, SNAPSHOT_BYTES,
+};
+pub use slot::{
+    arc, depth, first_child, flags, has_specs, last_child, layer, next_sibling, order_entry,
+    origin, parent, path, prim_count, record, record_length, restriction, sibling, spec_from,
+    stack, write_flags, write_order_entry, write_restriction, write_specs,
+};
 
 // A node's record by value: its links, the prim count of its path, the record's length and the
 // record's numbers. Its path stays in the arena (`path`).

@@ -1,6 +1,6 @@
 -- The answers of the calls: of each the document's number of its refusal (0 where there is none), and
 -- its value (0 where it is refused; no node where it is one).
-use Rattle.std.specs.Prelude.{Bool, Option, None, Some, Result, Ok, Err, option_map, ℕ}
+use Rattle.std.specs.Prelude.{Bool, Option, None, Some, Result, Ok, Err, ℕ}
 use Rattle.std.specs.declared.cmp.Ordering.{Ordering}
 use Rattle.std.specs.declared.cmp.Ordering.TheVariants.{Less, Equal, Greater}
 use Rattle.model.specs.declared.NodeId.{NodeId}

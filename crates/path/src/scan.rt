@@ -6,7 +6,6 @@ ghost use Rattle.model.specs.Path.{start, slash, name, between, is_name_start, i
 ghost use Rattle.path.specs.PathReading.{Run, Stops, NameRead, SelectionRead, ElementRead, reading};
 ghost use Rattle.path.specs.PathReading.{in_run, standing, begins_name, stands_at};
 
-
 // What stands between two places of a path, and where it ends: a name, with its slash where it has
 // one, or a selection.
 #[derive(Clone, Copy)]
