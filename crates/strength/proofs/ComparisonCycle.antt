@@ -1,6 +1,5 @@
 -- The two comparisons' answers from their parts: a verdict on two siblings, and where the chains of
 -- two nodes part. Assumes nothing.
-use Rattle.std.specs.Prelude.{None, Option, Some}
 use mathlib.Core.Path.{◌≡◌, refl, sym, ap, ◌∙◌}
 use mathlib.Core.List.{List}
 use Prim.Native.Nat.{ℕ, ◌+◌, ◌≤◌, ◌<◌}
@@ -17,7 +16,6 @@ use Rattle.view.proofs.PartingLaws.{parts-compare}
 use Rattle.model.specs.declared.Verdict.{Verdict}
 use Rattle.model.specs.declared.Verdict.TheVariants.{Settled, Ask}
 use Rattle.strength.specs.Verdicts.{Pair, resolve, DecidedBy}
-use Rattle.strength.specs.Settled.{IsSettledEarly}
 use Rattle.strength.proofs.SiblingLines.{ranks-differ}
 
 -- ---- Siblings: `v` is what the lines say, `w` its form that was matched
