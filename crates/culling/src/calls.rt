@@ -5,7 +5,6 @@ ghost use Rattle.culling.specs.CullCalls.{Culled};
 
 use model::Refusal;
 
-
 // Marks CULLED what contributes nothing, children first. Refused 1, 2 and 3.
 pub fn cull_subtrees_without_opinions(arena: &mut [u8]) -> Result<(), Refusal>
     ensures { Culled arena.old result arena.new }

@@ -4,7 +4,6 @@ use Rattle.std.specs.Prelude.{Err, Ok}
 use mathlib.Core.Path.{◌≡◌, sym}
 use mathlib.Core.List.{List, []}
 use Prim.Native.Nat.{ℕ}
-use native.Mathlib.Omega.{arith}
 use Rattle.model.specs.Refusals.{refusal_number, refusal}
 use Rattle.model.specs.Calls.{reads_node}
 use Rattle.model.specs.Arena.{decode}

@@ -1,12 +1,10 @@
 -- `cull_subtrees_without_opinions` meets its contract: where questions 1 to 3 pass, every node is
 -- culled that can be. Assumes nothing.
 use Rattle.std.proofs.lemmas.Result.{err_from_is_err_and}
-use mathlib.Core.Path.{◌≡◌, sym}
+use mathlib.Core.Path.{sym}
 use mathlib.Core.List.{[], ◌∷◌}
-use Rattle.model.specs.Refusals.{refusal}
 use Rattle.model.specs.Calls.{has_node_zero}
 use Rattle.model.specs.Arena.{decode}
-use Rattle.model.specs.ArenaCalls.{ask_arena}
 use Rattle.laws.proofs.ArenaCallLaws.{passed-opened}
 use Rattle.culling.proofs.CullCallLaws.{cull-refused, cull-done}
 use Rattle.culling.proofs.calls.cull_subtrees_without_opinions.Goals as goal

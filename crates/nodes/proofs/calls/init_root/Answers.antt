@@ -9,7 +9,7 @@ use Rattle.model.specs.Node as model
 use Rattle.model.specs.Graph.{with_node}
 use Rattle.arena.specs.declared.Node.{Node}
 use Rattle.arena.specs.Slot.{node_of}
-use Rattle.model.specs.Arena.{count_in, decode, encode}
+use Rattle.model.specs.Arena.{decode, encode}
 use Rattle.model.specs.ArenaCalls.{ValidArena}
 use Rattle.laws.proofs.ArenaCallLaws.{passed-opened}
 use Rattle.path.proofs.ReadingLaws.{counted-well-formed, uncounted-malformed}

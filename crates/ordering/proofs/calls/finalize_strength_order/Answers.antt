@@ -1,10 +1,10 @@
 -- `finalize_strength_order` meets its contract: where questions 1 to 3 pass, question 9 is left,
 -- and not put where the graph is finalized. Assumes nothing.
 use Rattle.std.proofs.lemmas.Result.{err_from_is_err_and}
-use mathlib.Core.Path.{◌≡◌, sym, ◌∙◌}
+use mathlib.Core.Path.{sym, ◌∙◌}
 use Prim.Native.Nat.{◌<◌}
 use borrow.Author.Tests.{not-true, not-false}
-use Rattle.model.specs.Arena.{count_in, finalized_in}
+use Rattle.model.specs.Arena.{count_in}
 use Rattle.model.specs.ArenaCalls.{ValidArena}
 use Rattle.laws.proofs.StoredLaws.{bytes-by-place}
 use Rattle.validate.proofs.AskingLaws.{some-node}

@@ -1,10 +1,8 @@
 -- `write_snapshot` meets its contract: question 1 of the buffer, and where questions 1 and 2 of the
 -- arena pass, the writer. Assumes nothing.
 use Rattle.std.proofs.lemmas.Result.{err_from_is_err_and}
-use mathlib.Core.Path.{◌≡◌, sym}
+use mathlib.Core.Path.{sym}
 use mathlib.Core.List.{[]}
-use Rattle.model.specs.Refusals.{refusal}
-use Rattle.model.specs.ArenaCalls.{ask_arena}
 use Rattle.laws.proofs.ArenaCallLaws.{passed-opened}
 use Rattle.snapshot.proofs.SnapshotCallLaws.{write-not-buffer, write-refused, written}
 use Rattle.snapshot.proofs.calls.write_snapshot.Goals as goal
