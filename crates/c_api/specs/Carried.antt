@@ -1,13 +1,12 @@
 -- One number for a call's refusal and value, for callers in C. A value has 32 bits, so the number
 -- tells both: the refusal is in its upper half, 0 where there is none, and the value in its lower
 -- half, 0 where the call was refused.
-use Rattle.std.specs.Prelude.{Bool, Err, Ok, Option, Result, ⊤}
+use Rattle.std.specs.Prelude.{Option, Result, ⊤}
 use Rattle.model.specs.declared.NodeId.{NodeId}
 use Rattle.model.specs.declared.Refusal.{Refusal}
-use Rattle.std.specs.declared.cmp.Ordering.{Ordering}
 use Rattle.std.specs.Prelude.{◌≡◌, List, ℕ, ◌+◌, ◌*◌}
 use Rattle.model.specs.Answers.{answer_refusal, answer_value, node_option, node_number}
-use Rattle.model.specs.Refusals.{refusal_number, Question, refusal}
+use Rattle.model.specs.Refusals.{Question, refusal}
 use Rattle.model.specs.Calls.{Outcome}
 use Rattle.model.specs.ArenaCalls.{arena_after, value_unless}
 
