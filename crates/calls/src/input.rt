@@ -2,7 +2,7 @@
 ghost use Rattle.std.specs.Prelude.{◌≤◌, length};
 
 use crate::lines;
-use crate::lines::State;
+use calls_text::Output;
 use std::io::{Read, Write};
 
 // What is left where a block ends: how many bytes there are of the line that goes on in the next
@@ -16,7 +16,8 @@ struct Rest {
 // The longest line that is answered has so many bytes.
 const LONGEST: usize = 131072;
 
-// Puts the answer to the first `held` bytes of `line`, with a newline.
+// Puts the answer to the first `held` bytes of `line`, with a newline, and answers whether the
+// arenas then are swapped.
 fn answer_line<W: Write>(
     line: &[u8],
     held: usize,
@@ -24,31 +25,17 @@ fn answer_line<W: Write>(
     second: &mut [u8],
     saved: &mut [u8],
     swapped: bool,
-    to: &mut W,
-    out: &mut [u8],
-    used: usize,
-) -> State {
+    out: &mut Output<W>,
+) -> bool {
+    let mut after = swapped;
     if LONGEST < held {
-        let end = calls_text::bad_line(to, out, used);
-        return State {
-            used: calls_text::put(to, out, end, b"\n"),
-            swapped,
-        };
+        calls_text::bad_line(out);
+    } else {
+        let text = calls_text::front(line, held);
+        after = lines::answer(text, first, second, saved, swapped, out);
     }
-    let answer = lines::answer(
-        calls_text::front(line, held),
-        first,
-        second,
-        saved,
-        swapped,
-        to,
-        out,
-        used,
-    );
-    State {
-        used: calls_text::put(to, out, answer.used, b"\n"),
-        swapped: answer.swapped,
-    }
+    out.put(b"\n");
+    after
 }
 
 // Answers each line that ends in `block`, the first of them begun by `held` bytes in `line`, and
@@ -60,38 +47,21 @@ fn answer_block<W: Write>(
     first: &mut [u8],
     second: &mut [u8],
     saved: &mut [u8],
-    to: &mut W,
-    out: &mut [u8],
+    out: &mut Output<W>,
 ) -> Rest {
     let mut held = rest.held;
-    let mut state = State {
-        used: 0,
-        swapped: rest.swapped,
-    };
+    let mut swapped = rest.swapped;
     for part in block.split_inclusive(|byte| *byte == b'\n') {
         let Some(end) = part.strip_suffix(b"\n") else {
             held = command_io::append(line, held, part);
             break;
         };
         held = command_io::append(line, held, end);
-        state = answer_line(
-            line,
-            held,
-            first,
-            second,
-            saved,
-            state.swapped,
-            to,
-            out,
-            state.used,
-        );
+        swapped = answer_line(line, held, first, second, saved, swapped, out);
         held = 0;
     }
-    calls_text::flush(to, out, state.used);
-    Rest {
-        held,
-        swapped: state.swapped,
-    }
+    out.flush();
+    Rest { held, swapped }
 }
 
 // Reads a part of the input, and answers how many bytes of `block` it takes: 0 where the input has
@@ -115,8 +85,7 @@ fn answer_blocks<R: Read, W: Write>(
     first: &mut [u8],
     second: &mut [u8],
     saved: &mut [u8],
-    to: &mut W,
-    out: &mut [u8],
+    out: &mut Output<W>,
 ) -> Rest {
     let mut rest = Rest {
         held: 0,
@@ -127,7 +96,7 @@ fn answer_blocks<R: Read, W: Write>(
         if count == 0 {
             break;
         }
-        rest = answer_block(&block[..count], line, rest, first, second, saved, to, out);
+        rest = answer_block(&block[..count], line, rest, first, second, saved, out);
     }
     rest
 }
@@ -139,22 +108,11 @@ fn answer_rest<W: Write>(
     first: &mut [u8],
     second: &mut [u8],
     saved: &mut [u8],
-    to: &mut W,
-    out: &mut [u8],
+    out: &mut Output<W>,
 ) {
     if 0 < rest.held {
-        let answer = answer_line(
-            line,
-            rest.held,
-            first,
-            second,
-            saved,
-            rest.swapped,
-            to,
-            out,
-            0,
-        );
-        calls_text::flush(to, out, answer.used);
+        answer_line(line, rest.held, first, second, saved, rest.swapped, out);
+        out.flush();
     }
 }
 
@@ -166,7 +124,8 @@ pub(crate) fn answer_input<R: Read, W: Write>(from: &mut R, to: &mut W) {
     let mut first = command_io::zeros();
     let mut second = command_io::zeros();
     let mut saved = command_io::zeros();
-    let mut out = io::large_buffer();
+    let mut buffer = io::large_buffer();
+    let mut out = Output::new(to, &mut buffer);
     let rest = answer_blocks(
         from,
         &mut block,
@@ -174,16 +133,7 @@ pub(crate) fn answer_input<R: Read, W: Write>(from: &mut R, to: &mut W) {
         &mut first,
         &mut second,
         &mut saved,
-        to,
         &mut out,
     );
-    answer_rest(
-        &line,
-        rest,
-        &mut first,
-        &mut second,
-        &mut saved,
-        to,
-        &mut out,
-    );
+    answer_rest(&line, rest, &mut first, &mut second, &mut saved, &mut out);
 }

@@ -1,89 +1,63 @@
 // The answers that every kind of line shares.
-use crate::output::{front, put, put_number};
+use crate::output::{Output, front};
 use model::{NodeId, Refusal};
 use std::io::Write;
 
 // The answer to a line that is no call.
-pub fn bad_line<W: Write>(to: &mut W, out: &mut [u8], used: usize) -> usize {
-    put(to, out, used, b"bad line")
+pub fn bad_line<W: Write>(out: &mut Output<W>) {
+    out.put(b"bad line");
 }
 
 // The answer to a call that was refused.
-pub fn put_refusal<W: Write>(to: &mut W, out: &mut [u8], used: usize, refusal: Refusal) -> usize {
-    let next = put(to, out, used, b"refused ");
-    put_number(to, out, next, refusal.number() as u64)
+pub fn put_refusal<W: Write>(out: &mut Output<W>, refusal: Refusal) {
+    out.put(b"refused ");
+    out.put_number(refusal.number() as u64);
 }
 
 // The answer to a call that gives nothing.
-pub fn put_finished<W: Write>(
-    to: &mut W,
-    out: &mut [u8],
-    used: usize,
-    answer: Result<(), Refusal>,
-) -> usize {
+pub fn put_finished<W: Write>(out: &mut Output<W>, answer: Result<(), Refusal>) {
     match answer {
-        Ok(()) => put(to, out, used, b"ok"),
-        Err(refusal) => put_refusal(to, out, used, refusal),
+        Ok(()) => out.put(b"ok"),
+        Err(refusal) => put_refusal(out, refusal),
     }
 }
 
 // The answer to a call that gives a number.
-pub fn put_numbered<W: Write>(
-    to: &mut W,
-    out: &mut [u8],
-    used: usize,
-    answer: Result<u32, Refusal>,
-) -> usize {
+pub fn put_numbered<W: Write>(out: &mut Output<W>, answer: Result<u32, Refusal>) {
     match answer {
-        Ok(number) => put_number(to, out, used, number as u64),
-        Err(refusal) => put_refusal(to, out, used, refusal),
+        Ok(number) => out.put_number(number as u64),
+        Err(refusal) => put_refusal(out, refusal),
     }
 }
 
 // A node's number, `-` for none.
-pub fn put_node<W: Write>(to: &mut W, out: &mut [u8], used: usize, node: Option<NodeId>) -> usize {
+pub fn put_node<W: Write>(out: &mut Output<W>, node: Option<NodeId>) {
     match node {
-        Some(found) => put_number(to, out, used, found.0 as u64),
-        None => put(to, out, used, b"-"),
+        Some(found) => out.put_number(found.0 as u64),
+        None => out.put(b"-"),
     }
 }
 
 // The answer to a call that looks for a node.
-pub fn put_found<W: Write>(
-    to: &mut W,
-    out: &mut [u8],
-    used: usize,
-    answer: Result<Option<NodeId>, Refusal>,
-) -> usize {
+pub fn put_found<W: Write>(out: &mut Output<W>, answer: Result<Option<NodeId>, Refusal>) {
     match answer {
-        Ok(node) => put_node(to, out, used, node),
-        Err(refusal) => put_refusal(to, out, used, refusal),
+        Ok(node) => put_node(out, node),
+        Err(refusal) => put_refusal(out, refusal),
     }
 }
 
 // The answer to a test: 1 for yes and 0 for no.
-pub fn put_tested<W: Write>(
-    to: &mut W,
-    out: &mut [u8],
-    used: usize,
-    answer: Result<bool, Refusal>,
-) -> usize {
+pub fn put_tested<W: Write>(out: &mut Output<W>, answer: Result<bool, Refusal>) {
     match answer {
-        Ok(test) => put_number(to, out, used, test as u64),
-        Err(refusal) => put_refusal(to, out, used, refusal),
+        Ok(test) => out.put_number(test as u64),
+        Err(refusal) => put_refusal(out, refusal),
     }
 }
 
 // The answer to a call that put a path at the front of `path`.
-pub fn put_path<W: Write>(
-    to: &mut W,
-    out: &mut [u8],
-    used: usize,
-    answer: Result<u32, Refusal>,
-    path: &[u8],
-) -> usize {
+pub fn put_path<W: Write>(out: &mut Output<W>, answer: Result<u32, Refusal>, path: &[u8]) {
     match answer {
-        Ok(length) => put(to, out, used, front(path, length as usize)),
-        Err(refusal) => put_refusal(to, out, used, refusal),
+        Ok(length) => out.put(front(path, length as usize)),
+        Err(refusal) => put_refusal(out, refusal),
     }
 }

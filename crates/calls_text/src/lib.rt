@@ -10,7 +10,9 @@ mod hex;
 mod output;
 mod words;
 
-pub use answers::{bad_line, put_finished, put_found, put_node, put_numbered, put_path, put_refusal, put_tested};
+pub use answers::{
+    bad_line, put_finished, put_found, put_node, put_numbered, put_path, put_refusal, put_tested,
+};
 pub use hex::{put_bytes, read_bytes};
-pub use output::{flush, front, put, put_between, put_number};
+pub use output::{Output, front};
 pub use words::{find, is_call, is_dash, read_number, read_short_number, word};
