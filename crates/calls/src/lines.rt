@@ -1,7 +1,7 @@
 // The answer to any line, the two arenas that the lines work on, and a third where one of them is
 // saved. The lines about more than one arena are here; the others are answered by the crates
 // `calls_read` and `calls_write`.
-use calls_text::{Output, bad_line, is_call, put_finished, word};
+use calls_text::{Output, bad_line, is_call, put_answer, word};
 use std::io::Write;
 
 // Copies `from` over `onto`; does nothing where their lengths differ.
@@ -55,7 +55,7 @@ pub(crate) fn answer<W: Write>(
 // call is refused: answers whether it is.
 fn seed_line<W: Write>(line: &[u8], current: &[u8], other: &mut [u8], out: &mut Output<W>) -> bool {
     let seeded = prim_graph::seed_child(current, other, word(line, 1));
-    put_finished(out, seeded);
+    put_answer(out, seeded);
     seeded.is_ok()
 }
 

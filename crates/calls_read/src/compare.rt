@@ -1,11 +1,11 @@
 // The lines that compare nodes, or put the questions that the comparison puts.
-use calls_text::{Output, bad_line, is_call, put_refusal, read_number, word};
+use calls_text::{Answer, Output, bad_line, is_call, put_answer, read_number, word};
 use model::Refusal;
 use prim_graph::{compare_node_strength, compare_sibling_node_strength};
-use std::cmp::Ordering;
 use std::io::Write;
 
-// The answer to a line that compares nodes.
+// The answer to a line that compares nodes. `compare A B` and `sibling A B`: the strength of two
+// nodes, or of two siblings.
 pub fn answer<W: Write>(line: &[u8], arena: &[u8], out: &mut Output<W>) -> bool {
     if is_call(line, b"compare", 3) {
         pair_line(line, arena, compare_node_strength, out);
@@ -20,36 +20,21 @@ pub fn answer<W: Write>(line: &[u8], arena: &[u8], out: &mut Output<W>) -> bool 
 }
 
 // The two nodes of a line: none where a word is no number.
-pub(crate) fn read_pair(line: &[u8]) -> Option<(u32, u32)> {
+fn read_pair(line: &[u8]) -> Option<(u32, u32)> {
     Some((read_number(word(line, 1))?, read_number(word(line, 2))?))
 }
 
-// `compare A B` and `sibling A B`: the strength of two nodes, or of two siblings.
-fn pair_line<W: Write, F: Fn(&[u8], u32, u32) -> Result<Ordering, Refusal>>(
+// A line `NAME A B` that makes one call on two nodes.
+pub(crate) fn pair_line<T: Answer, W: Write, F: Fn(&[u8], u32, u32) -> Result<T, Refusal>>(
     line: &[u8],
     arena: &[u8],
-    compare: F,
+    call: F,
     out: &mut Output<W>,
 )
-    requires { F.IsAlwaysCallable compare }
+    requires { F.IsAlwaysCallable call }
 {
     match read_pair(line) {
-        Some((a, b)) => put_compared(compare(arena, a, b), out),
+        Some((a, b)) => put_answer(out, call(arena, a, b)),
         None => bad_line(out),
-    }
-}
-
-fn put_compared<W: Write>(compared: Result<Ordering, Refusal>, out: &mut Output<W>) {
-    match compared {
-        Ok(order) => put_order(order, out),
-        Err(refusal) => put_refusal(out, refusal),
-    }
-}
-
-fn put_order<W: Write>(order: Ordering, out: &mut Output<W>) {
-    match order {
-        Ordering::Less => out.put(b"Less"),
-        Ordering::Equal => out.put(b"Equal"),
-        Ordering::Greater => out.put(b"Greater"),
     }
 }

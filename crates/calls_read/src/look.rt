@@ -1,11 +1,11 @@
 // The lines that look at a graph.
-use crate::relations::tested_line;
+use crate::relations::node_line;
 use calls_text::{
-    Output, bad_line, front, is_call, put_bytes, put_found, put_numbered, put_path, put_refusal,
-    read_number, word,
+    Output, bad_line, front, is_call, put_answer, put_bytes, put_path, put_refusal, read_number,
+    word,
 };
 use model::Refusal;
-use prim_graph::{intro_path, is_due_to_ancestor, path_at_introduction};
+use prim_graph::{depth_below_introduction, intro_path, is_due_to_ancestor, path_at_introduction};
 use std::io::Write;
 
 // The answer to a line that looks at the whole graph, or at its nodes.
@@ -32,14 +32,15 @@ fn answer_of_nodes<W: Write>(line: &[u8], arena: &[u8], out: &mut Output<W>) -> 
     true
 }
 
-// The answer to a line that looks at one node.
+// The answer to a line that looks at one node. `below N`: its depth below its introduction; `due N`:
+// whether it was introduced above this prim.
 fn answer_of_node<W: Write>(line: &[u8], arena: &[u8], out: &mut Output<W>) -> bool {
     if is_call(line, b"using", 3) {
         using_line(line, arena, out);
     } else if is_call(line, b"below", 2) {
-        below_line(line, arena, out);
+        node_line(line, arena, depth_below_introduction, out);
     } else if is_call(line, b"due", 2) {
-        tested_line(line, arena, is_due_to_ancestor, out);
+        node_line(line, arena, is_due_to_ancestor, out);
     } else {
         return answer_of_introduction(line, arena, out);
     }
@@ -94,15 +95,7 @@ fn using_line<W: Write>(line: &[u8], arena: &[u8], out: &mut Output<W>) {
         return bad_line(out);
     };
     let found = prim_graph::node_using_site(arena, stack, word(line, 2));
-    put_found(out, found);
-}
-
-// `below N`: the node's depth below its introduction.
-fn below_line<W: Write>(line: &[u8], arena: &[u8], out: &mut Output<W>) {
-    let Some(n) = read_number(word(line, 1)) else {
-        return bad_line(out);
-    };
-    put_numbered(out, prim_graph::depth_below_introduction(arena, n));
+    put_answer(out, found);
 }
 
 // `intro N`: the node's path at its introduction; `introduced N`: the path of the site that

@@ -1,14 +1,15 @@
 // The lines on what the comparison asks of nodes. They are lines of our own: document 01 has no
 // sentence for these calls of the Rust.
-use crate::compare::read_pair;
-use calls_text::{
-    Output, bad_line, is_call, put_found, put_node, put_refusal, put_tested, read_number, word,
-};
+use crate::compare::pair_line;
+use calls_text::{Answer, Output, bad_line, is_call, put_answer, put_refusal, read_number, word};
 use model::Refusal;
-use prim_graph::{is_ancestor_of, is_propagated_specializes, same_site};
+use prim_graph::{
+    get_propagated_specializes_node, is_ancestor_of, is_propagated_specializes, same_site,
+};
 use std::io::Write;
 
-// The answer to such a line.
+// The answer to such a line. `ancestor X Y`: whether X is an ancestor of Y below the local root;
+// `site A B`: whether two nodes have one site.
 pub(crate) fn answer<W: Write>(line: &[u8], arena: &[u8], out: &mut Output<W>) -> bool {
     if is_call(line, b"ancestor", 3) {
         pair_line(line, arena, is_ancestor_of, out);
@@ -20,12 +21,13 @@ pub(crate) fn answer<W: Write>(line: &[u8], arena: &[u8], out: &mut Output<W>) -
     true
 }
 
-// The answer to a line on one node.
+// The answer to a line on one node. `propagated N`: whether it is a propagated specializes; `copy N`:
+// its copy under the local root, or `-`.
 fn answer_of_node<W: Write>(line: &[u8], arena: &[u8], out: &mut Output<W>) -> bool {
     if is_call(line, b"propagated", 2) {
-        tested_line(line, arena, is_propagated_specializes, out);
+        node_line(line, arena, is_propagated_specializes, out);
     } else if is_call(line, b"copy", 2) {
-        copy_line(line, arena, out);
+        node_line(line, arena, get_propagated_specializes_node, out);
     } else if is_call(line, b"class", 2) {
         class_line(line, arena, out);
     } else {
@@ -34,45 +36,19 @@ fn answer_of_node<W: Write>(line: &[u8], arena: &[u8], out: &mut Output<W>) -> b
     true
 }
 
-// `ancestor X Y`: whether X is an ancestor of Y below the local root; `site A B`: whether two nodes
-// have one site.
-fn pair_line<W: Write, F: Fn(&[u8], u32, u32) -> Result<bool, Refusal>>(
+// A line `NAME N` that makes one call on a node.
+pub(crate) fn node_line<T: Answer, W: Write, F: Fn(&[u8], u32) -> Result<T, Refusal>>(
     line: &[u8],
     arena: &[u8],
-    test: F,
+    call: F,
     out: &mut Output<W>,
 )
-    requires { F.IsAlwaysCallable test }
-{
-    match read_pair(line) {
-        Some((a, b)) => put_tested(out, test(arena, a, b)),
-        None => bad_line(out),
-    }
-}
-
-// `propagated N`: whether the node is a propagated specializes; `due N`: whether it was introduced
-// above this prim.
-pub(crate) fn tested_line<W: Write, F: Fn(&[u8], u32) -> Result<bool, Refusal>>(
-    line: &[u8],
-    arena: &[u8],
-    test: F,
-    out: &mut Output<W>,
-)
-    requires { F.IsAlwaysCallable test }
+    requires { F.IsAlwaysCallable call }
 {
     match read_number(word(line, 1)) {
-        Some(n) => put_tested(out, test(arena, n)),
+        Some(n) => put_answer(out, call(arena, n)),
         None => bad_line(out),
     }
-}
-
-// `copy N`: the node's copy under the local root, or `-`.
-fn copy_line<W: Write>(line: &[u8], arena: &[u8], out: &mut Output<W>) {
-    let Some(n) = read_number(word(line, 1)) else {
-        return bad_line(out);
-    };
-    let found = prim_graph::get_propagated_specializes_node(arena, n);
-    put_found(out, found);
 }
 
 // `class N`: where the class hierarchy of the node starts, and its topmost class, or `-`.
@@ -85,7 +61,7 @@ fn class_line<W: Write>(line: &[u8], arena: &[u8], out: &mut Output<W>) {
         Ok(hierarchy) => {
             out.put_number(hierarchy.instance.0 as u64);
             out.put(b" ");
-            put_node(out, hierarchy.class_node);
+            hierarchy.class_node.put(out);
         }
         Err(refusal) => put_refusal(out, refusal),
     }

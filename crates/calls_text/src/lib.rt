@@ -10,9 +10,7 @@ mod hex;
 mod output;
 mod words;
 
-pub use answers::{
-    bad_line, put_finished, put_found, put_node, put_numbered, put_path, put_refusal, put_tested,
-};
+pub use answers::{Answer, bad_line, put_answer, put_path, put_refusal};
 pub use hex::{put_bytes, read_bytes};
 pub use output::{Output, front};
 pub use words::{find, is_call, is_dash, read_number, read_short_number, word};

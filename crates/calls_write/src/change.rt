@@ -1,5 +1,5 @@
 // The lines that order a graph, cull, erase and append a child's name.
-use calls_text::{Output, is_call, put_finished, word};
+use calls_text::{Output, is_call, put_answer, word};
 use std::io::Write;
 
 // The answer to a line that changes a graph in place, or reads what such a line made.
@@ -33,17 +33,17 @@ fn answer_of_order<W: Write>(line: &[u8], arena: &mut [u8], out: &mut Output<W>)
 // `order`: every child list sorted.
 fn order_line<W: Write>(arena: &mut [u8], out: &mut Output<W>) {
     let ordered = prim_graph::finalize_strength_order(arena);
-    put_finished(out, ordered);
+    put_answer(out, ordered);
 }
 
 // `cull`: what contributes nothing marked.
 fn cull_line<W: Write>(arena: &mut [u8], out: &mut Output<W>) {
     let culled = prim_graph::cull_subtrees_without_opinions(arena);
-    put_finished(out, culled);
+    put_answer(out, culled);
 }
 
 // `deepen PATH`: the path's last name appended to every site.
 fn deepen_line<W: Write>(line: &[u8], arena: &mut [u8], out: &mut Output<W>) {
     let deepened = prim_graph::append_child_name_to_all_sites(arena, word(line, 1));
-    put_finished(out, deepened);
+    put_answer(out, deepened);
 }

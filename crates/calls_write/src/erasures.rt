@@ -1,5 +1,5 @@
 // The lines on sets of nodes that may be erased.
-use calls_text::{Output, bad_line, put_numbered, put_refusal, word};
+use calls_text::{Output, bad_line, put_answer, put_refusal, word};
 use model::Refusal;
 use std::io::Write;
 
@@ -31,7 +31,7 @@ pub(crate) fn erase_line<W: Write>(line: &[u8], arena: &mut [u8], out: &mut Outp
         return bad_line(out);
     }
     let erased = prim_graph::erase(arena, &set);
-    put_numbered(out, erased);
+    put_answer(out, erased);
 }
 
 // Reads a digit for each node, and answers whether there are digits only, and not more than the set

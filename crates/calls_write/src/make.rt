@@ -1,5 +1,5 @@
 // The lines that make graphs.
-use calls_text::{Output, bad_line, front, is_call, put_numbered, read_bytes, read_number, word};
+use calls_text::{Output, bad_line, front, is_call, put_answer, read_bytes, read_number, word};
 use std::io::Write;
 
 // The answer to a line that makes a graph.
@@ -27,7 +27,7 @@ fn init_line<W: Write>(line: &[u8], arena: &mut [u8], out: &mut Output<W>) {
         return bad_line(out);
     };
     let answer = prim_graph::init_root(arena, stack, layer, word(line, 3));
-    put_numbered(out, answer);
+    put_answer(out, answer);
 }
 
 // `add PARENT ARC FLAGS STACK LAYER ORIGIN DEPTH SIBLING RESTRICTION SPECFROM HASSPECS PATH`: the
@@ -37,7 +37,7 @@ fn add_line<W: Write>(line: &[u8], arena: &mut [u8], out: &mut Output<W>) {
         return bad_line(out);
     };
     let answer = prim_graph::add_child(arena, desc, word(line, 12));
-    put_numbered(out, answer);
+    put_answer(out, answer);
 }
 
 // `read HEX`: the count of the snapshot's nodes.
@@ -47,5 +47,5 @@ fn read_line<W: Write>(line: &[u8], arena: &mut [u8], out: &mut Output<W>) {
         return bad_line(out);
     };
     let answer = prim_graph::read_snapshot(arena, front(&snapshot, length));
-    put_numbered(out, answer);
+    put_answer(out, answer);
 }

@@ -1,7 +1,7 @@
 // The lines that set fields of one node: its flags, its specs and its restriction depth. Each call
 // is none where a word is no number of its field.
 use crate::fields::{read_byte, read_optional};
-use calls_text::{Output, bad_line, is_call, put_finished, read_number, read_short_number, word};
+use calls_text::{Output, bad_line, is_call, put_answer, read_number, read_short_number, word};
 use model::Refusal;
 use std::io::Write;
 
@@ -24,7 +24,7 @@ pub(crate) fn answer<W: Write>(line: &[u8], arena: &mut [u8], out: &mut Output<W
 // The answer to a call, or to a line that is none.
 fn put_set<W: Write>(set: Option<Result<(), Refusal>>, out: &mut Output<W>) {
     match set {
-        Some(answer) => put_finished(out, answer),
+        Some(answer) => put_answer(out, answer),
         None => bad_line(out),
     }
 }
