@@ -4,6 +4,34 @@
 use calls_text::{Output, bad_line, is_call, put_answer, word};
 use std::io::Write;
 
+// The arena that the lines are about, the one that `swap` and `seed` put in its place, and the one
+// that `save` fills. They are handed on by value: where two of them are lent at once behind a
+// reference, no proof was found.
+#[derive(Drop)]
+pub(crate) struct Arenas<'a> {
+    pub(crate) current: &'a mut [u8],
+    pub(crate) other: &'a mut [u8],
+    pub(crate) saved: &'a mut [u8],
+}
+
+impl<'a> Arenas<'a> {
+    // All three made to hold the empty graph.
+    fn emptied(self) -> Arenas<'a> {
+        self.current.fill(0);
+        self.other.fill(0);
+        self.saved.fill(0);
+        self
+    }
+
+    fn swapped(self) -> Arenas<'a> {
+        Arenas {
+            current: self.other,
+            other: self.current,
+            saved: self.saved,
+        }
+    }
+}
+
 // Copies `from` over `onto`; does nothing where their lengths differ.
 fn overwrite(onto: &mut [u8], from: &[u8]) {
     if from.len() == onto.len() {
@@ -11,52 +39,55 @@ fn overwrite(onto: &mut [u8], from: &[u8]) {
     }
 }
 
-// Makes three arenas hold the empty graph.
-fn empty(first: &mut [u8], second: &mut [u8], saved: &mut [u8]) {
-    first.fill(0);
-    second.fill(0);
-    saved.fill(0);
+// `seed PATH`: the other arena filled from the current one. It then is the current one, unless the
+// call is refused.
+fn seed_line<'a, W: Write>(line: &[u8], arenas: Arenas<'a>, out: &mut Output<W>) -> Arenas<'a> {
+    let Arenas {
+        current,
+        other,
+        saved,
+    } = arenas;
+    let seeded = prim_graph::seed_child(current, other, word(line, 1));
+    put_answer(out, seeded);
+    let after = Arenas {
+        current,
+        other,
+        saved,
+    };
+    if seeded.is_ok() {
+        return after.swapped();
+    }
+    after
 }
 
-// Puts the answer to a line, without a newline, and answers whether the second arena then is the
-// current one.
-pub(crate) fn answer<W: Write>(
+// Puts the answer to a line, without a newline, and hands back the arenas as it leaves them.
+pub(crate) fn answer<'a, W: Write>(
     line: &[u8],
-    first: &mut [u8],
-    second: &mut [u8],
-    saved: &mut [u8],
-    swapped: bool,
+    arenas: Arenas<'a>,
     out: &mut Output<W>,
-) -> bool {
+) -> Arenas<'a> {
+    if is_call(line, b"seed", 2) {
+        return seed_line(line, arenas, out);
+    }
     if is_call(line, b"new", 1) {
-        empty(first, second, saved);
         out.put(b"ok");
-        return false;
+        return arenas.emptied();
     }
     if is_call(line, b"swap", 1) {
         out.put(b"ok");
-        return !swapped;
+        return arenas.swapped();
     }
-    if is_call(line, b"seed", 2) {
-        if swapped {
-            return !seed_line(line, second, first, out);
-        }
-        return seed_line(line, first, second, out);
+    let Arenas {
+        current,
+        other,
+        saved,
+    } = arenas;
+    answer_saving(line, current, saved, out);
+    Arenas {
+        current,
+        other,
+        saved,
     }
-    if swapped {
-        answer_saving(line, second, saved, out);
-    } else {
-        answer_saving(line, first, saved, out);
-    }
-    swapped
-}
-
-// `seed PATH`: the other arena filled from the current one. It then is the current one, unless the
-// call is refused: answers whether it is.
-fn seed_line<W: Write>(line: &[u8], current: &[u8], other: &mut [u8], out: &mut Output<W>) -> bool {
-    let seeded = prim_graph::seed_child(current, other, word(line, 1));
-    put_answer(out, seeded);
-    seeded.is_ok()
 }
 
 // `save` and `restore`: the arena copied to the saved one, and back. `rubbish`: bytes that hold no

@@ -1,8 +1,8 @@
 // The text of the command `calls`: the words of a line and the numbers among them (words.rt), bytes
 // in hexadecimal (hex.rt), the answers that all lines share (answers.rt) and the output
-// (output.rt). What is proved is where `find` stops, and else only that every function is safe and
-// ends: no public function has a `requires`, and each does nothing with a number that does not fit
-// the buffer beside it.
+// (output.rt). What is proved is where `find` stops and that no more bytes wait than the output's
+// buffer has, and else only that every function is safe and ends: no public function has a
+// `requires`.
 #![tactic(auto)]
 
 mod answers;
