@@ -8,48 +8,25 @@ use model::Refusal;
 use prim_graph::{depth_below_introduction, intro_path, is_due_to_ancestor, path_at_introduction};
 use std::io::Write;
 
-// The answer to a line that looks at the whole graph, or at its nodes.
+// The answer to a line that looks at a graph. `below N`: the node's depth below its introduction;
+// `due N`: whether it was introduced above this prim; `intro N`: its path at its introduction;
+// `introduced N`: the path of the site that introduced it.
 pub fn answer<W: Write>(line: &[u8], arena: &[u8], out: &mut Output<W>) -> bool {
     if is_call(line, b"write", 1) {
         write_line(arena, out);
     } else if is_call(line, b"marks", 1) {
         marks_line(arena, out);
-    } else {
-        return answer_of_nodes(line, arena, out);
-    }
-    true
-}
-
-// The answer to a line that looks at every node, or at one.
-fn answer_of_nodes<W: Write>(line: &[u8], arena: &[u8], out: &mut Output<W>) -> bool {
-    if is_call(line, b"dump", 1) {
+    } else if is_call(line, b"dump", 1) {
         crate::records::dump_line(arena, out);
     } else if is_call(line, b"chains", 1) {
         crate::children::chains_line(arena, out);
-    } else {
-        return answer_of_node(line, arena, out);
-    }
-    true
-}
-
-// The answer to a line that looks at one node. `below N`: its depth below its introduction; `due N`:
-// whether it was introduced above this prim.
-fn answer_of_node<W: Write>(line: &[u8], arena: &[u8], out: &mut Output<W>) -> bool {
-    if is_call(line, b"using", 3) {
+    } else if is_call(line, b"using", 3) {
         using_line(line, arena, out);
     } else if is_call(line, b"below", 2) {
         node_line(line, arena, depth_below_introduction, out);
     } else if is_call(line, b"due", 2) {
         node_line(line, arena, is_due_to_ancestor, out);
-    } else {
-        return answer_of_introduction(line, arena, out);
-    }
-    true
-}
-
-// The answer to a line about a path where a node was introduced.
-fn answer_of_introduction<W: Write>(line: &[u8], arena: &[u8], out: &mut Output<W>) -> bool {
-    if is_call(line, b"intro", 2) {
+    } else if is_call(line, b"intro", 2) {
         path_line(line, arena, path_at_introduction, out);
     } else if is_call(line, b"introduced", 2) {
         path_line(line, arena, intro_path, out);
@@ -98,8 +75,7 @@ fn using_line<W: Write>(line: &[u8], arena: &[u8], out: &mut Output<W>) {
     put_answer(out, found);
 }
 
-// `intro N`: the node's path at its introduction; `introduced N`: the path of the site that
-// introduced the node.
+// A line `NAME N` that asks for a path of a node.
 fn path_line<W: Write, F: Fn(&[u8], u32, &mut [u8]) -> Result<u32, Refusal>>(
     line: &[u8],
     arena: &[u8],

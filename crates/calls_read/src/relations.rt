@@ -9,22 +9,14 @@ use prim_graph::{
 use std::io::Write;
 
 // The answer to such a line. `ancestor X Y`: whether X is an ancestor of Y below the local root;
-// `site A B`: whether two nodes have one site.
+// `site A B`: whether two nodes have one site; `propagated N`: whether the node is a propagated
+// specializes; `copy N`: its copy under the local root, or `-`.
 pub(crate) fn answer<W: Write>(line: &[u8], arena: &[u8], out: &mut Output<W>) -> bool {
     if is_call(line, b"ancestor", 3) {
         pair_line(line, arena, is_ancestor_of, out);
     } else if is_call(line, b"site", 3) {
         pair_line(line, arena, same_site, out);
-    } else {
-        return answer_of_node(line, arena, out);
-    }
-    true
-}
-
-// The answer to a line on one node. `propagated N`: whether it is a propagated specializes; `copy N`:
-// its copy under the local root, or `-`.
-fn answer_of_node<W: Write>(line: &[u8], arena: &[u8], out: &mut Output<W>) -> bool {
-    if is_call(line, b"propagated", 2) {
+    } else if is_call(line, b"propagated", 2) {
         node_line(line, arena, is_propagated_specializes, out);
     } else if is_call(line, b"copy", 2) {
         node_line(line, arena, get_propagated_specializes_node, out);

@@ -10,15 +10,7 @@ pub fn answer<W: Write>(line: &[u8], arena: &mut [u8], out: &mut Output<W>) -> b
         cull_line(arena, out);
     } else if is_call(line, b"deepen", 2) {
         deepen_line(line, arena, out);
-    } else {
-        return answer_of_order(line, arena, out);
-    }
-    true
-}
-
-// The answer to a line about the order or about erasing.
-fn answer_of_order<W: Write>(line: &[u8], arena: &mut [u8], out: &mut Output<W>) -> bool {
-    if is_call(line, b"list", 1) {
+    } else if is_call(line, b"list", 1) {
         crate::orders::list_line(arena, out);
     } else if is_call(line, b"erasable", 1) {
         crate::erasures::erasable_line(arena, out);
