@@ -2,96 +2,61 @@
 ghost use Rattle.std.specs.Prelude.{◌≤◌, length};
 
 use crate::lines;
-use crate::lines::State;
+use crate::lines::Arenas;
+use calls_text::Output;
 use std::io::{Read, Write};
 
 // What is left where a block ends: how many bytes there are of the line that goes on in the next
-// one, and whether the arenas are swapped.
-#[derive(Clone, Copy)]
-struct Rest {
+// one, and the arenas.
+#[derive(Drop)]
+struct Rest<'a> {
     held: usize,
-    swapped: bool,
+    arenas: Arenas<'a>,
 }
 
 // The longest line that is answered has so many bytes.
 const LONGEST: usize = 131072;
 
-// Puts the answer to the first `held` bytes of `line`, with a newline.
-fn answer_line<W: Write>(
+// Puts the answer to the first `held` bytes of `line`, with a newline, and hands back the arenas.
+fn answer_line<'a, W: Write>(
     line: &[u8],
     held: usize,
-    first: &mut [u8],
-    second: &mut [u8],
-    saved: &mut [u8],
-    swapped: bool,
-    to: &mut W,
-    out: &mut [u8],
-    used: usize,
-) -> State {
-    if LONGEST < held {
-        let end = calls_text::bad_line(to, out, used);
-        return State {
-            used: calls_text::put(to, out, end, b"\n"),
-            swapped,
-        };
-    }
-    let answer = lines::answer(
-        calls_text::front(line, held),
-        first,
-        second,
-        saved,
-        swapped,
-        to,
-        out,
-        used,
-    );
-    State {
-        used: calls_text::put(to, out, answer.used, b"\n"),
-        swapped: answer.swapped,
-    }
+    arenas: Arenas<'a>,
+    out: &mut Output<W>,
+) -> Arenas<'a> {
+    let after = if LONGEST < held {
+        calls_text::bad_line(out);
+        arenas
+    } else {
+        lines::answer(calls_text::front(line, held), arenas, out)
+    };
+    out.put(b"\n");
+    after
 }
 
 // Answers each line that ends in `block`, the first of them begun by `held` bytes in `line`, and
 // writes the answers.
-fn answer_block<W: Write>(
+fn answer_block<'a, W: Write>(
     block: &[u8],
     line: &mut [u8],
-    rest: Rest,
-    first: &mut [u8],
-    second: &mut [u8],
-    saved: &mut [u8],
-    to: &mut W,
-    out: &mut [u8],
-) -> Rest {
-    let mut held = rest.held;
-    let mut state = State {
-        used: 0,
-        swapped: rest.swapped,
-    };
+    rest: Rest<'a>,
+    out: &mut Output<W>,
+) -> Rest<'a> {
+    let Rest {
+        mut held,
+        mut arenas,
+    } = rest;
     for part in block.split_inclusive(|byte| *byte == b'\n') {
         let Some(end) = part.strip_suffix(b"\n") else {
             held = command_io::append(line, held, part);
             break;
         };
         held = command_io::append(line, held, end);
-        state = answer_line(
-            line,
-            held,
-            first,
-            second,
-            saved,
-            state.swapped,
-            to,
-            out,
-            state.used,
-        );
+        arenas = answer_line(line, held, arenas, out);
         held = 0;
     }
-    calls_text::flush(to, out, state.used);
-    Rest {
-        held,
-        swapped: state.swapped,
-    }
+    out.flush();
+    Rest { held, arenas }
 }
 
 // Reads a part of the input, and answers how many bytes of `block` it takes: 0 where the input has
@@ -108,82 +73,42 @@ fn read_block<R: Read>(from: &mut R, block: &mut [u8]) -> usize
 // Answers each line that ends in a newline, block by block, until the input ends or a read fails. A
 // proved loop has to end, and nothing says that the input does: so its turns are counted, up to a
 // number that no run reaches.
-fn answer_blocks<R: Read, W: Write>(
+fn answer_blocks<'a, R: Read, W: Write>(
     from: &mut R,
     block: &mut [u8],
     line: &mut [u8],
-    first: &mut [u8],
-    second: &mut [u8],
-    saved: &mut [u8],
-    to: &mut W,
-    out: &mut [u8],
-) -> Rest {
-    let mut rest = Rest {
-        held: 0,
-        swapped: false,
-    };
+    arenas: Arenas<'a>,
+    out: &mut Output<W>,
+) -> Rest<'a> {
+    let mut rest = Rest { held: 0, arenas };
     for _ in 0..u64::MAX {
         let count = read_block(from, block);
         if count == 0 {
             break;
         }
-        rest = answer_block(&block[..count], line, rest, first, second, saved, to, out);
+        rest = answer_block(&block[..count], line, rest, out);
     }
     rest
 }
 
-// Answers a last line without a newline, where `line` holds one, and writes the answer.
-fn answer_rest<W: Write>(
-    line: &[u8],
-    rest: Rest,
-    first: &mut [u8],
-    second: &mut [u8],
-    saved: &mut [u8],
-    to: &mut W,
-    out: &mut [u8],
-) {
-    if 0 < rest.held {
-        let answer = answer_line(
-            line,
-            rest.held,
-            first,
-            second,
-            saved,
-            rest.swapped,
-            to,
-            out,
-            0,
-        );
-        calls_text::flush(to, out, answer.used);
-    }
-}
-
-// Answers all of the input. The buffer for a line is as long as an arena, since every further
-// length of a large array is dear to check.
+// Answers all of the input, a last line without a newline too. The buffer for a line is as long as
+// an arena, since every further length of a large array is dear to check.
 pub(crate) fn answer_input<R: Read, W: Write>(from: &mut R, to: &mut W) {
     let mut block = io::large_buffer();
     let mut line = command_io::zeros();
     let mut first = command_io::zeros();
     let mut second = command_io::zeros();
     let mut saved = command_io::zeros();
-    let mut out = io::large_buffer();
-    let rest = answer_blocks(
-        from,
-        &mut block,
-        &mut line,
-        &mut first,
-        &mut second,
-        &mut saved,
-        to,
-        &mut out,
-    );
-    answer_rest(
-        &line,
-        rest,
-        &mut first,
-        &mut second,
-        &mut saved,
-        to,
-        &mut out,
-    );
+    let mut buffer = io::large_buffer();
+    let arenas = Arenas {
+        current: &mut first,
+        other: &mut second,
+        saved: &mut saved,
+    };
+    let mut out = Output::new(to, &mut buffer);
+    let Rest { held, arenas } = answer_blocks(from, &mut block, &mut line, arenas, &mut out);
+    if 0 < held {
+        answer_line(&line, held, arenas, &mut out);
+        out.flush();
+    }
 }

@@ -1,7 +1,6 @@
 // The command `calls`: answers the calls that standard input names, one a line, with a line for
 // each on standard output. Nothing is proved of what is printed, only that every function is safe
-// and ends: none has a `requires`, and each does nothing with a number that does not fit the buffer
-// beside it. `stdin` and `stdout` are the stored examples.
+// and ends: none has a `requires`. `stdin` and `stdout` are the stored examples.
 #![tactic(auto)]
 
 mod input;

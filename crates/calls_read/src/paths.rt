@@ -1,68 +1,68 @@
 // The lines on paths.
-use calls_text::{bad_line, is_call, put, put_number, put_refusal, read_short_number, word};
+use calls_text::{Output, bad_line, front, is_call, put_refusal, read_short_number, word};
 use model::Refusal;
 use std::io::Write;
 
 // The answer to a line on paths.
-pub fn answer<W: Write>(line: &[u8], to: &mut W, out: &mut [u8], used: usize) -> Option<usize> {
+pub fn answer<W: Write>(line: &[u8], out: &mut Output<W>) -> bool {
     if is_call(line, b"path", 2) {
-        return Some(path_line(line, to, out, used));
+        path_line(line, out);
+    } else if is_call(line, b"back", 3) {
+        back_line(line, out);
+    } else if is_call(line, b"join", 3) {
+        join_line(line, out);
+    } else {
+        return false;
     }
-    if is_call(line, b"back", 3) {
-        return Some(back_line(line, to, out, used));
-    }
-    if is_call(line, b"join", 3) {
-        return Some(join_line(line, to, out, used));
-    }
-    None
+    true
 }
 
 // A space, and then the bytes, or `-` where there are none.
-fn put_next<W: Write>(to: &mut W, out: &mut [u8], used: usize, bytes: &[u8]) -> usize {
-    let next = put(to, out, used, b" ");
+fn put_next<W: Write>(out: &mut Output<W>, bytes: &[u8]) {
+    out.put(b" ");
     if bytes.is_empty() {
-        return put(to, out, next, b"-");
+        return out.put(b"-");
     }
-    put(to, out, next, bytes)
+    out.put(bytes);
 }
 
 // `path PATH`: the prim count, the parent and the last name.
-fn path_line<W: Write>(line: &[u8], to: &mut W, out: &mut [u8], used: usize) -> usize {
+fn path_line<W: Write>(line: &[u8], out: &mut Output<W>) {
     let path = word(line, 1);
     let count = path::prim_count(path);
     match count {
-        Some(names) => put_path(to, out, used, path, names),
-        None => put_refusal(to, out, used, Refusal::Path),
+        Some(names) => put_path(out, path, names),
+        None => put_refusal(out, Refusal::Path),
     }
 }
 
-fn put_path<W: Write>(to: &mut W, out: &mut [u8], used: usize, path: &[u8], names: u16) -> usize {
-    let after_count = put_number(to, out, used, names as u64);
-    let after_parent = put_next(to, out, after_count, path::parent(path));
-    put_next(to, out, after_parent, path::last_name(path))
+fn put_path<W: Write>(out: &mut Output<W>, path: &[u8], names: u16) {
+    out.put_number(names as u64);
+    put_next(out, path::parent(path));
+    put_next(out, path::last_name(path));
 }
 
 // `back D PATH`: the front part of the path as it was D names ago.
-fn back_line<W: Write>(line: &[u8], to: &mut W, out: &mut [u8], used: usize) -> usize {
+fn back_line<W: Write>(line: &[u8], out: &mut Output<W>) {
     match read_short_number(word(line, 1)) {
-        Some(names) => put_back(to, out, used, word(line, 2), names),
-        None => bad_line(to, out, used),
+        Some(names) => put_back(out, word(line, 2), names),
+        None => bad_line(out),
     }
 }
 
-fn put_back<W: Write>(to: &mut W, out: &mut [u8], used: usize, path: &[u8], depth: u16) -> usize {
+fn put_back<W: Write>(out: &mut Output<W>, path: &[u8], depth: u16) {
     if !path::is_well_formed(path) {
-        return put_refusal(to, out, used, Refusal::Path);
+        return put_refusal(out, Refusal::Path);
     }
-    put(to, out, used, path::path_at_intro_depth(path, depth))
+    out.put(path::path_at_intro_depth(path, depth));
 }
 
 // `join PATH CHILD`: the path with the child's last name appended.
-fn join_line<W: Write>(line: &[u8], to: &mut W, out: &mut [u8], used: usize) -> usize {
+fn join_line<W: Write>(line: &[u8], out: &mut Output<W>) {
     let mut joined = [0u8; 255];
     let appended = path::append_child_name(word(line, 1), word(line, 2), &mut joined);
     match appended {
-        Ok(length) => put(to, out, used, calls_text::front(&joined, length)),
-        Err(refusal) => put_refusal(to, out, used, refusal),
+        Ok(length) => out.put(front(&joined, length)),
+        Err(refusal) => put_refusal(out, refusal),
     }
 }

@@ -1,118 +1,60 @@
 // The lines on what the comparison asks of nodes. They are lines of our own: document 01 has no
 // sentence for these calls of the Rust.
+use crate::compare::pair_line;
+use calls_text::{Answer, Output, bad_line, is_call, put_answer, put_refusal, read_number, word};
 use model::Refusal;
-use crate::compare::read_pair;
-use calls_text::{bad_line, is_call, put, put_found, put_node, put_number, put_refusal, put_tested, read_number, word};
-use prim_graph::{is_ancestor_of, is_propagated_specializes, same_site};
+use prim_graph::{
+    get_propagated_specializes_node, is_ancestor_of, is_propagated_specializes, same_site,
+};
 use std::io::Write;
 
-
-// The answer to such a line.
-pub(crate) fn answer<W: Write>(
-    line: &[u8],
-    arena: &[u8],
-    to: &mut W,
-    out: &mut [u8],
-    used: usize,
-) -> Option<usize> {
+// The answer to such a line. `ancestor X Y`: whether X is an ancestor of Y below the local root;
+// `site A B`: whether two nodes have one site; `propagated N`: whether the node is a propagated
+// specializes; `copy N`: its copy under the local root, or `-`.
+pub(crate) fn answer<W: Write>(line: &[u8], arena: &[u8], out: &mut Output<W>) -> bool {
     if is_call(line, b"ancestor", 3) {
-        return Some(pair_line(line, arena, is_ancestor_of, to, out, used));
+        pair_line(line, arena, is_ancestor_of, out);
+    } else if is_call(line, b"site", 3) {
+        pair_line(line, arena, same_site, out);
+    } else if is_call(line, b"propagated", 2) {
+        node_line(line, arena, is_propagated_specializes, out);
+    } else if is_call(line, b"copy", 2) {
+        node_line(line, arena, get_propagated_specializes_node, out);
+    } else if is_call(line, b"class", 2) {
+        class_line(line, arena, out);
+    } else {
+        return false;
     }
-    if is_call(line, b"site", 3) {
-        return Some(pair_line(line, arena, same_site, to, out, used));
-    }
-    answer_of_node(line, arena, to, out, used)
+    true
 }
 
-// The answer to a line on one node.
-fn answer_of_node<W: Write>(
+// A line `NAME N` that makes one call on a node.
+pub(crate) fn node_line<T: Answer, W: Write, F: Fn(&[u8], u32) -> Result<T, Refusal>>(
     line: &[u8],
     arena: &[u8],
-    to: &mut W,
-    out: &mut [u8],
-    used: usize,
-) -> Option<usize> {
-    if is_call(line, b"propagated", 2) {
-        return Some(tested_line(line, arena, is_propagated_specializes, to, out, used));
-    }
-    if is_call(line, b"copy", 2) {
-        return Some(copy_line(line, arena, to, out, used));
-    }
-    if is_call(line, b"class", 2) {
-        return Some(class_line(line, arena, to, out, used));
-    }
-    None
-}
-
-// `ancestor X Y`: whether X is an ancestor of Y below the local root; `site A B`: whether two nodes
-// have one site.
-fn pair_line<W: Write, F: Fn(&[u8], u32, u32) -> Result<bool, Refusal>>(
-    line: &[u8],
-    arena: &[u8],
-    test: F,
-    to: &mut W,
-    out: &mut [u8],
-    used: usize,
-) -> usize
-    requires { F.IsAlwaysCallable test }
-{
-    match read_pair(line) {
-        Some((a, b)) => put_tested(to, out, used, test(arena, a, b)),
-        None => bad_line(to, out, used),
-    }
-}
-
-// `propagated N`: whether the node is a propagated specializes; `due N`: whether it was introduced
-// above this prim.
-pub(crate) fn tested_line<W: Write, F: Fn(&[u8], u32) -> Result<bool, Refusal>>(
-    line: &[u8],
-    arena: &[u8],
-    test: F,
-    to: &mut W,
-    out: &mut [u8],
-    used: usize,
-) -> usize
-    requires { F.IsAlwaysCallable test }
+    call: F,
+    out: &mut Output<W>,
+)
+    requires { F.IsAlwaysCallable call }
 {
     match read_number(word(line, 1)) {
-        Some(n) => put_tested(to, out, used, test(arena, n)),
-        None => bad_line(to, out, used),
+        Some(n) => put_answer(out, call(arena, n)),
+        None => bad_line(out),
     }
-}
-
-// `copy N`: the node's copy under the local root, or `-`.
-fn copy_line<W: Write>(
-    line: &[u8],
-    arena: &[u8],
-    to: &mut W,
-    out: &mut [u8],
-    used: usize,
-) -> usize {
-    let Some(n) = read_number(word(line, 1)) else {
-        return bad_line(to, out, used);
-    };
-    let found = prim_graph::get_propagated_specializes_node(arena, n);
-    put_found(to, out, used, found)
 }
 
 // `class N`: where the class hierarchy of the node starts, and its topmost class, or `-`.
-fn class_line<W: Write>(
-    line: &[u8],
-    arena: &[u8],
-    to: &mut W,
-    out: &mut [u8],
-    used: usize,
-) -> usize {
+fn class_line<W: Write>(line: &[u8], arena: &[u8], out: &mut Output<W>) {
     let Some(n) = read_number(word(line, 1)) else {
-        return bad_line(to, out, used);
+        return bad_line(out);
     };
     let found = prim_graph::starting_node_of_class_hierarchy(arena, n);
     match found {
         Ok(hierarchy) => {
-            let end = put_number(to, out, used, hierarchy.instance.0 as u64);
-            let next = put(to, out, end, b" ");
-            put_node(to, out, next, hierarchy.class_node)
+            out.put_number(hierarchy.instance.0 as u64);
+            out.put(b" ");
+            hierarchy.class_node.put(out);
         }
-        Err(refusal) => put_refusal(to, out, used, refusal),
+        Err(refusal) => put_refusal(out, refusal),
     }
 }

@@ -1,89 +1,77 @@
 // The answers that every kind of line shares.
-use crate::output::{front, put, put_number};
+use crate::output::{Output, front};
 use model::{NodeId, Refusal};
+use std::cmp::Ordering;
 use std::io::Write;
 
-// The answer to a line that is no call.
-pub fn bad_line<W: Write>(to: &mut W, out: &mut [u8], used: usize) -> usize {
-    put(to, out, used, b"bad line")
+// What a call gives, and how it is put.
+pub trait Answer {
+    fn put<W: Write>(self, out: &mut Output<W>);
 }
 
-// The answer to a call that was refused.
-pub fn put_refusal<W: Write>(to: &mut W, out: &mut [u8], used: usize, refusal: Refusal) -> usize {
-    let next = put(to, out, used, b"refused ");
-    put_number(to, out, next, refusal.number() as u64)
-}
-
-// The answer to a call that gives nothing.
-pub fn put_finished<W: Write>(
-    to: &mut W,
-    out: &mut [u8],
-    used: usize,
-    answer: Result<(), Refusal>,
-) -> usize {
-    match answer {
-        Ok(()) => put(to, out, used, b"ok"),
-        Err(refusal) => put_refusal(to, out, used, refusal),
+// Nothing is given: `ok`.
+impl Answer for () {
+    fn put<W: Write>(self, out: &mut Output<W>) {
+        out.put(b"ok");
     }
 }
 
-// The answer to a call that gives a number.
-pub fn put_numbered<W: Write>(
-    to: &mut W,
-    out: &mut [u8],
-    used: usize,
-    answer: Result<u32, Refusal>,
-) -> usize {
-    match answer {
-        Ok(number) => put_number(to, out, used, number as u64),
-        Err(refusal) => put_refusal(to, out, used, refusal),
+impl Answer for u32 {
+    fn put<W: Write>(self, out: &mut Output<W>) {
+        out.put_number(self as u64);
+    }
+}
+
+// 1 for yes and 0 for no.
+impl Answer for bool {
+    fn put<W: Write>(self, out: &mut Output<W>) {
+        out.put_number(self as u64);
     }
 }
 
 // A node's number, `-` for none.
-pub fn put_node<W: Write>(to: &mut W, out: &mut [u8], used: usize, node: Option<NodeId>) -> usize {
-    match node {
-        Some(found) => put_number(to, out, used, found.0 as u64),
-        None => put(to, out, used, b"-"),
+impl Answer for Option<NodeId> {
+    fn put<W: Write>(self, out: &mut Output<W>) {
+        match self {
+            Some(node) => out.put_number(node.0 as u64),
+            None => out.put(b"-"),
+        }
     }
 }
 
-// The answer to a call that looks for a node.
-pub fn put_found<W: Write>(
-    to: &mut W,
-    out: &mut [u8],
-    used: usize,
-    answer: Result<Option<NodeId>, Refusal>,
-) -> usize {
-    match answer {
-        Ok(node) => put_node(to, out, used, node),
-        Err(refusal) => put_refusal(to, out, used, refusal),
+impl Answer for Ordering {
+    fn put<W: Write>(self, out: &mut Output<W>) {
+        match self {
+            Ordering::Less => out.put(b"Less"),
+            Ordering::Equal => out.put(b"Equal"),
+            Ordering::Greater => out.put(b"Greater"),
+        }
     }
 }
 
-// The answer to a test: 1 for yes and 0 for no.
-pub fn put_tested<W: Write>(
-    to: &mut W,
-    out: &mut [u8],
-    used: usize,
-    answer: Result<bool, Refusal>,
-) -> usize {
+// The answer to a call.
+pub fn put_answer<T: Answer, W: Write>(out: &mut Output<W>, answer: Result<T, Refusal>) {
     match answer {
-        Ok(test) => put_number(to, out, used, test as u64),
-        Err(refusal) => put_refusal(to, out, used, refusal),
+        Ok(value) => value.put(out),
+        Err(refusal) => put_refusal(out, refusal),
     }
+}
+
+// The answer to a call that was refused.
+pub fn put_refusal<W: Write>(out: &mut Output<W>, refusal: Refusal) {
+    out.put(b"refused ");
+    out.put_number(refusal.number() as u64);
 }
 
 // The answer to a call that put a path at the front of `path`.
-pub fn put_path<W: Write>(
-    to: &mut W,
-    out: &mut [u8],
-    used: usize,
-    answer: Result<u32, Refusal>,
-    path: &[u8],
-) -> usize {
+pub fn put_path<W: Write>(out: &mut Output<W>, answer: Result<u32, Refusal>, path: &[u8]) {
     match answer {
-        Ok(length) => put(to, out, used, front(path, length as usize)),
-        Err(refusal) => put_refusal(to, out, used, refusal),
+        Ok(length) => out.put(front(path, length as usize)),
+        Err(refusal) => put_refusal(out, refusal),
     }
+}
+
+// The answer to a line that is no call.
+pub fn bad_line<W: Write>(out: &mut Output<W>) {
+    out.put(b"bad line");
 }

@@ -1,7 +1,7 @@
 // Bytes as pairs of hexadecimal digits, in lower case.
 ghost use Rattle.std.specs.Prelude.{IfSome, ◌<◌};
 
-use crate::output::put;
+use crate::output::Output;
 use std::io::Write;
 
 // The number of a digit.
@@ -43,15 +43,13 @@ fn letter(number: u8) -> u8 {
     }
 }
 
-fn put_pair<W: Write>(to: &mut W, out: &mut [u8], used: usize, byte: u8) -> usize {
-    put(to, out, used, &[letter(byte / 16), letter(byte % 16)])
+fn put_pair<W: Write>(out: &mut Output<W>, byte: u8) {
+    out.put(&[letter(byte / 16), letter(byte % 16)]);
 }
 
-// Puts two digits for each byte, and answers how many bytes of `out` are then used.
-pub fn put_bytes<W: Write>(to: &mut W, out: &mut [u8], used: usize, bytes: &[u8]) -> usize {
-    let mut end = used;
+// Puts two digits for each byte.
+pub fn put_bytes<W: Write>(out: &mut Output<W>, bytes: &[u8]) {
     for byte in bytes {
-        end = put_pair(to, out, end, *byte);
+        put_pair(out, *byte);
     }
-    end
 }

@@ -1,62 +1,62 @@
-// The output. Bytes wait in a buffer, beside the number of them that are used, until they would
-// pass its end or a block of input is answered: so a file is answered in few writes, and a person
-// at once. They are written to `to`, standard output in the command. A write that fails goes
-// unnoticed.
+// The output. Bytes wait in a buffer until they would pass its end or a block of input is answered:
+// so a file is answered in few writes, and a person at once. They are written to `to`, standard
+// output in the command. A write that fails goes unnoticed.
 ghost use Rattle.std.specs.Prelude.{◌≤◌, length};
 
 use std::io::Write;
 
-// Writes the first `used` bytes of `out`.
-pub fn flush<W: Write>(to: &mut W, out: &[u8], used: usize) {
-    if used <= out.len() {
-        let _ = to.write_all(&out[..used]);
-    }
-}
-
-// Where `more` bytes are to go: after the first `used`, or where those leave too little room, at
-// the front, once they are written.
-fn place<W: Write>(to: &mut W, out: &[u8], used: usize, more: usize) -> usize
-    ensures { result ≤ length out.now }
-{
-    if used <= out.len() && more <= out.len() - used {
-        return used;
-    }
-    flush(to, out, used);
-    0
-}
-
-// Puts `bytes` after the first `used` of `out`, and answers how many are then used. Bytes that the
-// whole buffer cannot hold are written at once.
-pub fn put<W: Write>(to: &mut W, out: &mut [u8], used: usize, bytes: &[u8]) -> usize {
-    let start = place(to, out, used, bytes.len());
-    if out.len() - start < bytes.len() {
-        let _ = to.write_all(bytes);
-        return start;
-    }
-    let end = start + bytes.len();
-    out[start..end].copy_from_slice(bytes);
-    end
-}
-
-// Puts a number in decimal, and answers as `put` does. (`write!` would need a writer over `out`.)
-pub fn put_number<W: Write>(to: &mut W, out: &mut [u8], used: usize, number: u64) -> usize {
-    let mut digits = [0u8; 20];
-    let count = io::decimal(number, &mut digits);
-    put(to, out, used, &digits[..count])
-}
-
-// Puts what parts an item from those before it: nothing where it is the first.
-pub fn put_between<W: Write>(
-    to: &mut W,
-    out: &mut [u8],
+// The first `used` bytes of `buffer` wait.
+#[derive(Drop)]
+pub struct Output<'a, W> {
+    to: &'a mut W,
+    buffer: &'a mut [u8],
     used: usize,
-    before: usize,
-    between: &[u8],
-) -> usize {
-    if before == 0 {
-        return used;
+    ghost within: { used ≤ length buffer.now },
+}
+
+impl<'a, W: Write> Output<'a, W> {
+    pub fn new(to: &'a mut W, buffer: &'a mut [u8]) -> Output<'a, W> {
+        Output {
+            to,
+            buffer,
+            used: 0,
+        }
     }
-    put(to, out, used, between)
+
+    // Writes the bytes that wait.
+    pub fn flush(&mut self) {
+        let _ = self.to.write_all(&self.buffer[..self.used]);
+        self.used = 0;
+    }
+
+    // Puts `bytes` after those that wait, or at the front, once those are written, where they leave
+    // too little room. Bytes that the whole buffer cannot hold are written at once.
+    pub fn put(&mut self, bytes: &[u8]) {
+        if self.buffer.len() - self.used < bytes.len() {
+            self.flush();
+        }
+        if self.buffer.len() - self.used < bytes.len() {
+            let _ = self.to.write_all(bytes);
+            return;
+        }
+        let end = self.used + bytes.len();
+        self.buffer[self.used..end].copy_from_slice(bytes);
+        self.used = end;
+    }
+
+    // Puts a number in decimal. (`write!` would need `Output` to be a writer.)
+    pub fn put_number(&mut self, number: u64) {
+        let mut digits = [0u8; 20];
+        let count = io::decimal(number, &mut digits);
+        self.put(&digits[..count]);
+    }
+
+    // Puts what parts an item from those before it: nothing where it is the first.
+    pub fn put_between(&mut self, before: usize, between: &[u8]) {
+        if before != 0 {
+            self.put(between);
+        }
+    }
 }
 
 // The first `most` bytes; all of them where there are fewer.

@@ -1,43 +1,31 @@
 // The lines that set fields of one node: its flags, its specs and its restriction depth. Each call
 // is none where a word is no number of its field.
 use crate::fields::{read_byte, read_optional};
-use calls_text::{bad_line, is_call, put_finished, read_number, read_short_number, word};
+use calls_text::{Output, bad_line, is_call, put_answer, read_number, read_short_number, word};
 use model::Refusal;
 use std::io::Write;
 
 // The answer to such a line.
-pub(crate) fn answer<W: Write>(
-    line: &[u8],
-    arena: &mut [u8],
-    to: &mut W,
-    out: &mut [u8],
-    used: usize,
-) -> Option<usize> {
+pub(crate) fn answer<W: Write>(line: &[u8], arena: &mut [u8], out: &mut Output<W>) -> bool {
     if is_call(line, b"mark", 3) {
-        return Some(put_set(mark(line, arena), to, out, used));
+        put_set(mark(line, arena), out);
+    } else if is_call(line, b"spec", 3) {
+        put_set(spec(line, arena), out);
+    } else if is_call(line, b"specs", 3) {
+        put_set(specs(line, arena), out);
+    } else if is_call(line, b"restrict", 3) {
+        put_set(restrict(line, arena), out);
+    } else {
+        return false;
     }
-    if is_call(line, b"spec", 3) {
-        return Some(put_set(spec(line, arena), to, out, used));
-    }
-    if is_call(line, b"specs", 3) {
-        return Some(put_set(specs(line, arena), to, out, used));
-    }
-    if is_call(line, b"restrict", 3) {
-        return Some(put_set(restrict(line, arena), to, out, used));
-    }
-    None
+    true
 }
 
 // The answer to a call, or to a line that is none.
-fn put_set<W: Write>(
-    set: Option<Result<(), Refusal>>,
-    to: &mut W,
-    out: &mut [u8],
-    used: usize,
-) -> usize {
+fn put_set<W: Write>(set: Option<Result<(), Refusal>>, out: &mut Output<W>) {
     match set {
-        Some(answer) => put_finished(to, out, used, answer),
-        None => bad_line(to, out, used),
+        Some(answer) => put_answer(out, answer),
+        None => bad_line(out),
     }
 }
 
