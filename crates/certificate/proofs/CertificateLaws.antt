@@ -22,7 +22,8 @@ use Rattle.view.proofs.ViewLaws.{legal}
 use Rattle.child_lists.specs.Links.{start_of, part}
 use Rattle.certificate.specs.Sorts.{Sorts}
 use Rattle.certificate.specs.Certificate.{place_in, ChildOf, Part, ByLines, FitsIn}
-use Rattle.certificate.proofs.SliceLaws.{slice-done, Each, each_more, each_all}
+use Rattle.child_lists.proofs.LinkLaws.{slice-done}
+use Rattle.certificate.proofs.SliceLaws.{Each, each_more, each_all}
 use Rattle.certificate.proofs.SortsLaws.{parts-own, parts-counted, order-sorts}
 
 -- ---- One list

@@ -8,14 +8,11 @@ use native.Mathlib.Nat.{eq-or-lt_of_le}
 use native.Mathlib.Decide.{dec_lt}
 use native.Mathlib.Omega.{arith}
 use lib.ListN.{length, get_or, take, drop, length-drop}
-use lib.Seq.{slice, slice-cons, slice_empty, length-take-le}
+use lib.Seq.{slice, slice-cons, length-take-le}
 use Rattle.std.proofs.lemmas.List.{get_or-take, get_or-drop}
 use Rattle.model.specs.Lists.{All, Pairs}
 use Rattle.laws.proofs.OrderKeys.{First, Neighbours}
-
--- a part that has come to its end
-pub slice-done : (at end : ℕ) (array : List ℕ) → at ≤ end → end ≤ at → slice at end array ≡ []
-slice-done at end array low high = let e : at ≡ end = omega arith in rw e (slice_empty end array)
+use Rattle.child_lists.proofs.LinkLaws.{slice-done}
 
 -- P holds of the entries from `start` to `end`
 abbrev pub Each : (ℕ → Type 0) → List ℕ → ℕ → ℕ → Type 0
