@@ -12,7 +12,8 @@ import re
 import subprocess
 import sys
 
-PAGES = ["README.md", "CONTRIBUTING.md", "oracle/README.md", *sorted(set(glob.glob("docs/*.md")) - {f"docs/{it}.md" for it in ("CHANGES", "DESIGN-PASS", "DIFFERENCES", "PORT")})]
+FORMER = {f"docs/{it}.md" for it in ("CHANGES", "DESIGN-PASS", "DIFFERENCES", "PORT")}
+PAGES = ["README.md", "CONTRIBUTING.md", "oracle/README.md", *sorted(set(glob.glob("docs/*.md")) - FORMER)]
 WORD = re.compile(r"[A-Za-z_][\w'-]*")
 PATH = re.compile(r"(?:[\w.-]+/)+[\w.-]*|[\w-]+\.(?:antt|rt|rs|md|calls|snapshot|text|h)")
 
