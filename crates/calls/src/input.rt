@@ -106,9 +106,8 @@ pub(crate) fn answer_input<R: Read, W: Write>(from: &mut R, to: &mut W) {
         saved: &mut saved,
     };
     let mut out = Output::new(to, &mut buffer);
-    let Rest { held, arenas } = answer_blocks(from, &mut block, &mut line, arenas, &mut out);
-    if 0 < held {
-        answer_line(&line, held, arenas, &mut out);
-        out.flush();
+    let rest = answer_blocks(from, &mut block, &mut line, arenas, &mut out);
+    if 0 < rest.held {
+        answer_block(b"\n", &mut line, rest, &mut out);
     }
 }

@@ -43,13 +43,14 @@ fn letter(number: u8) -> u8 {
     }
 }
 
-fn put_pair<W: Write>(out: &mut Output<W>, byte: u8) {
-    out.put(&[letter(byte / 16), letter(byte % 16)]);
-}
-
-// Puts two digits for each byte.
+// Puts two digits for each byte. They are gathered first: one by one, most of the time goes to the
+// output's fields.
 pub fn put_bytes<W: Write>(out: &mut Output<W>, bytes: &[u8]) {
-    for byte in bytes {
-        put_pair(out, *byte);
+    for part in bytes.chunks(64) {
+        let mut digits = [[0u8; 2]; 64];
+        for (pair, byte) in digits.iter_mut().zip(part) {
+            *pair = [letter(byte / 16), letter(byte % 16)];
+        }
+        out.put_pairs(&digits[..part.len().min(64)]);
     }
 }

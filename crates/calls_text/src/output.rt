@@ -44,6 +44,17 @@ impl<'a, W: Write> Output<'a, W> {
         self.used = end;
     }
 
+    // Puts each pair; where there is room for all of them, at once.
+    pub(crate) fn put_pairs(&mut self, pairs: &[[u8; 2]]) {
+        let bytes = pairs.as_flattened();
+        if bytes.len() <= self.buffer.len() - self.used {
+            return self.put(bytes);
+        }
+        for pair in pairs {
+            self.put(pair);
+        }
+    }
+
     // Puts a number in decimal. (`write!` would need `Output` to be a writer.)
     pub fn put_number(&mut self, number: u64) {
         let mut digits = [0u8; 20];

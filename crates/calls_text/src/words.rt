@@ -21,25 +21,31 @@ pub fn find(bytes: &[u8], from: usize, byte: u8) -> usize
     bytes.len()
 }
 
-// Whether `name` stands at the line's front, with a space or nothing after it.
+// Whether `name` stands at the line's front, with a space or nothing after it. A line is asked for
+// some 35 names: `strip_prefix`, a call for each, takes twice the time.
 fn begins(line: &[u8], name: &[u8]) -> bool {
-    match line.strip_prefix(name) {
-        Some(rest) => rest.is_empty() || rest[0] == b' ',
-        None => false,
+    if line.len() < name.len() {
+        return false;
     }
-}
-
-fn is_space(byte: &u8) -> bool {
-    *byte == b' '
+    let (front, rest) = line.split_at(name.len());
+    front.iter().zip(name).all(|(a, b)| a == b) && (rest.is_empty() || rest[0] == b' ')
 }
 
 // How many words the line has, or 0 where one of them is empty: where the line begins or ends in a
-// space, or has two in a row.
+// space, or has two in a row. With `split` a line of many words takes a third longer.
 fn count(line: &[u8]) -> usize {
-    if line.split(is_space).any(|word| word.is_empty()) {
-        return 0;
+    let mut words: usize = 0;
+    let mut before = b' ';
+    for byte in line {
+        if before == b' ' {
+            if *byte == b' ' {
+                return 0;
+            }
+            words = words.saturating_add(1);
+        }
+        before = *byte;
     }
-    line.split(is_space).count()
+    if before == b' ' { 0 } else { words }
 }
 
 // Whether the line's first word is `name`, and it has `words` words, none of them empty.

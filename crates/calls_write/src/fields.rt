@@ -1,5 +1,5 @@
 // What an `add` line says of a node: eleven numbers, some of which may be missing.
-use calls_text::{is_dash, read_number, read_short_number, word};
+use calls_text::{is_dash, read_number, read_short_number};
 use model::NodeId;
 use prim_graph::NodeDesc;
 
@@ -24,19 +24,22 @@ pub(crate) fn read_optional(word: &[u8]) -> Option<Option<u16>> {
     Some(Some(read_short_number(word)?))
 }
 
-// The node that the words after the first describe: none where one is no number of its field.
-pub(crate) fn read(line: &[u8]) -> Option<NodeDesc> {
-    Some(NodeDesc {
-        parent: read_node(word(line, 1))?,
-        arc: read_byte(word(line, 2))?,
-        flags: read_byte(word(line, 3))?,
-        stack: read_number(word(line, 4))?,
-        layer: read_number(word(line, 5))?,
-        origin: read_node(word(line, 6))?,
-        depth: read_optional(word(line, 7))?,
-        sibling: read_short_number(word(line, 8))?,
-        restriction: read_short_number(word(line, 9))?,
-        spec_from: read_short_number(word(line, 10))?,
-        has_specs: read_byte(word(line, 11))?,
-    })
+// The node that the words after the first describe, and its path, the last of them: none where a
+// word is no number of its field.
+pub(crate) fn read(line: &[u8]) -> Option<(NodeDesc, &[u8])> {
+    let mut words = line.split(|byte| *byte == b' ').skip(1);
+    let desc = NodeDesc {
+        parent: read_node(words.next()?)?,
+        arc: read_byte(words.next()?)?,
+        flags: read_byte(words.next()?)?,
+        stack: read_number(words.next()?)?,
+        layer: read_number(words.next()?)?,
+        origin: read_node(words.next()?)?,
+        depth: read_optional(words.next()?)?,
+        sibling: read_short_number(words.next()?)?,
+        restriction: read_short_number(words.next()?)?,
+        spec_from: read_short_number(words.next()?)?,
+        has_specs: read_byte(words.next()?)?,
+    };
+    Some((desc, words.next()?))
 }

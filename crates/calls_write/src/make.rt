@@ -33,10 +33,10 @@ fn init_line<W: Write>(line: &[u8], arena: &mut [u8], out: &mut Output<W>) {
 // `add PARENT ARC FLAGS STACK LAYER ORIGIN DEPTH SIBLING RESTRICTION SPECFROM HASSPECS PATH`: the
 // new node's number.
 fn add_line<W: Write>(line: &[u8], arena: &mut [u8], out: &mut Output<W>) {
-    let Some(desc) = crate::fields::read(line) else {
+    let Some((desc, path)) = crate::fields::read(line) else {
         return bad_line(out);
     };
-    let answer = prim_graph::add_child(arena, desc, word(line, 12));
+    let answer = prim_graph::add_child(arena, desc, path);
     put_answer(out, answer);
 }
 
