@@ -1,4 +1,4 @@
-// What an `add` line says of a node: eleven numbers, some of which may be missing.
+// What an `add` line says of a node: eleven numbers, some of which may be missing, and its path.
 use calls_text::{is_dash, read_number, read_short_number};
 use model::NodeId;
 use prim_graph::NodeDesc;
