@@ -2,7 +2,7 @@
 """names.py: says which names in the pages no file of the repository has, and ends with status 1 where there is one.
 
 A name stands between backticks, and is a path, or one word of several parts, as `arc_rank`, `forty-nine`, `PathGrammar`.
-Not looked for is what was (docs/CHANGES.md, docs/PORT.md, docs/DESIGN-PASS.md, a part on what is former), what is the Rust's alone
+Not looked for is what was (docs/CHANGES.md, docs/PORT.md, docs/DESIGN-PASS.md, docs/LOOK-BACK.md, a part on what is former), what is the Rust's alone
 (docs/DIFFERENCES.md, which the oracle's tests hold to it, and files such as `prim_graph.rs`), what a build makes, and
 a path with a part in capitals, which stands for any.
 """
@@ -12,7 +12,7 @@ import re
 import subprocess
 import sys
 
-FORMER = {f"docs/{it}.md" for it in ("CHANGES", "DESIGN-PASS", "DIFFERENCES", "PORT")}
+FORMER = {f"docs/{it}.md" for it in ("CHANGES", "DESIGN-PASS", "DIFFERENCES", "LOOK-BACK", "PORT")}
 PAGES = ["README.md", "CONTRIBUTING.md", "oracle/README.md", *sorted(set(glob.glob("docs/*.md")) - FORMER)]
 WORD = re.compile(r"[A-Za-z_][\w'-]*")
 PATH = re.compile(r"(?:[\w.-]+/)+[\w.-]*|[\w-]+\.(?:antt|rt|rs|md|calls|snapshot|text|h)")
