@@ -22,7 +22,7 @@ pub fn find(bytes: &[u8], from: usize, byte: u8) -> usize
 }
 
 // Whether `name` stands at the line's front, with a space or nothing after it. Each line is asked
-// for one name after the other: `strip_prefix`, a call for each, takes twice the time.
+// for one name after the other, and `strip_prefix` would be a call of the library for each.
 fn begins(line: &[u8], name: &[u8]) -> bool {
     if line.len() < name.len() {
         return false;
@@ -31,8 +31,8 @@ fn begins(line: &[u8], name: &[u8]) -> bool {
     front.iter().zip(name).all(|(a, b)| a == b) && (rest.is_empty() || rest[0] == b' ')
 }
 
-// Whether the line has so many words, none of them empty, as where it begins or ends in a space, or
-// has two in a row.
+// Whether the line has so many words and none of them is empty. One is where the line begins or ends
+// in a space, or has two in a row.
 fn has_words(line: &[u8], words: usize) -> bool {
     let mut left = words;
     for word in line.split(|byte| *byte == b' ') {
