@@ -40,7 +40,8 @@ fn overwrite(onto: &mut [u8], from: &[u8]) {
 }
 
 // `seed PATH`: the other arena filled from the current one. It then is the current one, unless the
-// call is refused.
+// call is refused. Built into the loop over the lines, it takes longer for each byte of the path.
+#[inline(never)]
 fn seed_line<'a, W: Write>(line: &[u8], arenas: Arenas<'a>, out: &mut Output<W>) -> Arenas<'a> {
     let Arenas {
         current,

@@ -32,16 +32,21 @@ fn begins(line: &[u8], name: &[u8]) -> bool {
 }
 
 // Whether the line has so many words and none of them is empty. One is where the line begins or ends
-// in a space, or has two in a row.
+// in a space, or has two in a row. The bytes are gone over one by one, with `at` where the word at
+// hand starts: `split` has more to do for each word, and most words are short.
 fn has_words(line: &[u8], words: usize) -> bool {
     let mut left = words;
-    for word in line.split(|byte| *byte == b' ') {
-        if word.is_empty() || left == 0 {
-            return false;
+    let mut at: usize = 0;
+    for (i, byte) in line.iter().enumerate() {
+        if *byte == b' ' {
+            if i == at || left < 2 {
+                return false;
+            }
+            at = i + 1;
+            left -= 1;
         }
-        left -= 1;
     }
-    left == 0
+    at < line.len() && left == 1
 }
 
 // Whether the line's first word is `name`, and it has `words` words, none of them empty.

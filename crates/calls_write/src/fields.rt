@@ -27,7 +27,8 @@ pub(crate) fn read_optional(word: &[u8]) -> Option<Option<u16>> {
 // The node that the words after the first describe, and its path, the last of them: none where a
 // word is no number of its field.
 pub(crate) fn read(line: &[u8]) -> Option<(NodeDesc, &[u8])> {
-    let mut words = line.split(|byte| *byte == b' ').skip(1);
+    let mut words = line.split(|byte| *byte == b' ');
+    words.next()?;
     let desc = NodeDesc {
         parent: read_node(words.next()?)?,
         arc: read_byte(words.next()?)?,
